@@ -1,2 +1,4 @@
 pub mod formers
 pub mod Rules
+pub mod Values
+pub mod Words

@@ -2,12 +2,18 @@
 #![tactic(auto)]
 
 mod boxed;
+mod copy;
 mod list;
 mod list_traits;
 mod rule;
 mod text;
+mod types;
+mod words;
 
 pub use boxed::Box;
+pub use copy::copy_value;
 pub use list::List;
 pub use rule::{Refusal, Rule};
 pub use text::Text;
+pub use types::{Ty, Value};
+pub use words::{int_of_word, word_of_int};

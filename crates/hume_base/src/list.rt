@@ -1,4 +1,4 @@
-ghost use Rattle.std.specs.Prelude.{◌≡◌, [], ◌∷◌, ◌++◌, length, take, slice_get, slice_set, ◌<◌, ◌↔◌, IsTrue, OnOk, OnErr, MatchOption, Some, None};
+ghost use Rattle.std.specs.Prelude.{◌≡◌, [], ◌∷◌, ◌++◌, length, take, slice_get, slice_set, slice_index_or, ◌<◌, ◌↔◌, IsTrue, OnOk, OnErr, MatchOption, Some, None};
 
 use std::alloc::{AllocError, Global};
 use std::marker::Model;
@@ -93,6 +93,16 @@ impl<T: Drop> List<T> {
         self.items[at] = item;
     }
 
+    /// Takes the first element out, if there is one. The others move up: it takes time for each of them.
+    pub fn take_first(&mut self) -> Option<T>
+        ensures { MatchOption result ((self.old ≡ []) × (self.new ≡ [])) (λ first. self.old ≡ first ∷ self.new) }
+    {
+        if self.items.is_empty() {
+            return None;
+        }
+        Some(self.items.remove(0))
+    }
+
     pub fn truncate(&mut self, count: usize)
         ensures { self.new ≡ take count self.old }
     {
@@ -103,5 +113,24 @@ impl<T: Drop> List<T> {
         ensures { self.new ≡ [] }
     {
         self.items.clear();
+    }
+}
+
+impl<T: Drop> List<List<T>> {
+    /// Adds an element to the list at a place.
+    pub fn push_at(&mut self, at: usize, item: T) -> Result<(), AllocError>
+        requires { at < length self.old }
+        ensures ok { OnOk result (self.new ≡ slice_set self.old at (slice_index_or self.old at [] ++ item ∷ [])) }
+        ensures err { OnErr result (self.new ≡ self.old) }
+    {
+        self.items[at].push(item)
+    }
+
+    /// Empties the list at a place.
+    pub fn clear_at(&mut self, at: usize)
+        requires { at < length self.old }
+        ensures { self.new ≡ slice_set self.old at [] }
+    {
+        self.items[at].clear();
     }
 }

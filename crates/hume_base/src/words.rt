@@ -1,0 +1,16 @@
+ghost use Rattle.std.specs.Prelude.{◌≡◌};
+ghost use Rattle.hume_base.specs.Words.{int_of, word_of};
+
+/// The number that a word stands for at an `int` type.
+pub fn int_of_word(word: u64) -> i64
+    ensures { result ≡ int_of word }
+{
+    word.cast_signed()
+}
+
+/// The word of a number at an `int` type.
+pub fn word_of_int(number: i64) -> u64
+    ensures { result ≡ word_of number }
+{
+    number.cast_unsigned()
+}

@@ -1,0 +1,9 @@
+pub mod Operations
+pub mod Meaning
+pub mod Matching
+pub mod Firing
+pub mod HalfSteps
+pub mod Lockstep
+pub mod Start
+pub mod Nodes
+pub mod WellFormed

@@ -1,0 +1,94 @@
+ghost use Rattle.std.specs.Prelude.{◌≡◌, ◌≤◌, [], IfOk, None, map};
+ghost use Rattle.std.specs.List.{range_with_len};
+ghost use Rattle.hume_model.specs.Lockstep.{each_node};
+ghost use Rattle.hume_model.specs.Start.{start, no_values, written_order};
+ghost use Rattle.hume_model.specs.WellFormed.{IsWellFormed, HasFewRules};
+
+use crate::copying::copy_maybe;
+use crate::core_tree::{Core, NodeC};
+use crate::state::State;
+use hume_base::{List, Value};
+use std::alloc::{AllocError, Global};
+
+/// The state before the first superstep, with no values to come.
+pub fn start_state(alloc: Global, core: &Core) -> Result<State, AllocError>
+    requires { IsWellFormed core.now }
+    ensures { IfOk result (λ state. state ≡ start core.now (no_values core.now)) }
+{
+    Ok(State {
+        wires: initial_values(alloc, core)?,
+        pending: nothing_pending(alloc, core)?,
+        orders: written_orders(alloc, core)?,
+        coming: nothing_yet(alloc, core)?,
+        taken: nothing_yet(alloc, core)?,
+    })
+}
+
+fn initial_values(alloc: Global, core: &Core) -> Result<List<Option<Value>>, AllocError>
+    ensures { IfOk result (λ wires. wires ≡ map (λ wire. wire.initial) core.now.wires) }
+{
+    let mut wires = List::new(alloc);
+    for wire in core.wires.as_slice() {
+        wires.push(copy_maybe(alloc, &wire.initial)?)?;
+    }
+    Ok(wires)
+}
+
+#[tactic(auto, using(crate::proofs::Ranges::range_steps))]
+fn nothing_pending(
+    alloc: Global,
+    core: &Core,
+) -> Result<List<Option<List<Option<Value>>>>, AllocError>
+    ensures { IfOk result (λ pending. pending ≡ each_node core.now (λ node. None)) }
+{
+    let mut pending = List::new(alloc);
+    for _node in 0..core.nodes.len() {
+        pending.push(None)?;
+    }
+    Ok(pending)
+}
+
+#[tactic(auto, using(crate::proofs::Ranges::range_steps))]
+fn nothing_yet(alloc: Global, core: &Core) -> Result<List<List<Value>>, AllocError>
+    ensures { IfOk result (λ lists. lists ≡ no_values core.now) }
+{
+    let mut lists = List::new(alloc);
+    for _node in 0..core.nodes.len() {
+        lists.push(List::new(alloc))?;
+    }
+    Ok(lists)
+}
+
+fn written_orders(alloc: Global, core: &Core) -> Result<List<List<u32>>, AllocError>
+    requires { IsWellFormed core.now }
+    ensures { IfOk result (λ orders. orders ≡ map written_order core.now.nodes) }
+{
+    let mut orders = List::new(alloc);
+    for node in core.nodes.as_slice() {
+        orders.push(order_of(alloc, node)?)?;
+    }
+    Ok(orders)
+}
+
+fn order_of(alloc: Global, node: &NodeC) -> Result<List<u32>, AllocError>
+    requires { HasFewRules node.now }
+    ensures { IfOk result (λ order. order ≡ written_order node.now) }
+{
+    match node {
+        NodeC::Rules(b) => first_numbers(alloc, b.rules.len()),
+        NodeC::From(_) => Ok(List::new(alloc)),
+        NodeC::To(_) => Ok(List::new(alloc)),
+    }
+}
+
+#[tactic(auto, using(crate::proofs::Ranges::range_steps))]
+fn first_numbers(alloc: Global, count: usize) -> Result<List<u32>, AllocError>
+    requires { count ≤ 64 }
+    ensures { IfOk result (λ numbers. numbers ≡ range_with_len 0 count) }
+{
+    let mut numbers = List::new(alloc);
+    for number in 0..count {
+        numbers.push(number as u32)?;
+    }
+    Ok(numbers)
+}
