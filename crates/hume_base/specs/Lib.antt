@@ -1,2 +1,5 @@
 pub mod formers
+pub mod Keywords
+pub mod Places
 pub mod Rules
+pub mod Symbols
