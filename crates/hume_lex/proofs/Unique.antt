@@ -266,3 +266,16 @@ one_reading source ts us a b = elim (two_cuts a.pieces b.pieces [] [] (sym a.cov
     | inr g ↦ absurd (no_further_end b.pieces a.pieces g)
   ]
 ]
+
+-- an answer that is right is the only one, but for want of memory
+pub only_error : (source : List ℕ) (e : LexError) → (e ≡ error.NoMemory) ⊎ IsFault source e → (ts : List Token) → IsRead source ts → e ≡ error.NoMemory
+only_error source e (inl memory) ts h = memory
+only_error source e (inr fault) ts h = absurd (read_no_fault source ts e h fault)
+
+pub same_error : (source : List ℕ) (e f : LexError) → (e ≡ error.NoMemory) ⊎ IsFault source e → IsFault source f → (e ≡ f) ⊎ (e ≡ error.NoMemory)
+same_error source e f (inl memory) h = inr memory
+same_error source e f (inr fault) h = inl (one_fault source e f fault h)
+
+pub as_result : {A : Type 0} (r : Result A LexError) (e f : LexError) → r ≡ Err e → (e ≡ f) ⊎ (e ≡ error.NoMemory) → (r ≡ Err f) ⊎ (r ≡ Err error.NoMemory)
+as_result r e f is (inl same) = inl (is ∙ ap Err same)
+as_result r e f is (inr memory) = inr (is ∙ ap Err memory)
