@@ -1,19 +1,29 @@
-//! What every layer of the tool speaks of: types, values, refusals, and the containers that their trees are made of.
+//! What every layer of the tool speaks of: types, values, tokens, refusals, limits, and the containers that their trees
+//! are made of.
 #![tactic(auto)]
 
 mod boxed;
 mod copy;
+mod keyword;
+pub mod limits;
 mod list;
 mod list_traits;
+mod place;
 mod rule;
+mod symbol;
 mod text;
+mod token;
 mod types;
 mod words;
 
 pub use boxed::Box;
 pub use copy::copy_value;
+pub use keyword::Keyword;
 pub use list::List;
+pub use place::line_of;
 pub use rule::{Refusal, Rule};
+pub use symbol::Symbol;
 pub use text::Text;
+pub use token::{Kind, Token};
 pub use types::{Ty, Value};
 pub use words::{int_of_word, word_of_int};

@@ -1,0 +1,9 @@
+pub mod Classes
+pub mod Runs
+pub mod Values
+pub mod Texts
+pub mod Longest
+pub mod Found
+pub mod Fronts
+pub mod Readings
+pub mod Unique

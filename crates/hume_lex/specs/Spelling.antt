@@ -1,0 +1,81 @@
+-- How each kind of token is written.
+use Rattle.std.specs.Prelude.{◌≡◌, ◌≢◌, ℕ, ◌+◌, ◌*◌, ◌-◌, ◌<◌, ◌≤◌, ◌==◌, nat_le, Bool, true, not, ◌&&◌, ◌||◌, if◌then◌else◌, List, [], ◌∷◌, ◌++◌, length, fold, codes}
+use Rattle.std.specs.List.{AllByRecursion}
+use Rattle.hume_base.specs.Keywords.{keyword_text}
+use Rattle.hume_base.specs.Symbols.{symbol_text}
+use Rattle.hume_base.specs.declared.keyword.Keyword.{Keyword}
+use Rattle.hume_base.specs.declared.limits.TheConstants.{MAX_PORT_NAME_BYTES}
+use Rattle.hume_base.specs.declared.token.Kind.{Kind}
+use Rattle.hume_base.specs.declared.token.Kind.TheVariants as kind
+
+abbrev pub between : ℕ → ℕ → ℕ → Bool
+between low high byte = nat_le low byte && nat_le byte high
+
+-- a tab, a newline, a carriage return or a blank
+abbrev pub is_space : ℕ → Bool
+is_space byte = byte == 9 || byte == 10 || byte == 13 || byte == 32
+
+-- a letter a to z
+abbrev pub is_small : ℕ → Bool
+is_small byte = between 97 122 byte
+
+-- a letter A to Z
+abbrev pub is_capital : ℕ → Bool
+is_capital byte = between 65 90 byte
+
+abbrev pub is_digit : ℕ → Bool
+is_digit byte = between 48 57 byte
+
+-- a letter, a digit or an underscore
+abbrev pub is_name_byte : ℕ → Bool
+is_name_byte byte = is_small byte || is_capital byte || is_digit byte || byte == 95
+
+abbrev pub is_printable : ℕ → Bool
+is_printable byte = between 32 126 byte
+
+-- stands between single quotes as it is: no quote and no backslash
+abbrev pub is_plain : ℕ → Bool
+is_plain byte = is_printable byte && not (byte == 39) && not (byte == 92)
+
+-- stands between double quotes
+abbrev pub is_quotable : ℕ → Bool
+is_quotable byte = is_printable byte && not (byte == 34)
+
+abbrev pub is_no_newline : ℕ → Bool
+is_no_newline byte = not (byte == 10)
+
+-- each byte passes the test
+abbrev pub Each : (ℕ → Bool) → List ℕ → Type 0
+Each test bytes = AllByRecursion (λ byte. test byte ≡ true) bytes
+
+-- a first letter of the one case, and then letters, digits and underscores
+abbrev pub IsName : (ℕ → Bool) → List ℕ → Type 0
+IsName is_first [] = ⊥
+IsName is_first (byte ∷ bytes) = (is_first byte ≡ true) × Each is_name_byte bytes
+
+-- what digits are worth
+abbrev pub value_of : List ℕ → ℕ
+value_of digits = fold (λ n digit. n * 10 + (digit - 48)) 0 digits
+
+-- a printable byte, a newline or a tab
+abbrev pub is_letter : ℕ → Bool
+is_letter byte = is_printable byte || byte == 10 || byte == 9
+
+-- what stands between single quotes for a letter: an escape, or else the byte itself
+abbrev pub letter_text : ℕ → List ℕ
+letter_text byte =
+    if byte == 10 then 92 ∷ codes "n"
+    else (if byte == 9 then 92 ∷ codes "t"
+    else (if byte == 92 then 92 ∷ 92 ∷ []
+    else (if byte == 39 then 92 ∷ 39 ∷ []
+    else byte ∷ [])))
+
+-- the bytes are a spelling of this kind; a number is as wide and a name as long as it is written
+abbrev pub Spells : Kind → List ℕ → Type 0
+Spells (kind.Lower name) bytes = (bytes ≡ name) × IsName is_small bytes × ((word : Keyword) → bytes ≢ keyword_text word)
+Spells (kind.Upper name) bytes = (bytes ≡ name) × IsName is_capital bytes
+Spells (kind.Number n) bytes = Each is_digit bytes × (0 < length bytes) × (n ≡ value_of bytes)
+Spells (kind.Letter byte) bytes = (is_letter byte ≡ true) × (bytes ≡ 39 ∷ (letter_text byte ++ 39 ∷ []))
+Spells (kind.Quoted inside) bytes = Each is_quotable inside × (0 < length inside) × (length inside ≤ MAX_PORT_NAME_BYTES) × (bytes ≡ 34 ∷ (inside ++ 34 ∷ []))
+Spells (kind.Word word) bytes = bytes ≡ keyword_text word
+Spells (kind.Sign symbol) bytes = bytes ≡ symbol_text symbol

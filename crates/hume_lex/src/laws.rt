@@ -1,0 +1,16 @@
+ghost use Rattle.std.specs.Prelude.{◌≡◌, ℕ, List};
+ghost use Rattle.hume_base.specs.declared.token.Token.{Token};
+ghost use Rattle.hume_lex.specs.Reading.{IsReading};
+ghost use Rattle.hume_lex.specs.Faults.{IsRead, IsFault};
+ghost use Rattle.hume_lex.specs.declared.lexer.LexError.{LexError};
+
+/// The laws of readings: a source has one reading at most, and either one within the limits or one fault.
+pub fn one_answer()
+    ensures reading { (source : List ℕ) (tokens others : List Token)
+        → IsReading source tokens → IsReading source others → tokens ≡ others }
+    ensures fault { (source : List ℕ) (error other : LexError)
+        → IsFault source error → IsFault source other → error ≡ other }
+    ensures apart { (source : List ℕ) (tokens : List Token) (error : LexError)
+        → IsRead source tokens → IsFault source error → ⊥ }
+{
+}

@@ -1,0 +1,11 @@
+//! The lexer: any bytes go in, and out come their tokens with their places, or the first place that no token fits.
+//! `specs/Reading.antt` says what the tokens of a source are, and `specs/Faults.antt` what a bad place is.
+#![tactic(auto)]
+
+mod bytes;
+mod laws;
+mod lexer;
+mod scan;
+
+pub use laws::one_answer;
+pub use lexer::{LexError, lex};
