@@ -1,0 +1,12 @@
+//! The outside as the tool sees it: named ports that are read, written and finished, and calls on a list of them.
+#![tactic(auto)]
+
+mod list;
+mod lookup;
+mod memory;
+mod port;
+
+pub use list::{fill_at, finish_at, read_at, write_at};
+pub use lookup::{find, find_bytes};
+pub use memory::{Fail, MemPort};
+pub use port::{Failed, Port};
