@@ -19,21 +19,23 @@ abbrev pub without : List ℕ → List (List ℕ × List ℕ) → List (List ℕ
 without name [] = []
 without name (pair ∷ pairs) = if bytes_eq name pair.0 then without name pairs else pair ∷ without name pairs
 
--- Each port has what it had, followed by the bytes of the pairs with its name, in order. Of ports with one name the
--- first has them. Nothing is said of a port that doesn't tell its bytes.
-abbrev pub Delivered : List PortView → List PortView → Pairs → Type 0
-Delivered [] [] pairs = ⊤
-Delivered (old ∷ olds) (new ∷ news) pairs =
-    Appends old.bytes new.bytes (bytes_for old.name pairs) × Delivered olds news (without old.name pairs)
-Delivered olds news pairs = ⊥
+-- Each port moves from the old to the new by the bytes of the pairs with its name, in order. Of ports with one name the
+-- first has them, and the others none.
+abbrev pub EachPort : (PortView → PortView → List ℕ → Type 0) → List PortView → List PortView → Pairs → Type 0
+EachPort moves [] [] pairs = ⊤
+EachPort moves (old ∷ olds) (new ∷ news) pairs =
+    moves old new (bytes_for old.name pairs) × EachPort moves olds news (without old.name pairs)
+EachPort moves olds news pairs = ⊥
 
--- Each port has lost, from the front of what it had left, the bytes of the pairs with its name, in order. Of ports
--- with one name the first has lost them. Nothing is said of a port that doesn't tell what it has left.
+-- Each port has what it had, followed by the bytes of the pairs with its name, in order. Nothing is said of a port
+-- that doesn't tell its bytes.
+abbrev pub Delivered : List PortView → List PortView → Pairs → Type 0
+Delivered olds news pairs = EachPort (λ old new bytes. Appends old.bytes new.bytes bytes) olds news pairs
+
+-- Each port has lost the bytes of the pairs with its name, in order, from the front of what it had left. Nothing is
+-- said of a port that doesn't tell what it has left.
 abbrev pub Drawn : List PortView → List PortView → Pairs → Type 0
-Drawn [] [] pairs = ⊤
-Drawn (old ∷ olds) (new ∷ news) pairs =
-    Consumes old.left new.left (bytes_for old.name pairs) × Drawn olds news (without old.name pairs)
-Drawn olds news pairs = ⊥
+Drawn olds news pairs = EachPort (λ old new bytes. Consumes old.left new.left bytes) olds news pairs
 
 -- No count of any port has changed.
 pub record SameFaults (old new : List PortView) : Type 0 where
