@@ -6,4 +6,4 @@ pub mod Progress
 pub mod Rooms
 pub mod Places
 pub mod Calls
--- pub mod Filling
+pub mod Filling
