@@ -1,7 +1,8 @@
 ghost use Rattle.std.specs.Prelude.{◌≡◌, ◌<◌, ◌≤◌, ◌+◌, ◌-◌, ◌++◌, ◌↔◌, min, [], length, drop, take, Some, None, true, false, IfOk, IfSome, IsNone, IsOk, string_bytes, vec_len, vec_capacity};
 ghost use Rattle.hume_ports.specs.Port.{PortView, IsRead, IsWrite, IsFinish, next_count};
-ghost use Rattle.hume_ports.specs.Memory.{Script, told_room, listed, due, allowed, fitting};
+ghost use Rattle.hume_ports.specs.Memory.{told_room, listed, counted, due, accepted};
 
+use crate::port::raise;
 use crate::{Failed, Port};
 use std::alloc::{AllocError, Global};
 
@@ -35,7 +36,7 @@ pub struct MemPort {
 }
 
 impl MemPort {
-    ghost use Rattle.hume_ports.specs.MemoryPort.{memory_view, script_of};
+    ghost use Rattle.hume_ports.specs.MemoryPort.{memory_view, script_of, left_bytes, output_bytes};
 
     /// A port with these bytes to read, at most `piece` at a call, and with room for `room` bytes, for which all
     /// memory is taken here.
@@ -89,7 +90,7 @@ impl MemPort {
 }
 
 impl Port for MemPort {
-    ghost use Rattle.hume_ports.specs.MemoryPort.{memory_view, script_of};
+    ghost use Rattle.hume_ports.specs.MemoryPort.{memory_view, script_of, left_bytes, output_bytes};
 
     ghost view = { memory_view };
 
@@ -99,14 +100,13 @@ impl Port for MemPort {
 
     fn read(&mut self, buf: &mut [u8]) -> Result<usize, Failed>
         ensures port { IsRead (memory_view self.old) (memory_view self.new) result buf.new }
-        ensures script { script_of self.new ≡ record (script_of self.old) { calls = next_count (script_of self.old).calls } }
+        ensures script { script_of self.new ≡ counted (script_of self.old) }
         ensures listed { IsOk result ↔ IsNone (due (script_of self.new)) }
-        ensures piece { IfOk result (λ count. IfSome (memory_view self.old).left (λ left.
-          count ≡ min (script_of self.old).piece (min (length buf.new) (length left)))) }
+        ensures piece { IfOk result (λ count.
+          count ≡ min (script_of self.old).piece (min (length buf.new) (length (left_bytes self.old)))) }
     {
         if self.next_call().is_some() {
-            self.read_faults = self.read_faults.saturating_add(1);
-            return Err(Failed);
+            return Err(raise(&mut self.read_faults));
         }
         let count = copy_front(&self.incoming[self.taken..], self.piece, buf);
         self.taken += count;
@@ -115,10 +115,11 @@ impl Port for MemPort {
 
     fn write(&mut self, bytes: &[u8]) -> Result<(), Failed>
         ensures port { IsWrite (memory_view self.old) (memory_view self.new) result bytes.now }
-        ensures script { script_of self.new ≡ record (script_of self.old) { calls = next_count (script_of self.old).calls } }
-        ensures listed { IsOk result ↔ (IsNone (due (script_of self.new)) × (length self.old.output.items + length bytes.now ≤ self.old.room)) }
-        ensures taken { self.new.output.items ≡ self.old.output.items
-          ++ fitting self.old.room (length self.old.output.items) (allowed (due (script_of self.new)) bytes.now) }
+        ensures script { script_of self.new ≡ counted (script_of self.old) }
+        ensures listed { IsOk result ↔ (IsNone (due (script_of self.new))
+          × (length (output_bytes self.old) + length bytes.now ≤ (script_of self.old).room)) }
+        ensures taken { output_bytes self.new ≡ output_bytes self.old
+          ++ accepted (script_of self.new) (output_bytes self.old) bytes.now }
     {
         self.flushed = false;
         let failing = self.next_call();
@@ -129,21 +130,19 @@ impl Port for MemPort {
         let count = wanted.min(self.room - self.output.len());
         self.output.extend_from_slice(&bytes[..count]).unwrap();
         if failing.is_some() || count < bytes.len() {
-            self.write_faults = self.write_faults.saturating_add(1);
-            return Err(Failed);
+            return Err(raise(&mut self.write_faults));
         }
         Ok(())
     }
 
     fn finish(&mut self) -> Result<(), Failed>
         ensures port { IsFinish (memory_view self.old) (memory_view self.new) result }
-        ensures script { script_of self.new ≡ record (script_of self.old) { calls = next_count (script_of self.old).calls } }
+        ensures script { script_of self.new ≡ counted (script_of self.old) }
         ensures listed { IsOk result ↔ IsNone (due (script_of self.new)) }
     {
         if self.next_call().is_some() {
             self.flushed = false;
-            self.finish_faults = self.finish_faults.saturating_add(1);
-            return Err(Failed);
+            return Err(raise(&mut self.finish_faults));
         }
         self.flushed = true;
         Ok(())

@@ -1,6 +1,6 @@
-ghost use Rattle.std.specs.Prelude.{◌≡◌, ◌<◌, length, Some, IfSome};
+ghost use Rattle.std.specs.Prelude.{◌≡◌, ◌<◌, ◌≤◌, length, Some, IfSome};
 ghost use Rattle.std.specs.Option.{is_some};
-ghost use Rattle.hume_ports.specs.Port.{PortView, IsRead, IsWrite, IsFinish};
+ghost use Rattle.hume_ports.specs.Port.{PortView, IsRead, IsWrite, IsFinish, last_count, next_count};
 
 /// A call of a port has failed, as its count says.
 #[derive(Clone, Copy, Debug, PartialEq, Eq)]
@@ -29,4 +29,14 @@ pub trait Port: Drop {
     fn written(&self) -> Option<&[u8]>
         ensures shown { is_some result ≡ (view self.now).shown }
         ensures bytes { IfSome result (λ bytes. (view self.now).bytes ≡ Some bytes.now) };
+}
+
+// Counts a fault.
+pub(crate) fn raise(count: &mut u64) -> Failed
+    ensures counted { count.new ≡ next_count count.old }
+    ensures never_falls { count.old ≤ count.new }
+    ensures stays_last { last_count ≤ count.old → count.new ≡ count.old }
+{
+    *count = count.saturating_add(1);
+    Failed
 }
