@@ -1,12 +1,12 @@
 ghost use Rattle.std.specs.Prelude.{◌≡◌, IfOk, string_bytes};
-ghost use Rattle.std.specs.Io.{ReadsAtMost, WritesAtMost};
+ghost use Rattle.std.specs.Io.{ReadsAtMost};
 ghost use Rattle.hume_ports.specs.Port.{PortView, untold};
 
 use crate::port::raise;
+use crate::transfer::{flush, read_once, write_whole};
 use crate::{Failed, Port};
 use std::alloc::{AllocError, Global};
 use std::fs;
-use std::io::{ErrorKind, Read, Write};
 use std::rt::Files;
 
 /// The file of a name. The first read opens it, and the first write creates or empties it, as does a finish before
@@ -74,7 +74,10 @@ impl<R: Files + Clone + Drop> Port for FilePort<R> {
 
     fn finish(&mut self) -> Result<(), Failed> {
         let finished = if self.used {
-            flush(&mut self.writer)
+            match &mut self.writer {
+                Some(file) => flush(file),
+                None => Ok(()),
+            }
         } else {
             create(&self.rt, self.name.as_str(), &mut self.writer)
         };
@@ -110,20 +113,6 @@ fn read_file<R: Files>(
     }
 }
 
-// Reads again where a signal came in between.
-fn read_once<F: Read>(file: &mut F, buf: &mut [u8]) -> Result<usize, Failed>
-    ensures { ReadsAtMost result buf.new }
-{
-    for _ in 0..u64::MAX {
-        match file.read(buf) {
-            Ok(count) => return Ok(count),
-            Err(error) if error.kind() == ErrorKind::Interrupted => {}
-            Err(_) => return Err(Failed),
-        }
-    }
-    Err(Failed)
-}
-
 fn write_file<R: Files>(
     rt: &R,
     name: &str,
@@ -145,40 +134,4 @@ fn create<R: Files>(rt: &R, name: &str, writer: &mut Option<R::File>) -> Result<
         }
     }
     Ok(())
-}
-
-fn write_whole<F: Write>(file: &mut F, bytes: &[u8]) -> Result<(), Failed> {
-    let mut rest = bytes;
-    while !rest.is_empty() {
-        match write_once(file, rest) {
-            Ok(0) => return Err(Failed),
-            Ok(count) => rest = &rest[count..],
-            Err(failed) => return Err(failed),
-        }
-    }
-    Ok(())
-}
-
-// Writes again where a signal came in between.
-fn write_once<F: Write>(file: &mut F, bytes: &[u8]) -> Result<usize, Failed>
-    ensures { WritesAtMost result bytes.now }
-{
-    for _ in 0..u64::MAX {
-        match file.write(bytes) {
-            Ok(count) => return Ok(count),
-            Err(error) if error.kind() == ErrorKind::Interrupted => {}
-            Err(_) => return Err(Failed),
-        }
-    }
-    Err(Failed)
-}
-
-fn flush<F: Write>(writer: &mut Option<F>) -> Result<(), Failed> {
-    match writer {
-        Some(file) => match file.flush() {
-            Ok(()) => Ok(()),
-            Err(_) => Err(Failed),
-        },
-        None => Ok(()),
-    }
 }

@@ -7,6 +7,7 @@ mod lookup;
 mod memory;
 mod output;
 mod port;
+mod transfer;
 
 pub use file::FilePort;
 pub use list::{fill_at, finish_at, read_at, write_at};

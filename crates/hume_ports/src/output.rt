@@ -1,11 +1,11 @@
 ghost use Rattle.std.specs.Prelude.{◌≡◌, IfOk, string_bytes};
-ghost use Rattle.std.specs.Io.{WritesAtMost};
 ghost use Rattle.hume_ports.specs.Port.{PortView, untold};
 
 use crate::port::raise;
+use crate::transfer::write_whole;
 use crate::{Failed, Port};
 use std::alloc::{AllocError, Global};
-use std::io::ErrorKind;
+use std::io;
 
 /// The standard output, from which nothing can be read.
 #[derive(Drop)]
@@ -47,7 +47,7 @@ impl<R: Print + Clone + Drop> Port for StdOut<R> {
 
     fn write(&mut self, bytes: &[u8]) -> Result<(), Failed> {
         self.flushed = false;
-        match print_whole(&self.rt, bytes) {
+        match write_whole(&mut io::writer(&self.rt), bytes) {
             Ok(()) => Ok(()),
             Err(_) => Err(raise(&mut self.write_faults)),
         }
@@ -61,30 +61,4 @@ impl<R: Print + Clone + Drop> Port for StdOut<R> {
     fn written(&self) -> Option<&[u8]> {
         None
     }
-}
-
-fn print_whole<R: Print>(rt: &R, bytes: &[u8]) -> Result<(), Failed> {
-    let mut rest = bytes;
-    while !rest.is_empty() {
-        match print_once(rt, rest) {
-            Ok(0) => return Err(Failed),
-            Ok(count) => rest = &rest[count..],
-            Err(failed) => return Err(failed),
-        }
-    }
-    Ok(())
-}
-
-// Writes again where a signal came in between.
-fn print_once<R: Print>(rt: &R, bytes: &[u8]) -> Result<usize, Failed>
-    ensures { WritesAtMost result bytes.now }
-{
-    for _ in 0..u64::MAX {
-        match rt.write_some(bytes) {
-            Ok(count) => return Ok(count),
-            Err(error) if error.kind() == ErrorKind::Interrupted => {}
-            Err(_) => return Err(Failed),
-        }
-    }
-    Err(Failed)
 }

@@ -1,5 +1,5 @@
 use Rattle.std.proofs.Common.{length}
-use Rattle.hume_ports.proofs.file.write_whole.Given as goal
+use Rattle.hume_ports.proofs.transfer.write_whole.Given as goal
 
 abbrev pub decreases-loop-rest : goal.decreases-loop-rest
 decreases-loop-rest g l = length l.rest
