@@ -15,3 +15,6 @@ pub use lookup::{find, find_bytes};
 pub use memory::{Fail, MemPort};
 pub use output::StdOut;
 pub use port::{Failed, Port};
+
+#[cfg(test)]
+mod tests;
