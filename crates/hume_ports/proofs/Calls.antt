@@ -8,7 +8,8 @@ use Rattle.hume_ports.specs.Ports.{StepAt, Untouched, ForNameAt, names, place_of
 use Rattle.hume_ports.specs.Delivery.{Pairs, Progress, Failure, Delivered, Drawn, StaysFlushed}
 use Rattle.std.proofs.lemmas.Bool.{or_parts}
 use Rattle.hume_ports.proofs.Steps.{step_same, of_first-step, of_first-any_step}
-use Rattle.hume_ports.proofs.EachPort.{EachPort-one, EachPort-kept, Appends-nothing, Consumes-nothing}
+use Rattle.std.proofs.KnownBytes.{Appends-nil, Consumes-nil}
+use Rattle.hume_ports.proofs.EachPort.{EachPort-one, EachPort-kept}
 use Rattle.hume_ports.proofs.Untouched.{Untouched-step, of_first-untouched}
 use Rattle.hume_ports.proofs.Progress.{appending, consuming, appending-stays, consuming-stays}
 
@@ -35,10 +36,10 @@ Progress-step olds news at step taken given quiet s drawn delivered flushed = re
 }
 
 Drawn-kept : (olds news : List PortView) (at : ℕ) (step : PortView → PortView → Type 0) → ((old new : PortView) → step old new → new.left ≡ old.left) → StepAt olds news at step → Drawn olds news []
-Drawn-kept olds news at step same s = EachPort-kept consuming consuming-stays olds news at step (λ old new is. rw (same old new is) (Consumes-nothing old.left)) s
+Drawn-kept olds news at step same s = EachPort-kept consuming consuming-stays olds news at step (λ old new is. rw (same old new is) (Consumes-nil old.left)) s
 
 Delivered-kept : (olds news : List PortView) (at : ℕ) (step : PortView → PortView → Type 0) → ((old new : PortView) → step old new → new.bytes ≡ old.bytes) → StepAt olds news at step → Delivered olds news []
-Delivered-kept olds news at step same s = EachPort-kept appending appending-stays olds news at step (λ old new is. rw (same old new is) (Appends-nothing old.bytes)) s
+Delivered-kept olds news at step same s = EachPort-kept appending appending-stays olds news at step (λ old new is. rw (same old new is) (Appends-nil old.bytes)) s
 
 -- a step that unflushes no port
 StaysFlushed-step : (olds news : List PortView) (at : ℕ) (step : PortView → PortView → Type 0) (given : Pairs) → ((old new : PortView) → step old new → old.flushed ≡ true → new.flushed ≡ true) → ((old new : PortView) → step old new → new.name ≡ old.name) → StepAt olds news at step → StaysFlushed olds news given
@@ -69,10 +70,10 @@ pub read_taken : (olds news : List PortView) (at : ℕ) (result : Result ℕ Fai
 read_taken olds news at (Err failed) buf s = tt
 read_taken olds news at (Ok count) buf s = λ name e.
     Progress-step olds news at (Reads (Ok count) buf) ((name, take count buf) ∷ []) []
-        (λ old new is. Quiet-read old new count buf is) s
-        (EachPort-one consuming consuming-stays olds news name (take count buf) at (Reads (Ok count) buf) (λ old new is. is.bytes.0) e s)
-        (Delivered-kept olds news at (Reads (Ok count) buf) (λ old new is. ap (λ p. p.bytes) is.keeps) s)
-        (StaysFlushed-step olds news at (Reads (Ok count) buf) [] (λ old new is before. ap (λ p. p.flushed) is.keeps ∙ before) (λ old new is. ap (λ p. p.name) is.keeps) s)
+    (λ old new is. Quiet-read old new count buf is) s
+    (EachPort-one consuming consuming-stays olds news name (take count buf) at (Reads (Ok count) buf) (λ old new is. is.bytes.0) e s)
+    (Delivered-kept olds news at (Reads (Ok count) buf) (λ old new is. ap (λ p. p.bytes) is.keeps) s)
+    (StaysFlushed-step olds news at (Reads (Ok count) buf) [] (λ old new is before. ap (λ p. p.flushed) is.keeps ∙ before) (λ old new is. ap (λ p. p.name) is.keeps) s)
 
 pub read_end : (olds news : List PortView) (at : ℕ) (result : Result ℕ Failed) (buf : List ℕ) → 0 < length buf → StepAt olds news at (λ old new. IsRead old new result buf) → IfOk result (λ count. count ≡ 0 → ForNameAt at olds (λ name. IsAtEnd (left_of name news)))
 read_end olds news at (Err failed) buf h s = tt
@@ -123,10 +124,10 @@ pub write_given : (olds news : List PortView) (at : ℕ) (result : Result (Unit 
 write_given olds news at (Err failed) written s = tt
 write_given olds news at (Ok u) written s = λ name e.
     Progress-step olds news at (Writes (Ok u) written) [] ((name, written) ∷ [])
-        (λ old new is. Quiet-write old new written is) s
-        (Drawn-kept olds news at (Writes (Ok u) written) (λ old new is. ap (λ p. p.left) is.keeps) s)
-        (EachPort-one appending appending-stays olds news name written at (Writes (Ok u) written) (λ old new is. all_written old new written is) e s)
-        (λ other out before. of_first-untouched false (λ port. port.flushed) other (name ∷ []) olds news out (write_names olds news at (Ok u) written s) (write_untouched olds news at (Ok u) written s name e) ∙ before)
+    (λ old new is. Quiet-write old new written is) s
+    (Drawn-kept olds news at (Writes (Ok u) written) (λ old new is. ap (λ p. p.left) is.keeps) s)
+    (EachPort-one appending appending-stays olds news name written at (Writes (Ok u) written) (λ old new is. all_written old new written is) e s)
+    (λ other out before. of_first-untouched false (λ port. port.flushed) other (name ∷ []) olds news out (write_names olds news at (Ok u) written s) (write_untouched olds news at (Ok u) written s name e) ∙ before)
 
 -- the step of a failed write, with how many bytes it took
 part_at : (olds news : List PortView) (written : List ℕ) (at : ℕ) (failed : Failed) → StepAt olds news at (λ old new. IsWrite old new (Err failed) written) → (count : ℕ) × (count ≤ length written) × StepAt olds news at (λ old new. Appends old.bytes new.bytes (take count written))
@@ -139,13 +140,16 @@ part_at (old ∷ olds) (new ∷ news) written (suc at) failed s =
 pub write_failed : (olds news : List PortView) (at : ℕ) (result : Result (Unit {0}) Failed) (written : List ℕ) → StepAt olds news at (λ old new. IsWrite old new result written) → OnErr result (ForNameAt at olds (λ name. (count : ℕ) × (count ≤ length written) × Failure (λ port. port.write_faults) name olds news [] ((name, take count written) ∷ [])))
 write_failed olds news at (Ok u) written s = tt
 write_failed olds news at (Err failed) written s = λ name e.
-    let part = part_at olds news written at failed s in
-    (part.0, part.1, record {
-      same_names = write_names olds news at (Err failed) written s;
-      rose = of_first-step 0 (λ port. port.write_faults) name olds news at (Writes (Err failed) written) Rose (λ old new is. is.count.failed) (λ old new is. ap (λ p. p.name) is.keeps) e s;
-      drawn = Drawn-kept olds news at (Writes (Err failed) written) (λ old new is. ap (λ p. p.left) is.keeps) s;
-      delivered = EachPort-one appending appending-stays olds news name (take part.0 written) at (λ old new. Appends old.bytes new.bytes (take part.0 written)) (λ old new is. is) e part.2;
-    })
+    let part = part_at olds news written at failed s in (
+      part.0,
+      part.1,
+      record {
+        same_names = write_names olds news at (Err failed) written s;
+        rose = of_first-step 0 (λ port. port.write_faults) name olds news at (Writes (Err failed) written) Rose (λ old new is. is.count.failed) (λ old new is. ap (λ p. p.name) is.keeps) e s;
+        drawn = Drawn-kept olds news at (Writes (Err failed) written) (λ old new is. ap (λ p. p.left) is.keeps) s;
+        delivered = EachPort-one appending appending-stays olds news name (take part.0 written) at (λ old new. Appends old.bytes new.bytes (take part.0 written)) (λ old new is. is) e part.2;
+      },
+    )
 
 -- finishes
 
@@ -171,9 +175,9 @@ pub finish_quiet : (olds news : List PortView) (at : ℕ) (result : Result (Unit
 finish_quiet olds news at (Err failed) s = tt
 finish_quiet olds news at (Ok u) s =
     Progress-step olds news at (Finishes (Ok u)) [] [] Quiet-finish s
-        (Drawn-kept olds news at (Finishes (Ok u)) (λ old new is. ap (λ p. p.left) is.keeps) s)
-        (Delivered-kept olds news at (Finishes (Ok u)) (λ old new is. ap (λ p. p.bytes) is.keeps) s)
-        (StaysFlushed-step olds news at (Finishes (Ok u)) [] (λ old new is before. ap (λ p. p.flushed) is.keeps) (λ old new is. ap (λ p. p.name) is.keeps) s)
+    (Drawn-kept olds news at (Finishes (Ok u)) (λ old new is. ap (λ p. p.left) is.keeps) s)
+    (Delivered-kept olds news at (Finishes (Ok u)) (λ old new is. ap (λ p. p.bytes) is.keeps) s)
+    (StaysFlushed-step olds news at (Finishes (Ok u)) [] (λ old new is before. ap (λ p. p.flushed) is.keeps) (λ old new is. ap (λ p. p.name) is.keeps) s)
 
 pub finish_flushed : (olds news : List PortView) (at : ℕ) (result : Result (Unit {0}) Failed) → StepAt olds news at (λ old new. IsFinish old new result) → OnOk result (ForNameAt at olds (λ name. flushed_of name news ≡ true))
 finish_flushed olds news at (Err failed) s = tt

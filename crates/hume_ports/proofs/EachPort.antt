@@ -1,7 +1,6 @@
 -- Moves of each port by the bytes of its pairs: none, one after another, and those of one call.
-use Rattle.std.proofs.Common.{◌≡◌, ℕ, List, [], ◌∷◌, ◌++◌, refl, zero, suc, true, false, cond, Option, Some, None, append_assoc, append-nil, sym, subst, ap, inl, inr}
+use Rattle.std.proofs.Common.{◌≡◌, ℕ, List, [], ◌∷◌, ◌++◌, refl, zero, suc, true, false, cond, Some, append-nil, subst, inl, inr}
 use Rattle.std.specs.Str.{bytes_eq}
-use Rattle.std.specs.Io.KnownBytes.{Appends, Consumes}
 use Rattle.std.proofs.lemmas.Bool.{cases_Bool}
 use Rattle.hume_ports.specs.Port.{PortView}
 use Rattle.hume_ports.specs.Ports.{StepAt, place_of, names, of_first}
@@ -15,26 +14,6 @@ Stays moves = (port : PortView) → moves port port []
 -- moves in turn are one by the bytes in turn
 abbrev pub Joins : (PortView → PortView → List ℕ → Type 0) → Type 0
 Joins moves = (old mid new : PortView) (x y : List ℕ) → moves old mid x → moves mid new y → moves old new (x ++ y)
-
-pub Appends-nothing : (known : Option (List ℕ)) → Appends known known []
-Appends-nothing None = tt
-Appends-nothing (Some bytes) = sym (append-nil bytes)
-
-pub Appends-on : (a b c : Option (List ℕ)) (x y : List ℕ) → Appends a b x → Appends b c y → Appends a c (x ++ y)
-Appends-on None b c x y p q = tt
-Appends-on (Some a) None c x y p q = absurd p
-Appends-on (Some a) (Some b) None x y p q = absurd q
-Appends-on (Some a) (Some b) (Some c) x y p q = rw (q, p) (append_assoc a x y)
-
-pub Consumes-nothing : (known : Option (List ℕ)) → Consumes known known []
-Consumes-nothing None = tt
-Consumes-nothing (Some bytes) = refl
-
-pub Consumes-on : (a b c : Option (List ℕ)) (x y : List ℕ) → Consumes a b x → Consumes b c y → Consumes a c (x ++ y)
-Consumes-on None b c x y p q = tt
-Consumes-on (Some a) None c x y p q = absurd p
-Consumes-on (Some a) (Some b) None x y p q = absurd q
-Consumes-on (Some a) (Some b) (Some c) x y p q = rw (p, q) (sym (append_assoc x y c))
 
 pub EachPort-nothing : (moves : PortView → PortView → List ℕ → Type 0) → Stays moves → (ports : List PortView) → EachPort moves ports ports []
 EachPort-nothing moves stays [] = tt

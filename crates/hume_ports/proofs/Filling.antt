@@ -60,7 +60,7 @@ pub HasRead-on : (olds mids news : List PortView) (at : ℕ) (x y : List ℕ) (r
 HasRead-on olds mids news at x y result buf h r taken = record {
   progress = λ name e.
       Progress-same_taken olds news ((name, x) ∷ (name, y) ∷ []) ((name, x ++ y) ∷ []) [] (joined_bytes name x y)
-          (Progress-on olds mids news ((name, x) ∷ []) ((name, y) ∷ []) [] [] (h.progress name e) (taken name (still_at olds mids at name h.same_names e)));
+      (Progress-on olds mids news ((name, x) ∷ []) ((name, y) ∷ []) [] [] (h.progress name e) (taken name (still_at olds mids at name h.same_names e)));
   untouched = untouched_after olds mids news at x result buf h r;
   same_names = names_after olds mids news at x result buf h r;
   roomy = λ room. roomy_after mids news at result buf r (h.roomy room);
@@ -100,7 +100,7 @@ pub failed_after : (olds mids news : List PortView) (at : ℕ) (buf part rest : 
 failed_after olds mids news at buf part rest filled h some p failed name e =
     let P : List ℕ → Type 0 = λ bytes. Failure (λ port. port.read_faults) name olds news ((name, bytes) ∷ []) [] in
     let whole : Failure (λ port. port.read_faults) name olds news ((name, take filled buf) ∷ []) [] =
-        read_failure-on name olds mids news ((name, take filled buf) ∷ []) [] [] [] (p.progress name e) (failed name (still_at olds mids at name p.same_names e)) in
+    read_failure-on name olds mids news ((name, take filled buf) ∷ []) [] [] [] (p.progress name e) (failed name (still_at olds mids at name p.same_names e)) in
     (filled, simp (length-append, length-take) (omega arith), subst P (sym (take_front buf (part ++ rest) filled h)) whole)
 
 -- what was read until the buffer was full or the bytes ended is the front of the bytes
@@ -123,5 +123,5 @@ pub front_after : (olds news : List PortView) (at : ℕ) (buf : List ℕ) (count
 front_after olds news at buf count h p end name e =
     let P : List ℕ → Type 0 = λ bytes. Consumes (left_of name olds) (left_of name news) bytes in
     front_of (left_of name olds) (left_of name news) buf count h
-        (subst P (bytes_for-one name (take count buf)) (Drawn-first olds news name ((name, take count buf) ∷ []) p.same_names (p.progress name e).drawn))
-        (λ less. end less name e)
+    (subst P (bytes_for-one name (take count buf)) (Drawn-first olds news name ((name, take count buf) ∷ []) p.same_names (p.progress name e).drawn))
+    (λ less. end less name e)

@@ -7,3 +7,4 @@ pub mod Rooms
 pub mod Places
 pub mod Calls
 pub mod Filling
+pub mod Writing

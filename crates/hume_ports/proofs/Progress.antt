@@ -1,13 +1,14 @@
 -- Calls in turn: while none has failed, and up to the first that has.
 use Rattle.std.proofs.Common.{◌≡◌, ◌||◌, ℕ, List, [], ◌∷◌, ◌++◌, map, refl, sym, ◌∙◌, ap, subst, true, false, None}
 use Rattle.std.specs.Io.KnownBytes.{Appends, Consumes}
+use Rattle.std.proofs.KnownBytes.{Appends-nil, Appends-trans, Consumes-nil, Consumes-trans}
 use Rattle.std.proofs.lemmas.Bool.{or_parts}
 use Rattle.hume_ports.specs.Port.{PortView, Rose}
 use Rattle.hume_ports.specs.Ports.{StepAt, names, is_among, of_first, left_of, bytes_of}
 use Rattle.hume_ports.specs.Delivery.{Pairs, Delivered, Drawn, SameFaults, StaysFlushed, Progress, Failure, names_in, bytes_for}
 use Rattle.hume_ports.proofs.Names.{is_among-append, names_in-append}
 use Rattle.hume_ports.proofs.Steps.{step_same, of_first-same}
-use Rattle.hume_ports.proofs.EachPort.{Stays, Joins, SameBytes, EachPort-nothing, EachPort-on, EachPort-same, EachPort-first, Appends-nothing, Appends-on, Consumes-nothing, Consumes-on}
+use Rattle.hume_ports.proofs.EachPort.{Stays, Joins, SameBytes, EachPort-nothing, EachPort-on, EachPort-same, EachPort-first}
 
 abbrev pub appending : PortView → PortView → List ℕ → Type 0
 appending old new bytes = Appends old.bytes new.bytes bytes
@@ -16,16 +17,16 @@ abbrev pub consuming : PortView → PortView → List ℕ → Type 0
 consuming old new bytes = Consumes old.left new.left bytes
 
 pub appending-stays : Stays appending
-appending-stays port = Appends-nothing port.bytes
+appending-stays port = Appends-nil port.bytes
 
 pub appending-joins : Joins appending
-appending-joins old mid new x y p q = Appends-on old.bytes mid.bytes new.bytes x y p q
+appending-joins old mid new x y p q = Appends-trans old.bytes mid.bytes new.bytes x y p q
 
 pub consuming-stays : Stays consuming
-consuming-stays port = Consumes-nothing port.left
+consuming-stays port = Consumes-nil port.left
 
 pub consuming-joins : Joins consuming
-consuming-joins old mid new x y p q = Consumes-on old.left mid.left new.left x y p q
+consuming-joins old mid new x y p q = Consumes-trans old.left mid.left new.left x y p q
 
 pub Delivered-nothing : (ports : List PortView) → Delivered ports ports []
 Delivered-nothing ports = EachPort-nothing appending appending-stays ports
@@ -50,7 +51,7 @@ Drawn-first olds news name pairs same d = EachPort-first None (λ port. port.lef
 pub StaysFlushed-on : (olds mids news : List PortView) (ps qs : Pairs) → StaysFlushed olds mids ps → StaysFlushed mids news qs → StaysFlushed olds news (ps ++ qs)
 StaysFlushed-on olds mids news ps qs p q name out before =
     let split : is_among name (names_in (ps ++ qs)) ≡ (is_among name (names_in ps) || is_among name (names_in qs)) =
-        rw (names_in-append ps qs) (is_among-append name (names_in ps) (names_in qs)) in
+    rw (names_in-append ps qs) (is_among-append name (names_in ps) (names_in qs)) in
     let neither = or_parts (is_among name (names_in ps)) (is_among name (names_in qs)) (sym split ∙ out) in
     q name neither.1 (p name neither.0 before)
 

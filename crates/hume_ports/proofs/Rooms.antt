@@ -112,12 +112,14 @@ pub Roomy-kept : (olds news : List PortView) (at : ℕ) (step : PortView → Por
 Roomy-kept [] news at step law s r = absurd s
 Roomy-kept (old ∷ olds) [] at step law s r = absurd s
 Roomy-kept (old ∷ olds) (new ∷ news) zero step law s r =
-    let same = law old new s.0 in
-    (record {
-      room = r.0.room;
-      bytes = r.0.bytes;
-      told_room = same.0 ∙ r.0.told_room;
-      told_bytes = same.1 ∙ r.0.told_bytes;
-      fits = r.0.fits;
-    }, rw s.1 r.1)
+    let same = law old new s.0 in (
+      record {
+        room = r.0.room;
+        bytes = r.0.bytes;
+        told_room = same.0 ∙ r.0.told_room;
+        told_bytes = same.1 ∙ r.0.told_bytes;
+        fits = r.0.fits;
+      },
+      rw s.1 r.1,
+    )
 Roomy-kept (old ∷ olds) (new ∷ news) (suc at) step law s r = (rw s.0 r.0, Roomy-kept olds news at step law s.1 r.1)

@@ -61,7 +61,7 @@ impl MemPort {
           shown = true;
         }) }
         ensures script { IfOk result (λ port.
-          script_of port ≡ record { calls = 0; piece = piece; room = room; failing = failing.now }) }
+            script_of port ≡ record { calls = 0; piece = piece; room = room; failing = failing.now }) }
     {
         Ok(MemPort {
             name: String::from_str(alloc, name)?,
@@ -103,7 +103,7 @@ impl Port for MemPort {
         ensures script { script_of self.new ≡ counted (script_of self.old) }
         ensures listed { IsOk result ↔ IsNone (due (script_of self.new)) }
         ensures piece { IfOk result (λ count.
-          count ≡ min (script_of self.old).piece (min (length buf.new) (length (left_bytes self.old)))) }
+            count ≡ min (script_of self.old).piece (min (length buf.new) (length (left_bytes self.old)))) }
     {
         if self.next_call().is_some() {
             return Err(raise(&mut self.read_faults));
@@ -117,9 +117,9 @@ impl Port for MemPort {
         ensures port { IsWrite (memory_view self.old) (memory_view self.new) result bytes.now }
         ensures script { script_of self.new ≡ counted (script_of self.old) }
         ensures listed { IsOk result ↔ (IsNone (due (script_of self.new))
-          × (length (output_bytes self.old) + length bytes.now ≤ (script_of self.old).room)) }
+            × (length (output_bytes self.old) + length bytes.now ≤ (script_of self.old).room)) }
         ensures taken { output_bytes self.new ≡ output_bytes self.old
-          ++ accepted (script_of self.new) (output_bytes self.old) bytes.now }
+            ++ accepted (script_of self.new) (output_bytes self.old) bytes.now }
     {
         self.flushed = false;
         let failing = self.next_call();
