@@ -1,0 +1,5 @@
+pub mod Port
+pub mod Memory
+pub mod MemoryPort
+pub mod Ports
+pub mod Delivery

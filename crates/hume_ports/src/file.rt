@@ -1,0 +1,137 @@
+ghost use Rattle.std.specs.Prelude.{◌≡◌, IfOk, string_bytes};
+ghost use Rattle.std.specs.Io.{ReadsAtMost};
+ghost use Rattle.hume_ports.specs.Port.{PortView, untold};
+
+use crate::port::raise;
+use crate::transfer::{flush, read_once, write_whole};
+use crate::{Failed, Port};
+use std::alloc::{AllocError, Global};
+use std::fs;
+use std::rt::Files;
+
+/// The file of a name. The first read opens it, and the first write creates or empties it, as does a finish before
+/// which nothing was read or written.
+#[derive(Drop)]
+pub struct FilePort<R: Files + Clone + Drop> {
+    rt: R,
+    name: String,
+    reader: Option<R::File>,
+    writer: Option<R::File>,
+    used: bool,
+    read_faults: u64,
+    write_faults: u64,
+    finish_faults: u64,
+    flushed: bool,
+}
+
+impl<R: Files + Clone + Drop> FilePort<R> {
+    /// A port over the file of that name, which is left alone until the first call.
+    pub fn make(rt: &R, alloc: Global, name: &str) -> Result<FilePort<R>, AllocError>
+        ensures { IfOk result (λ port. ⟦<FilePort<R> as Port>⟧.view port ≡ untold name.now) }
+    {
+        Ok(FilePort {
+            rt: rt.clone()?,
+            name: String::from_str(alloc, name)?,
+            reader: None,
+            writer: None,
+            used: false,
+            read_faults: 0,
+            write_faults: 0,
+            finish_faults: 0,
+            flushed: false,
+        })
+    }
+}
+
+impl<R: Files + Clone + Drop> Port for FilePort<R> {
+    ghost view = { λ port. record (untold (string_bytes port.name)) {
+      read_faults = port.read_faults;
+      write_faults = port.write_faults;
+      finish_faults = port.finish_faults;
+      flushed = port.flushed;
+    } };
+
+    fn name(&self) -> &str {
+        self.name.as_str()
+    }
+
+    fn read(&mut self, buf: &mut [u8]) -> Result<usize, Failed> {
+        self.used = true;
+        match read_file(&self.rt, self.name.as_str(), &mut self.reader, buf) {
+            Ok(count) => Ok(count),
+            Err(_) => Err(raise(&mut self.read_faults)),
+        }
+    }
+
+    fn write(&mut self, bytes: &[u8]) -> Result<(), Failed> {
+        self.used = true;
+        self.flushed = false;
+        match write_file(&self.rt, self.name.as_str(), &mut self.writer, bytes) {
+            Ok(()) => Ok(()),
+            Err(_) => Err(raise(&mut self.write_faults)),
+        }
+    }
+
+    fn finish(&mut self) -> Result<(), Failed> {
+        let finished = if self.used {
+            match &mut self.writer {
+                Some(file) => flush(file),
+                None => Ok(()),
+            }
+        } else {
+            create(&self.rt, self.name.as_str(), &mut self.writer)
+        };
+        self.flushed = finished.is_ok();
+        match finished {
+            Ok(()) => Ok(()),
+            Err(_) => Err(raise(&mut self.finish_faults)),
+        }
+    }
+
+    fn written(&self) -> Option<&[u8]> {
+        None
+    }
+}
+
+fn read_file<R: Files>(
+    rt: &R,
+    name: &str,
+    reader: &mut Option<R::File>,
+    buf: &mut [u8],
+) -> Result<usize, Failed>
+    ensures { ReadsAtMost result buf.new }
+{
+    if reader.is_none() {
+        match fs::open(rt, name) {
+            Ok(opened) => *reader = Some(opened),
+            Err(_) => return Err(Failed),
+        }
+    }
+    match reader {
+        Some(file) => read_once(file, buf),
+        None => Err(Failed),
+    }
+}
+
+fn write_file<R: Files>(
+    rt: &R,
+    name: &str,
+    writer: &mut Option<R::File>,
+    bytes: &[u8],
+) -> Result<(), Failed> {
+    create(rt, name, writer)?;
+    match writer {
+        Some(file) => write_whole(file, bytes),
+        None => Err(Failed),
+    }
+}
+
+fn create<R: Files>(rt: &R, name: &str, writer: &mut Option<R::File>) -> Result<(), Failed> {
+    if writer.is_none() {
+        match fs::create(rt, name) {
+            Ok(created) => *writer = Some(created),
+            Err(_) => return Err(Failed),
+        }
+    }
+    Ok(())
+}

@@ -1,0 +1,62 @@
+ghost use Rattle.std.specs.Prelude.{◌≡◌, IfOk, OnErr, take};
+ghost use Rattle.std.specs.Io.{ReadsAtMost, WritesAtMost};
+ghost use Rattle.std.specs.Io.KnownBytes.{Appends, Keeps, ReadConsumes};
+ghost use Rattle.hume_ports.specs.Port.{WriteAppends};
+
+use crate::Failed;
+use std::io::{ErrorKind, Read, Write};
+
+// Reads again where a signal came in between.
+pub(crate) fn read_once<F: Read>(file: &mut F, buf: &mut [u8]) -> Result<usize, Failed>
+    ensures bound { ReadsAtMost result buf.new }
+    ensures bytes { ReadConsumes (F.remaining file.old) (F.remaining file.new) result buf.new }
+{
+    for _ in 0..u64::MAX {
+        match file.read(buf) {
+            Ok(count) => return Ok(count),
+            Err(error) if error.kind() == ErrorKind::Interrupted => {}
+            Err(_) => return Err(Failed),
+        }
+    }
+    Err(Failed)
+}
+
+// Writes all of the bytes, in as many writes as that takes. A write that takes none is a fault.
+pub(crate) fn write_whole<F: Write>(file: &mut F, bytes: &[u8]) -> Result<(), Failed>
+    ensures { WriteAppends (F.contents file.old) (F.contents file.new) result bytes.now }
+{
+    let mut rest = bytes;
+    while !rest.is_empty() {
+        match write_once(file, rest) {
+            Ok(0) => return Err(Failed),
+            Ok(count) => rest = &rest[count..],
+            Err(failed) => return Err(failed),
+        }
+    }
+    Ok(())
+}
+
+// Writes again where a signal came in between.
+fn write_once<F: Write>(file: &mut F, bytes: &[u8]) -> Result<usize, Failed>
+    ensures bound { WritesAtMost result bytes.now }
+    ensures ok { IfOk result (λ count. Appends (F.contents file.old) (F.contents file.new) (take count bytes.now)) }
+    ensures err { OnErr result (Keeps (F.contents file.old) (F.contents file.new)) }
+{
+    for _ in 0..u64::MAX {
+        match file.write(bytes) {
+            Ok(count) => return Ok(count),
+            Err(error) if error.kind() == ErrorKind::Interrupted => {}
+            Err(_) => return Err(Failed),
+        }
+    }
+    Err(Failed)
+}
+
+pub(crate) fn flush<F: Write>(file: &mut F) -> Result<(), Failed>
+    ensures { Keeps (F.contents file.old) (F.contents file.new) }
+{
+    match file.flush() {
+        Ok(()) => Ok(()),
+        Err(_) => Err(Failed),
+    }
+}
