@@ -1,0 +1,32 @@
+-- The words of a call: `run STEPS WORKERS SOURCE PORT..`
+use Rattle.std.specs.Prelude.{ℕ, ◌==◌, Bool, ◌&&◌, List, [], ◌∷◌, length, Option, None, Some, if◌then◌else◌, nat_le, codes}
+use Rattle.std.specs.List.{slice_index_or}
+use Rattle.std.specs.Str.{bytes_eq, all_ascii_digits}
+use Rattle.std.specs.Str.Parse.{digits_value}
+use Rattle.hume_run.specs.declared.order.Order.{Order}
+use Rattle.hume_run.specs.declared.order.Order.TheVariants.{Run}
+
+-- one to nine decimal digits
+abbrev pub is_number : List ℕ → Bool
+is_number word = nat_le 1 (length word) && nat_le (length word) 9 && all_ascii_digits word
+
+abbrev pub number_of : List ℕ → Option ℕ
+number_of word = if is_number word then Some (digits_value 10 word) else None
+
+-- from 0 to 64 supersteps, and one worker
+abbrev pub run_of : Option ℕ → Option ℕ → Option Order
+run_of (Some steps) (Some workers) = if nat_le steps 64 && workers == 1 then Some (Run steps 3) else None
+run_of _ _ = None
+
+-- what the words ask for, if they have a form
+abbrev pub order_of : List (List ℕ) → Option Order
+order_of (command ∷ steps ∷ workers ∷ source ∷ ports) =
+    if bytes_eq command (codes "run") then run_of (number_of steps) (number_of workers) else None
+order_of _ = None
+
+abbrev pub steps_of : Order → ℕ
+steps_of (Run steps source) = steps
+
+-- the name of the source's port
+abbrev pub source_of : List (List ℕ) → Order → List ℕ
+source_of words (Run steps source) = slice_index_or words source []

@@ -1,0 +1,8 @@
+//! The top call: from the words, the source's bytes and the ports to the answer.
+#![tactic(auto)]
+
+mod order;
+mod status;
+
+pub use order::Order;
+pub use status::Status;
