@@ -1,3 +1,4 @@
+pub mod Ahead
 pub mod Evaluation
 pub mod Positions
 pub mod Powers

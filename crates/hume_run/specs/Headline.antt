@@ -17,29 +17,34 @@ abbrev pub IsUsage : List (List ℕ) → List (List ℕ) → Type 0
 IsUsage words names = MatchOption (order_of words) ⊤ (λ order.
     (place_of std_out names ≡ None) ⊎ (place_of (source_of words order) names ≡ None))
 
--- A read failed, and nothing was written.
-pub record FailedRead (owed : Owed) (old new : List PortView) : Type 0 where
+-- A read of a port with one of these names failed, and nothing was written.
+pub record FailedRead (reads : List (List ℕ)) (old new : List PortView) : Type 0 where
   pub name : List ℕ
-  pub is_read : is_among name owed.reads ≡ true
+  pub is_read : is_among name reads ≡ true
   pub taken : Pairs
   pub failure : Failure (λ port. port.read_faults) name old new taken []
 
--- A write failed: those before it were made, and perhaps a front of its own bytes went out.
-pub record FailedWrite (owed : Owed) (old new : List PortView) : Type 0 where
+-- One of these writes failed: those before it were made, and perhaps a front of its own bytes went out.
+pub record FailedWrite (writes : Pairs) (old new : List PortView) : Type 0 where
   pub made : Pairs
   pub pair : List ℕ × List ℕ
   pub later : Pairs
-  pub in_order : owed.writes ≡ made ++ (pair ∷ later)
+  pub in_order : writes ≡ made ++ (pair ∷ later)
   pub count : ℕ
   pub taken : Pairs
   pub failure : Failure (λ port. port.write_faults) pair.0 old new taken (made ++ (pair.0, take count pair.1) ∷ [])
 
--- A finish failed, and all writes were made.
-pub record FailedFinish (owed : Owed) (old new : List PortView) : Type 0 where
+-- A finish of a port with one of these names failed, and all of these writes were made.
+pub record FailedFinish (finishes : List (List ℕ)) (writes : Pairs) (old new : List PortView) : Type 0 where
   pub name : List ℕ
-  pub is_finished : is_among name owed.finishes ≡ true
+  pub is_finished : is_among name finishes ≡ true
   pub taken : Pairs
-  pub failure : Failure (λ port. port.finish_faults) name old new taken owed.writes
+  pub failure : Failure (λ port. port.finish_faults) name old new taken writes
+
+-- How a call that owes this may fail: at a read, a write or a finish.
+abbrev pub Fails : Owed → List PortView → List PortView → Type 0
+Fails owed old new =
+    FailedRead owed.reads old new ⊎ (FailedWrite owed.writes old new ⊎ FailedFinish owed.finishes owed.writes old new)
 
 -- What an answer says of a call that owes this.
 pub record Ends (owed : Owed) (old new : List PortView) (status : Status) : Type 0 where
@@ -50,7 +55,7 @@ pub record Ends (owed : Owed) (old new : List PortView) (status : Status) : Type
   pub bytes : IsAnswer status → Delivered old new owed.writes
   pub flushed : IsAnswer status → All (λ name. flushed_of name new ≡ true) owed.finishes
   -- a fault comes only from a call of a port whose count rose, and tells what had been done by then
-  pub fault : status ≡ Fault → FailedRead owed old new ⊎ (FailedWrite owed old new ⊎ FailedFinish owed old new)
+  pub fault : status ≡ Fault → Fails owed old new
   -- with any other answer no count has changed
   pub quiet : (status ≡ Fault → ⊥) → SameFaults old new
   -- where each port has room for what is written to it, no call fails

@@ -2,6 +2,8 @@
 #![tactic(auto)]
 
 mod order;
+mod report;
+mod settle;
 mod status;
 
 pub use order::Order;

@@ -1,0 +1,4 @@
+pub mod Places
+pub mod Settling
+pub mod Ending
+pub mod Reporting
