@@ -2,3 +2,4 @@ pub mod Places
 pub mod Settling
 pub mod Ending
 pub mod Reporting
+pub mod Sources

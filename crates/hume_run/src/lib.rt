@@ -4,6 +4,7 @@
 mod order;
 mod report;
 mod settle;
+mod source;
 mod status;
 
 pub use order::Order;
