@@ -6,18 +6,21 @@ use Rattle.std.specs.Io.{ReadsAtMost}
 use Rattle.std.specs.Io.KnownBytes.{Appends, ReadConsumes}
 use Rattle.hume_ports.specs.declared.port.Failed.{Failed}
 
--- A port's name; the bytes left to read and those written so far, where it tells them; how often its reads, its
--- writes and its finishes have failed; how many bytes may be written to it in all, where it tells that; whether
--- all that was written is out; and whether `written` shows it.
+-- what a port means
 pub record PortView : Type 0 where
   pub name : List ℕ
+  -- the bytes left to read and those written so far, where the port tells them
   pub left : Option (List ℕ)
   pub bytes : Option (List ℕ)
+  -- how often a read, a write and a finish of it has failed
   pub read_faults : ℕ
   pub write_faults : ℕ
   pub finish_faults : ℕ
+  -- how many bytes may be written in all, where the port tells it
   pub room : Option ℕ
+  -- whether all that was written is out
   pub flushed : Bool
+  -- whether `written` shows the bytes written
   pub shown : Bool
 
 -- the last value of a count, at which it stays
