@@ -1,5 +1,5 @@
 -- Reads of one port in turn, until a buffer is full or nothing is left.
-use Rattle.std.proofs.Common.{◌≡◌, ℕ, ◌<◌, ◌≤◌, ◌+◌, List, [], ◌∷◌, ◌++◌, take, length, length-append, length-take, append_assoc, append-nil, refl, arith, ap, sym, subst, ◌∙◌, true, false, cond, Option, Some, None, IfSome, Result, OnErr, inl, inr}
+use Rattle.std.proofs.Common.{◌≡◌, ℕ, ◌<◌, ◌≤◌, ◌+◌, List, [], ◌∷◌, ◌++◌, take, length, length-append, length-take, append_assoc, append-nil, refl, arith, ap, sym, subst, ◌∙◌, true, false, cond, Option, Some, None, IfSome, Result, inl, inr}
 use Rattle.std.proofs.Math.Seq.{take-length, take-append-add, take-append_seam}
 use Rattle.std.proofs.lemmas.Bool.{cases_lt}
 use Rattle.std.proofs.lemmas.List.{length-take-le, take-append-le, take_all}
@@ -7,8 +7,8 @@ use Rattle.std.specs.Str.{bytes_eq}
 use Rattle.std.specs.Io.KnownBytes.{Consumes, IsAtEnd}
 use Rattle.hume_ports.specs.declared.port.Failed.{Failed}
 use Rattle.hume_ports.specs.Port.{PortView, IsRead}
-use Rattle.hume_ports.specs.Ports.{StepAt, ForNameAt, Untouched, names, place_of, left_of}
-use Rattle.hume_ports.specs.Delivery.{Pairs, Progress, Failure, Roomy, bytes_for}
+use Rattle.hume_ports.specs.Ports.{StepAt, ForNameAt, Untouched, names, left_of}
+use Rattle.hume_ports.specs.Delivery.{Progress, ReadFailure, Roomy}
 use Rattle.hume_ports.proofs.Names.{bytes_for-one, place-kept}
 use Rattle.hume_ports.proofs.EachPort.{SameBytes}
 use Rattle.hume_ports.proofs.Untouched.{Untouched-start, Untouched-on}
@@ -92,10 +92,10 @@ take_front buf more filled h =
     subst P (length-take-le filled buf h) (take-append_seam (take filled buf) more)
 
 -- a failed read after others
-pub failed_after : (olds mids news : List PortView) (at : ℕ) (buf part rest : List ℕ) (filled : ℕ) → filled ≤ length buf → 0 < length part → HasRead olds mids at (take filled buf) → ForNameAt at mids (λ name. Failure (λ port. port.read_faults) name mids news [] []) → ForNameAt at olds (λ name. (count : ℕ) × (count < length (take filled buf ++ (part ++ rest))) × Failure (λ port. port.read_faults) name olds news ((name, take count (take filled buf ++ (part ++ rest))) ∷ []) [])
+pub failed_after : (olds mids news : List PortView) (at : ℕ) (buf part rest : List ℕ) (filled : ℕ) → filled ≤ length buf → 0 < length part → HasRead olds mids at (take filled buf) → ForNameAt at mids (λ name. ReadFailure name mids news [] []) → ForNameAt at olds (λ name. (count : ℕ) × (count < length (take filled buf ++ (part ++ rest))) × ReadFailure name olds news ((name, take count (take filled buf ++ (part ++ rest))) ∷ []) [])
 failed_after olds mids news at buf part rest filled h some p failed name e =
-    let P : List ℕ → Type 0 = λ bytes. Failure (λ port. port.read_faults) name olds news ((name, bytes) ∷ []) [] in
-    let whole : Failure (λ port. port.read_faults) name olds news ((name, take filled buf) ∷ []) [] =
+    let P : List ℕ → Type 0 = λ bytes. ReadFailure name olds news ((name, bytes) ∷ []) [] in
+    let whole : ReadFailure name olds news ((name, take filled buf) ∷ []) [] =
     read_failure-on name olds mids news ((name, take filled buf) ∷ []) [] (p.progress name e) (failed name (place-kept olds mids at name p.same_names e)) in
     (filled, simp (length-append, length-take) (omega arith), subst P (sym (take_front buf (part ++ rest) filled h)) whole)
 

@@ -1,10 +1,10 @@
 -- Which ports are exactly as before.
-use Rattle.std.proofs.Common.{◌≡◌, ◌||◌, ℕ, List, [], ◌∷◌, refl, sym, ◌∙◌, zero, suc, true, false, cond, Some, subst, inl, inr}
+use Rattle.std.proofs.Common.{◌≡◌, ℕ, List, [], ◌∷◌, refl, sym, ◌∙◌, zero, suc, true, false, Some, subst, inl, inr}
 use Rattle.std.specs.Str.{bytes_eq}
 use Rattle.std.proofs.lemmas.Bool.{cases_Bool, both_ways, true≢false}
 use Rattle.hume_ports.specs.Port.{PortView}
 use Rattle.hume_ports.specs.Ports.{StepAt, Untouched, is_among, other_names, names, place_of, of_first}
-use Rattle.hume_ports.proofs.Names.{place-zero, place-suc, is_among-other_names, same_name, bytes_eq-swap, bytes_eq-self}
+use Rattle.hume_ports.proofs.Names.{place-zero, place-suc, is_among-other_names, same_name, bytes_eq-swap}
 
 pub Untouched-start : (touched : List (List ℕ)) (ports : List PortView) → Untouched touched ports ports
 Untouched-start touched [] = tt

@@ -1,5 +1,5 @@
 -- A list of ports: which port a name means, and what a call of one of them leaves as it was.
-use Rattle.std.specs.Prelude.{◌≡◌, ℕ, Bool, true, false, List, [], ◌∷◌, map, Option, None, Some, if◌then◌else◌, zero, suc, ⊤}
+use Rattle.std.specs.Prelude.{◌≡◌, ℕ, Bool, false, List, [], ◌∷◌, map, Option, None, Some, if◌then◌else◌, zero, suc, ⊤}
 use Rattle.std.specs.Option.{option_map}
 use Rattle.std.specs.List.{list_any}
 use Rattle.std.specs.Str.{bytes_eq}
@@ -13,7 +13,7 @@ abbrev pub place_of : List ℕ → List (List ℕ) → Option ℕ
 place_of name [] = None
 place_of name (first ∷ others) = if bytes_eq first name then Some 0 else option_map suc (place_of name others)
 
--- The fact holds of the name that means the port at that place, if one does: the first port with that name.
+-- The fact holds of the name whose first port stands at that place, if there is one.
 abbrev pub ForNameAt : ℕ → List PortView → (List ℕ → Type 0) → Type 0
 ForNameAt at ports fact = (name : List ℕ) → place_of name (names ports) ≡ Some at → fact name
 
@@ -60,10 +60,11 @@ is_among name others = list_any (bytes_eq name) others
 -- these names but that one
 abbrev pub other_names : List ℕ → List (List ℕ) → List (List ℕ)
 other_names name [] = []
-other_names name (other ∷ others) = if bytes_eq name other then other_names name others else other ∷ other_names name others
+other_names name (other ∷ others) =
+    if bytes_eq name other then other_names name others else other ∷ other_names name others
 
--- Each port but the first ones with these names is exactly as before. So behind the first port of a name the list is
--- the one without that name.
+-- Each port but the first ones with these names is exactly as before. So behind the first port of a name the
+-- other names count.
 abbrev pub Untouched : List (List ℕ) → List PortView → List PortView → Type 0
 Untouched touched [] [] = ⊤
 Untouched touched (old ∷ olds) (new ∷ news) =
