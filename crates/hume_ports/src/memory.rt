@@ -8,7 +8,7 @@ use std::alloc::{AllocError, Global};
 
 /// That a call fails: its number, where reads, writes and finishes are counted together from 1, and how many
 /// bytes a write takes before it does.
-#[derive(Clone, Copy, Debug, PartialEq, Eq)]
+#[derive(Clone, Copy)]
 pub struct Fail {
     pub call: u32,
     pub taken: u32,

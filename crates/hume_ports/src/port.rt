@@ -3,7 +3,7 @@ ghost use Rattle.std.specs.Option.{is_some};
 ghost use Rattle.hume_ports.specs.Port.{PortView, IsRead, IsWrite, IsFinish, last_count, next_count};
 
 /// A call of a port has failed, as its count says.
-#[derive(Clone, Copy, Debug, PartialEq, Eq)]
+#[derive(Clone, Copy, Debug, PartialEq)]
 pub struct Failed;
 
 /// Something outside with a name, from which bytes come or to which they go.
