@@ -1,12 +1,11 @@
 -- What a read, a write or a finish of one port is to the list of all ports.
-use Rattle.std.proofs.Common.{◌≡◌, ℕ, ◌<◌, ◌≤◌, List, [], ◌∷◌, map, take, length, refl, sym, ap, subst, ◌∙◌, true, false, Bool, Option, Some, None, Ok, Err, Result, IfOk, OnOk, OnErr, zero, suc}
+use Rattle.std.proofs.Common.{◌≡◌, ℕ, ◌<◌, ◌≤◌, List, [], ◌∷◌, take, length, sym, ap, subst, ◌∙◌, true, false, Option, Some, None, Ok, Err, Result, IfOk, OnOk, OnErr, zero, suc}
 use Rattle.std.proofs.Math.Seq.{take-length}
 use Rattle.std.specs.Io.KnownBytes.{Appends, Consumes, Keeps, IsAtEnd}
 use Rattle.hume_ports.specs.declared.port.Failed.{Failed}
 use Rattle.hume_ports.specs.Port.{PortView, IsRead, IsWrite, IsFinish, Rose}
-use Rattle.hume_ports.specs.Ports.{StepAt, Untouched, ForNameAt, names, place_of, left_of, flushed_of}
-use Rattle.hume_ports.specs.Delivery.{Pairs, Progress, Failure, Delivered, Drawn, StaysFlushed}
-use Rattle.std.proofs.lemmas.Bool.{or_parts}
+use Rattle.hume_ports.specs.Ports.{StepAt, Untouched, ForNameAt, names, left_of, flushed_of}
+use Rattle.hume_ports.specs.Delivery.{Pairs, Progress, ReadFailure, WriteFailure, FinishFailure, Delivered, Drawn, StaysFlushed}
 use Rattle.hume_ports.proofs.Steps.{step_same, of_first-step, of_first-any_step}
 use Rattle.std.proofs.KnownBytes.{Appends-nil, Consumes-nil}
 use Rattle.hume_ports.proofs.EachPort.{EachPort-one, EachPort-kept}
@@ -86,7 +85,7 @@ nothing_read None after same = tt
 nothing_read (Some bytes) None same = absurd same
 nothing_read (Some bytes) (Some rest) same = sym same
 
-pub read_failed : (olds news : List PortView) (at : ℕ) (result : Result ℕ Failed) (buf : List ℕ) → StepAt olds news at (λ old new. IsRead old new result buf) → OnErr result (ForNameAt at olds (λ name. Failure (λ port. port.read_faults) name olds news [] []))
+pub read_failed : (olds news : List PortView) (at : ℕ) (result : Result ℕ Failed) (buf : List ℕ) → StepAt olds news at (λ old new. IsRead old new result buf) → OnErr result (ForNameAt at olds (λ name. ReadFailure name olds news [] []))
 read_failed olds news at (Ok count) buf s = tt
 read_failed olds news at (Err failed) buf s = λ name e. record {
   same_names = read_names olds news at (Err failed) buf s;
@@ -137,7 +136,7 @@ part_at (old ∷ olds) (new ∷ news) written zero failed s = (s.0.bytes.0, s.0.
 part_at (old ∷ olds) (new ∷ news) written (suc at) failed s =
     let rest = part_at olds news written at failed s.1 in (rest.0, rest.1, (s.0, rest.2))
 
-pub write_failed : (olds news : List PortView) (at : ℕ) (result : Result (Unit {0}) Failed) (written : List ℕ) → StepAt olds news at (λ old new. IsWrite old new result written) → OnErr result (ForNameAt at olds (λ name. (count : ℕ) × (count ≤ length written) × Failure (λ port. port.write_faults) name olds news [] ((name, take count written) ∷ [])))
+pub write_failed : (olds news : List PortView) (at : ℕ) (result : Result (Unit {0}) Failed) (written : List ℕ) → StepAt olds news at (λ old new. IsWrite old new result written) → OnErr result (ForNameAt at olds (λ name. (count : ℕ) × (count ≤ length written) × WriteFailure name olds news [] ((name, take count written) ∷ [])))
 write_failed olds news at (Ok u) written s = tt
 write_failed olds news at (Err failed) written s = λ name e.
     let part = part_at olds news written at failed s in (
@@ -184,7 +183,7 @@ finish_flushed olds news at (Err failed) s = tt
 finish_flushed olds news at (Ok u) s = λ name e.
     of_first-step false (λ port. port.flushed) name olds news at (Finishes (Ok u)) (λ a b. b ≡ true) (λ old new is. ap (λ p. p.flushed) is.keeps) (λ old new is. ap (λ p. p.name) is.keeps) e s
 
-pub finish_failed : (olds news : List PortView) (at : ℕ) (result : Result (Unit {0}) Failed) → StepAt olds news at (λ old new. IsFinish old new result) → OnErr result (ForNameAt at olds (λ name. Failure (λ port. port.finish_faults) name olds news [] []))
+pub finish_failed : (olds news : List PortView) (at : ℕ) (result : Result (Unit {0}) Failed) → StepAt olds news at (λ old new. IsFinish old new result) → OnErr result (ForNameAt at olds (λ name. FinishFailure name olds news [] []))
 finish_failed olds news at (Ok u) s = tt
 finish_failed olds news at (Err failed) s = λ name e. record {
   same_names = finish_names olds news at (Err failed) s;

@@ -1,5 +1,5 @@
 -- Moves of each port by the bytes of its pairs: none, one after another, and those of one call.
-use Rattle.std.proofs.Common.{◌≡◌, ℕ, List, [], ◌∷◌, ◌++◌, refl, zero, suc, true, false, cond, Some, append-nil, subst, inl, inr}
+use Rattle.std.proofs.Common.{◌≡◌, ℕ, List, [], ◌∷◌, ◌++◌, refl, zero, suc, true, false, Some, append-nil, subst, inl, inr}
 use Rattle.std.specs.Str.{bytes_eq}
 use Rattle.std.proofs.lemmas.Bool.{cases_Bool}
 use Rattle.hume_ports.specs.Port.{PortView}
@@ -70,21 +70,21 @@ EachPort-same moves (old ∷ olds) (new ∷ news) ps qs same d =
     (subst P (same old.name) d.0, EachPort-same moves olds news (without old.name ps) (without old.name qs) (SameBytes-without old.name ps qs same) d.1)
 
 -- how the first port of a name moves
-pub EachPort-first : {X : Type 0} (default : X) (shown : PortView → X) (P : X → X → List ℕ → Type 0) → ((bytes : List ℕ) → P default default bytes) → (olds news : List PortView) (name : List ℕ) (pairs : Pairs) → names news ≡ names olds → EachPort (λ old new bytes. P (shown old) (shown new) bytes) olds news pairs → P (of_first default shown name olds) (of_first default shown name news) (bytes_for name pairs)
-EachPort-first default shown P nowhere [] [] name pairs same d = nowhere (bytes_for name pairs)
-EachPort-first default shown P nowhere [] (new ∷ news) name pairs same d = absurd d
-EachPort-first default shown P nowhere (old ∷ olds) [] name pairs same d = absurd d
-EachPort-first default shown P nowhere (old ∷ olds) (new ∷ news) name pairs same d =
+pub EachPort-first : {X : Type 0} (default : X) (fact : PortView → X) (P : X → X → List ℕ → Type 0) → ((bytes : List ℕ) → P default default bytes) → (olds news : List PortView) (name : List ℕ) (pairs : Pairs) → names news ≡ names olds → EachPort (λ old new bytes. P (fact old) (fact new) bytes) olds news pairs → P (of_first default fact name olds) (of_first default fact name news) (bytes_for name pairs)
+EachPort-first default fact P nowhere [] [] name pairs same d = nowhere (bytes_for name pairs)
+EachPort-first default fact P nowhere [] (new ∷ news) name pairs same d = absurd d
+EachPort-first default fact P nowhere (old ∷ olds) [] name pairs same d = absurd d
+EachPort-first default fact P nowhere (old ∷ olds) (new ∷ news) name pairs same d =
     let name-is : new.name ≡ old.name = cc in
     let tails : names news ≡ names olds = cc in
     elim (cases_Bool (bytes_eq old.name name)) [
       | inl here ↦
           let still : bytes_eq new.name name ≡ true = rw name-is here in
-          let Q : List ℕ → Type 0 = λ n. P (shown old) (shown new) (bytes_for n pairs) in
+          let Q : List ℕ → Type 0 = λ n. P (fact old) (fact new) (bytes_for n pairs) in
           rw (here, still) (subst Q (same_name old.name name here) d.0)
       | inr behind ↦
           let still : bytes_eq new.name name ≡ false = rw name-is behind in
-          let Q : List ℕ → Type 0 = λ bytes. P (of_first default shown name olds) (of_first default shown name news) bytes in
+          let Q : List ℕ → Type 0 = λ bytes. P (of_first default fact name olds) (of_first default fact name news) bytes in
           let rest : bytes_for name (without old.name pairs) ≡ bytes_for name pairs = rw (bytes_for-without name old.name pairs, bytes_eq-swap old.name name behind) refl in
-          rw (behind, still) (subst Q rest (EachPort-first default shown P nowhere olds news name (without old.name pairs) tails d.1))
+          rw (behind, still) (subst Q rest (EachPort-first default fact P nowhere olds news name (without old.name pairs) tails d.1))
     ]

@@ -1,5 +1,5 @@
 -- Reads of one port in turn, until a buffer is full or nothing is left.
-use Rattle.std.proofs.Common.{◌≡◌, ℕ, ◌<◌, ◌≤◌, ◌+◌, List, [], ◌∷◌, ◌++◌, take, length, length-append, length-take, append_assoc, append-nil, refl, arith, ap, sym, subst, ◌∙◌, true, false, cond, Option, Some, None, IfSome, Result, OnErr, inl, inr}
+use Rattle.std.proofs.Common.{◌≡◌, ℕ, ◌<◌, ◌≤◌, ◌+◌, List, [], ◌∷◌, ◌++◌, take, length, length-append, length-take, append_assoc, append-nil, refl, arith, ap, sym, subst, ◌∙◌, true, false, cond, Option, Some, None, IfSome, Result, inl, inr}
 use Rattle.std.proofs.Math.Seq.{take-length, take-append-add, take-append_seam}
 use Rattle.std.proofs.lemmas.Bool.{cases_lt}
 use Rattle.std.proofs.lemmas.List.{length-take-le, take-append-le, take_all}
@@ -7,9 +7,9 @@ use Rattle.std.specs.Str.{bytes_eq}
 use Rattle.std.specs.Io.KnownBytes.{Consumes, IsAtEnd}
 use Rattle.hume_ports.specs.declared.port.Failed.{Failed}
 use Rattle.hume_ports.specs.Port.{PortView, IsRead}
-use Rattle.hume_ports.specs.Ports.{StepAt, ForNameAt, Untouched, names, place_of, left_of}
-use Rattle.hume_ports.specs.Delivery.{Pairs, Progress, Failure, Roomy, bytes_for}
-use Rattle.hume_ports.proofs.Names.{bytes_for-one}
+use Rattle.hume_ports.specs.Ports.{StepAt, ForNameAt, Untouched, names, left_of}
+use Rattle.hume_ports.specs.Delivery.{Progress, ReadFailure, Roomy}
+use Rattle.hume_ports.proofs.Names.{bytes_for-one, place-kept}
 use Rattle.hume_ports.proofs.EachPort.{SameBytes}
 use Rattle.hume_ports.proofs.Untouched.{Untouched-start, Untouched-on}
 use Rattle.hume_ports.proofs.Progress.{Progress-start, Progress-on, Progress-same_taken, read_failure-on, Drawn-first}
@@ -36,10 +36,6 @@ HasRead-start ports at = record {
   roomy = λ r. r;
 }
 
--- the first port of the name is still at its place
-still_at : (olds mids : List PortView) (at : ℕ) (name : List ℕ) → names mids ≡ names olds → place_of name (names olds) ≡ Some at → place_of name (names mids) ≡ Some at
-still_at olds mids at name same e = ap (place_of name) same ∙ e
-
 -- what a read says of the list
 pub record OneRead (mids news : List PortView) (at : ℕ) (result : Result ℕ Failed) (buf : List ℕ) : Type 0 where
   pub step : StepAt mids news at (λ old new. IsRead old new result buf)
@@ -51,7 +47,7 @@ names_after olds mids news at taken result buf h r = r.same_names ∙ h.same_nam
 
 pub untouched_after : (olds mids news : List PortView) (at : ℕ) (taken : List ℕ) (result : Result ℕ Failed) (buf : List ℕ) → HasRead olds mids at taken → OneRead mids news at result buf → ForNameAt at olds (λ name. Untouched (name ∷ []) olds news)
 untouched_after olds mids news at taken result buf h r name e =
-    Untouched-on (name ∷ []) olds mids news (h.untouched name e) h.same_names (r.untouched name (still_at olds mids at name h.same_names e))
+    Untouched-on (name ∷ []) olds mids news (h.untouched name e) h.same_names (r.untouched name (place-kept olds mids at name h.same_names e))
 
 roomy_after : (mids news : List PortView) (at : ℕ) (result : Result ℕ Failed) (buf : List ℕ) → OneRead mids news at result buf → Roomy mids [] → Roomy news []
 roomy_after mids news at result buf r = Roomy-kept mids news at (λ old new. IsRead old new result buf) (λ old new is. (ap (λ p. p.room) is.keeps, ap (λ p. p.bytes) is.keeps)) r.step
@@ -60,7 +56,7 @@ pub HasRead-on : (olds mids news : List PortView) (at : ℕ) (x y : List ℕ) (r
 HasRead-on olds mids news at x y result buf h r taken = record {
   progress = λ name e.
       Progress-same_taken olds news ((name, x) ∷ (name, y) ∷ []) ((name, x ++ y) ∷ []) [] (joined_bytes name x y)
-      (Progress-on olds mids news ((name, x) ∷ []) ((name, y) ∷ []) [] [] (h.progress name e) (taken name (still_at olds mids at name h.same_names e)));
+      (Progress-on olds mids news ((name, x) ∷ []) ((name, y) ∷ []) [] [] (h.progress name e) (taken name (place-kept olds mids at name h.same_names e)));
   untouched = untouched_after olds mids news at x result buf h r;
   same_names = names_after olds mids news at x result buf h r;
   roomy = λ room. roomy_after mids news at result buf r (h.roomy room);
@@ -88,7 +84,7 @@ filled_within buf part rest filled count h g = simp (length-append, length-take)
 
 -- at the end nothing is left
 pub end_after : (olds mids news : List PortView) (at : ℕ) (taken : List ℕ) → HasRead olds mids at taken → ForNameAt at mids (λ name. IsAtEnd (left_of name news)) → ForNameAt at olds (λ name. IsAtEnd (left_of name news))
-end_after olds mids news at taken h end name e = end name (still_at olds mids at name h.same_names e)
+end_after olds mids news at taken h end name e = end name (place-kept olds mids at name h.same_names e)
 
 take_front : (buf more : List ℕ) (filled : ℕ) → filled ≤ length buf → take filled (take filled buf ++ more) ≡ take filled buf
 take_front buf more filled h =
@@ -96,11 +92,11 @@ take_front buf more filled h =
     subst P (length-take-le filled buf h) (take-append_seam (take filled buf) more)
 
 -- a failed read after others
-pub failed_after : (olds mids news : List PortView) (at : ℕ) (buf part rest : List ℕ) (filled : ℕ) → filled ≤ length buf → 0 < length part → HasRead olds mids at (take filled buf) → ForNameAt at mids (λ name. Failure (λ port. port.read_faults) name mids news [] []) → ForNameAt at olds (λ name. (count : ℕ) × (count < length (take filled buf ++ (part ++ rest))) × Failure (λ port. port.read_faults) name olds news ((name, take count (take filled buf ++ (part ++ rest))) ∷ []) [])
+pub failed_after : (olds mids news : List PortView) (at : ℕ) (buf part rest : List ℕ) (filled : ℕ) → filled ≤ length buf → 0 < length part → HasRead olds mids at (take filled buf) → ForNameAt at mids (λ name. ReadFailure name mids news [] []) → ForNameAt at olds (λ name. (count : ℕ) × (count < length (take filled buf ++ (part ++ rest))) × ReadFailure name olds news ((name, take count (take filled buf ++ (part ++ rest))) ∷ []) [])
 failed_after olds mids news at buf part rest filled h some p failed name e =
-    let P : List ℕ → Type 0 = λ bytes. Failure (λ port. port.read_faults) name olds news ((name, bytes) ∷ []) [] in
-    let whole : Failure (λ port. port.read_faults) name olds news ((name, take filled buf) ∷ []) [] =
-    read_failure-on name olds mids news ((name, take filled buf) ∷ []) [] [] [] (p.progress name e) (failed name (still_at olds mids at name p.same_names e)) in
+    let P : List ℕ → Type 0 = λ bytes. ReadFailure name olds news ((name, bytes) ∷ []) [] in
+    let whole : ReadFailure name olds news ((name, take filled buf) ∷ []) [] =
+    read_failure-on name olds mids news ((name, take filled buf) ∷ []) [] (p.progress name e) (failed name (place-kept olds mids at name p.same_names e)) in
     (filled, simp (length-append, length-take) (omega arith), subst P (sym (take_front buf (part ++ rest) filled h)) whole)
 
 -- what was read until the buffer was full or the bytes ended is the front of the bytes

@@ -1,10 +1,11 @@
 -- Names among names, and the bytes of the pairs with a name.
-use Rattle.std.proofs.Common.{◌≡◌, ◌||◌, ℕ, List, [], ◌∷◌, ◌++◌, Bool, true, false, cond, refl, sym, ◌∙◌, ap, subst, append_assoc, append-nil, inl, inr, Option, Some, None, zero, suc, arith}
+use Rattle.std.proofs.Common.{◌≡◌, ℕ, List, [], ◌∷◌, ◌++◌, Bool, true, false, cond, refl, sym, ◌∙◌, ap, subst, append_assoc, append-nil, inl, inr, Option, Some, None, suc, arith}
 use Rattle.std.specs.Option.{option_map}
 use Rattle.std.specs.Str.{bytes_eq}
-use Rattle.std.proofs.lemmas.Bool.{cases_Bool, or_parts, or_from, false_from_ne_true, both_ways}
+use Rattle.std.proofs.lemmas.Bool.{cases_Bool, false_from_ne_true, both_ways}
 use Rattle.std.proofs.lemmas.Slice.Eq.{bytes_eq-Decides}
-use Rattle.hume_ports.specs.Ports.{is_among, other_names}
+use Rattle.hume_ports.specs.Port.{PortView}
+use Rattle.hume_ports.specs.Ports.{names, place_of, is_among, other_names}
 use Rattle.hume_ports.specs.Delivery.{Pairs, bytes_for, without, names_in}
 
 pub same_name : (a b : List ℕ) → bytes_eq a b ≡ true → a ≡ b
@@ -33,11 +34,6 @@ pub place-suc : (b : Bool) (other : Option ℕ) (at : ℕ) → cond b (Some 0) (
 place-suc true other at e = grind arith
 place-suc false None at e = (refl, cc)
 place-suc false (Some i) at e = (refl, grind arith)
-
-pub is_among-append : (name : List ℕ) (xs ys : List (List ℕ)) → is_among name (xs ++ ys) ≡ (is_among name xs || is_among name ys)
-is_among-append name [] ys = refl
-is_among-append name (x ∷ xs) ys =
-    rw (is_among-append name xs ys) (elim (bytes_eq name x) as (λ b. (b || (is_among name xs || is_among name ys)) ≡ ((b || is_among name xs) || is_among name ys)) [ true ↦ refl | false ↦ refl ])
 
 pub is_among-other_names : (name other : List ℕ) (touched : List (List ℕ)) → is_among name (other_names other touched) ≡ cond (bytes_eq name other) false (is_among name touched)
 is_among-other_names name other [] = elim (bytes_eq name other) as (λ b. false ≡ cond b false false) [ true ↦ refl | false ↦ refl ]
@@ -82,6 +78,10 @@ bytes_for-without name other (pair ∷ pairs) =
         | inr differs ↦ rw differs refl
       ])
     ]
+
+-- the first port of a name stays at its place, since names do
+pub place-kept : (olds news : List PortView) (at : ℕ) (name : List ℕ) → names news ≡ names olds → place_of name (names olds) ≡ Some at → place_of name (names news) ≡ Some at
+place-kept olds news at name same e = ap (place_of name) same ∙ e
 
 -- the bytes of one pair, for its own name
 pub bytes_for-one : (name bytes : List ℕ) → bytes_for name ((name, bytes) ∷ []) ≡ bytes

@@ -1,13 +1,15 @@
 -- Calls in turn: while none has failed, and up to the first that has.
-use Rattle.std.proofs.Common.{◌≡◌, ◌||◌, ℕ, List, [], ◌∷◌, ◌++◌, map, refl, sym, ◌∙◌, ap, subst, true, false, None}
+use Rattle.std.proofs.Common.{◌≡◌, ◌||◌, ℕ, List, [], ◌++◌, map, refl, append-nil, sym, ◌∙◌, subst, false, None}
 use Rattle.std.specs.Io.KnownBytes.{Appends, Consumes}
 use Rattle.std.proofs.KnownBytes.{Appends-nil, Appends-trans, Consumes-nil, Consumes-trans}
+use Rattle.std.specs.Str.{bytes_eq}
 use Rattle.std.proofs.lemmas.Bool.{or_parts}
+use Rattle.std.proofs.lemmas.List.Folds.{list_any-append}
 use Rattle.hume_ports.specs.Port.{PortView, Rose}
-use Rattle.hume_ports.specs.Ports.{StepAt, names, is_among, of_first, left_of, bytes_of}
-use Rattle.hume_ports.specs.Delivery.{Pairs, Delivered, Drawn, SameFaults, StaysFlushed, Progress, Failure, names_in, bytes_for}
-use Rattle.hume_ports.proofs.Names.{is_among-append, names_in-append}
-use Rattle.hume_ports.proofs.Steps.{step_same, of_first-same}
+use Rattle.hume_ports.specs.Ports.{names, is_among, of_first, left_of, bytes_of}
+use Rattle.hume_ports.specs.Delivery.{Pairs, Delivered, Drawn, StaysFlushed, Progress, Failure, ReadFailure, WriteFailure, FinishFailure, names_in, bytes_for}
+use Rattle.hume_ports.proofs.Names.{names_in-append}
+use Rattle.hume_ports.proofs.Steps.{of_first-same}
 use Rattle.hume_ports.proofs.EachPort.{Stays, Joins, SameBytes, EachPort-nothing, EachPort-on, EachPort-same, EachPort-first}
 
 abbrev pub appending : PortView → PortView → List ℕ → Type 0
@@ -51,7 +53,7 @@ Drawn-first olds news name pairs same d = EachPort-first None (λ port. port.lef
 pub StaysFlushed-on : (olds mids news : List PortView) (ps qs : Pairs) → StaysFlushed olds mids ps → StaysFlushed mids news qs → StaysFlushed olds news (ps ++ qs)
 StaysFlushed-on olds mids news ps qs p q name out before =
     let split : is_among name (names_in (ps ++ qs)) ≡ (is_among name (names_in ps) || is_among name (names_in qs)) =
-    rw (names_in-append ps qs) (is_among-append name (names_in ps) (names_in qs)) in
+    rw (names_in-append ps qs) (list_any-append (bytes_eq name) (names_in ps) (names_in qs)) in
     let neither = or_parts (is_among name (names_in ps)) (is_among name (names_in qs)) (sym split ∙ out) in
     q name neither.1 (p name neither.0 before)
 
@@ -78,6 +80,24 @@ Progress-on olds mids news ts us ps qs p q = record {
   delivered = Delivered-on olds mids news ps qs p.delivered p.same_names q.delivered;
   flushed = StaysFlushed-on olds mids news ps qs p.flushed q.flushed;
 }
+
+-- and then more is taken
+pub Progress-taken : (olds mids news : List PortView) (ts us ps : Pairs) → Progress olds mids ts ps → Progress mids news us [] → Progress olds news (ts ++ us) ps
+Progress-taken olds mids news ts us ps p q =
+    let P : Pairs → Type 0 = λ pairs. Progress olds news (ts ++ us) pairs in
+    subst P (append-nil ps) (Progress-on olds mids news ts us ps [] p q)
+
+-- and then more is given
+pub Progress-given : (olds mids news : List PortView) (ts ps qs : Pairs) → Progress olds mids ts ps → Progress mids news [] qs → Progress olds news ts (ps ++ qs)
+Progress-given olds mids news ts ps qs p q =
+    let P : Pairs → Type 0 = λ pairs. Progress olds news pairs (ps ++ qs) in
+    subst P (append-nil ts) (Progress-on olds mids news ts [] ps qs p q)
+
+-- and then no byte goes either way
+pub Progress-quiet : (olds mids news : List PortView) (ts ps : Pairs) → Progress olds mids ts ps → Progress mids news [] [] → Progress olds news ts ps
+Progress-quiet olds mids news ts ps p q =
+    let P : Pairs → Type 0 = λ pairs. Progress olds news ts pairs in
+    subst P (append-nil ps) (Progress-given olds mids news ts ps [] p q)
 
 -- of what was taken only the bytes for each name count
 pub Progress-same_taken : (olds news : List PortView) (ts us ps : Pairs) → SameBytes ts us → Progress olds news ts ps → Progress olds news us ps
@@ -112,11 +132,28 @@ Failure-on count name olds mids news ts us ps qs p kept f =
       delivered = Delivered-on olds mids news ps qs p.delivered p.same_names f.delivered;
     }
 
-pub read_failure-on : (name : List ℕ) (olds mids news : List PortView) (ts us ps qs : Pairs) → Progress olds mids ts ps → Failure (λ port. port.read_faults) name mids news us qs → Failure (λ port. port.read_faults) name olds news (ts ++ us) (ps ++ qs)
-read_failure-on name olds mids news ts us ps qs p f = Failure-on (λ port. port.read_faults) name olds mids news ts us ps qs p p.same_faults.reads f
+-- a failed fill, which has taken a part
+pub fill_failure-on : (name : List ℕ) (olds mids news : List PortView) (ts us ps : Pairs) → Progress olds mids ts ps → ReadFailure name mids news us [] → ReadFailure name olds news (ts ++ us) ps
+fill_failure-on name olds mids news ts us ps p f =
+    let P : Pairs → Type 0 = λ pairs. ReadFailure name olds news (ts ++ us) pairs in
+    subst P (append-nil ps) (Failure-on (λ port. port.read_faults) name olds mids news ts us ps [] p p.same_faults.reads f)
 
-pub write_failure-on : (name : List ℕ) (olds mids news : List PortView) (ts us ps qs : Pairs) → Progress olds mids ts ps → Failure (λ port. port.write_faults) name mids news us qs → Failure (λ port. port.write_faults) name olds news (ts ++ us) (ps ++ qs)
-write_failure-on name olds mids news ts us ps qs p f = Failure-on (λ port. port.write_faults) name olds mids news ts us ps qs p p.same_faults.writes f
+-- a failed read
+pub read_failure-on : (name : List ℕ) (olds mids news : List PortView) (ts ps : Pairs) → Progress olds mids ts ps → ReadFailure name mids news [] [] → ReadFailure name olds news ts ps
+read_failure-on name olds mids news ts ps p f =
+    let P : Pairs → Type 0 = λ pairs. ReadFailure name olds news pairs ps in
+    subst P (append-nil ts) (fill_failure-on name olds mids news ts [] ps p f)
 
-pub finish_failure-on : (name : List ℕ) (olds mids news : List PortView) (ts us ps qs : Pairs) → Progress olds mids ts ps → Failure (λ port. port.finish_faults) name mids news us qs → Failure (λ port. port.finish_faults) name olds news (ts ++ us) (ps ++ qs)
-finish_failure-on name olds mids news ts us ps qs p f = Failure-on (λ port. port.finish_faults) name olds mids news ts us ps qs p p.same_faults.finishes f
+-- a failed write, which has given a part
+pub write_failure-on : (name : List ℕ) (olds mids news : List PortView) (ts ps qs : Pairs) → Progress olds mids ts ps → WriteFailure name mids news [] qs → WriteFailure name olds news ts (ps ++ qs)
+write_failure-on name olds mids news ts ps qs p f =
+    let P : Pairs → Type 0 = λ pairs. WriteFailure name olds news pairs (ps ++ qs) in
+    subst P (append-nil ts) (Failure-on (λ port. port.write_faults) name olds mids news ts [] ps qs p p.same_faults.writes f)
+
+-- a failed finish
+pub finish_failure-on : (name : List ℕ) (olds mids news : List PortView) (ts ps : Pairs) → Progress olds mids ts ps → FinishFailure name mids news [] [] → FinishFailure name olds news ts ps
+finish_failure-on name olds mids news ts ps p f =
+    let Q : Pairs → Type 0 = λ pairs. FinishFailure name olds news ts pairs in
+    let whole : FinishFailure name olds news (ts ++ []) (ps ++ []) = Failure-on (λ port. port.finish_faults) name olds mids news ts [] ps [] p p.same_faults.finishes f in
+    let R : Pairs → Type 0 = λ pairs. FinishFailure name olds news pairs (ps ++ []) in
+    subst Q (append-nil ps) (subst R (append-nil ts) whole)

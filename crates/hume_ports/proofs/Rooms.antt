@@ -1,5 +1,5 @@
 -- Where there is room no call fails, and what is delivered leaves room for the rest.
-use Rattle.std.proofs.Common.{rules, ◌≡◌, ℕ, ◌<◌, ◌≤◌, ◌+◌, List, [], ◌∷◌, ◌++◌, map, refl, arith, zero, suc, Option, Some, None, append-nil, length-append, Result, length, IfSome, IsOk, IsSome, OnErr, ◌↔◌, ap, sym, ◌∙◌, subst}
+use Rattle.std.proofs.Common.{rules, ◌≡◌, ℕ, ◌≤◌, ◌+◌, List, [], ◌∷◌, ◌++◌, map, refl, arith, zero, suc, Option, Some, None, append-nil, length-append, Result, length, IfSome, IsOk, IsSome, OnErr, ◌↔◌, ap, sym, ◌∙◌, subst}
 use Rattle.std.specs.Str.{bytes_eq}
 use Rattle.std.specs.Io.KnownBytes.{Appends}
 use Rattle.hume_ports.specs.declared.port.Failed.{Failed}

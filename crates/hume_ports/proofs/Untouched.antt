@@ -1,10 +1,10 @@
 -- Which ports are exactly as before.
-use Rattle.std.proofs.Common.{◌≡◌, ◌||◌, ℕ, List, [], ◌∷◌, refl, sym, ◌∙◌, zero, suc, true, false, cond, Some, subst, inl, inr}
+use Rattle.std.proofs.Common.{◌≡◌, ℕ, List, [], ◌∷◌, refl, sym, ◌∙◌, zero, suc, true, false, Some, subst, inl, inr}
 use Rattle.std.specs.Str.{bytes_eq}
 use Rattle.std.proofs.lemmas.Bool.{cases_Bool, both_ways, true≢false}
 use Rattle.hume_ports.specs.Port.{PortView}
 use Rattle.hume_ports.specs.Ports.{StepAt, Untouched, is_among, other_names, names, place_of, of_first}
-use Rattle.hume_ports.proofs.Names.{place-zero, place-suc, is_among-other_names, same_name, bytes_eq-swap, bytes_eq-self}
+use Rattle.hume_ports.proofs.Names.{place-zero, place-suc, is_among-other_names, same_name, bytes_eq-swap}
 
 pub Untouched-start : (touched : List (List ℕ)) (ports : List PortView) → Untouched touched ports ports
 Untouched-start touched [] = tt
@@ -69,12 +69,12 @@ Within-one name many is other out =
 pub Untouched-among : (olds news : List PortView) (name : List ℕ) (many : List (List ℕ)) → is_among name many ≡ true → Untouched (name ∷ []) olds news → Untouched many olds news
 Untouched-among olds news name many is u = Untouched-more (name ∷ []) many olds news (Within-one name many is) u
 
--- the first port of any other name shows what it showed
-pub of_first-untouched : {X : Type 0} (default : X) (shown : PortView → X) (name : List ℕ) (touched : List (List ℕ)) (olds news : List PortView) → is_among name touched ≡ false → names news ≡ names olds → Untouched touched olds news → of_first default shown name news ≡ of_first default shown name olds
-of_first-untouched default shown name touched [] [] out same u = refl
-of_first-untouched default shown name touched [] (new ∷ news) out same u = absurd u
-of_first-untouched default shown name touched (old ∷ olds) [] out same u = absurd u
-of_first-untouched default shown name touched (old ∷ olds) (new ∷ news) out same u =
+-- the first port of any other name is as it was
+pub of_first-untouched : {X : Type 0} (default : X) (fact : PortView → X) (name : List ℕ) (touched : List (List ℕ)) (olds news : List PortView) → is_among name touched ≡ false → names news ≡ names olds → Untouched touched olds news → of_first default fact name news ≡ of_first default fact name olds
+of_first-untouched default fact name touched [] [] out same u = refl
+of_first-untouched default fact name touched [] (new ∷ news) out same u = absurd u
+of_first-untouched default fact name touched (old ∷ olds) [] out same u = absurd u
+of_first-untouched default fact name touched (old ∷ olds) (new ∷ news) out same u =
     let name-is : new.name ≡ old.name = cc in
     let tails : names news ≡ names olds = cc in
     elim (cases_Bool (bytes_eq old.name name)) [
@@ -84,5 +84,5 @@ of_first-untouched default shown name touched (old ∷ olds) (new ∷ news) out 
       | inr behind ↦
           let still : bytes_eq new.name name ≡ false = rw name-is behind in
           let rest : is_among name (other_names old.name touched) ≡ false = rw (is_among-other_names name old.name touched, bytes_eq-swap old.name name behind) out in
-          rw (behind, still) (of_first-untouched default shown name (other_names old.name touched) olds news rest tails u.1)
+          rw (behind, still) (of_first-untouched default fact name (other_names old.name touched) olds news rest tails u.1)
     ]

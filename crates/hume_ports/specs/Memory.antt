@@ -13,11 +13,15 @@ abbrev pub listed : ℕ → List Fail → Option ℕ
 listed call [] = None
 listed call (first ∷ others) = if first.call == call then Some first.taken else listed call others
 
--- how many calls were made, how many bytes a read gives at most, how many bytes go in in all, and which calls fail
+-- what decides how the calls of a port in memory go
 pub record Script : Type 0 where
+  -- how many calls were made
   pub calls : ℕ
+  -- how many bytes a read gives at most
   pub piece : ℕ
+  -- how many bytes may be written in all
   pub room : ℕ
+  -- which calls fail
   pub failing : List Fail
 
 -- one call more was made
@@ -33,6 +37,6 @@ abbrev pub let_through : Option ℕ → List ℕ → List ℕ
 let_through None bytes = bytes
 let_through (Some taken) bytes = take taken bytes
 
--- the front of its bytes that the last write appends to the output: those that are let through, as far as they fit
+-- what the last write appends to the output: the bytes that are let through, as far as they fit
 abbrev pub accepted : Script → List ℕ → List ℕ → List ℕ
 accepted script output bytes = take (script.room - length output) (let_through (due script) bytes)

@@ -26,7 +26,7 @@ memory_view port = record {
   shown = true;
 }
 
--- what decides how its calls go
+-- how its calls go
 abbrev pub script_of : MemPort → Script
 script_of port = record {
   calls = port.calls;

@@ -6,18 +6,21 @@ use Rattle.std.specs.Io.{ReadsAtMost}
 use Rattle.std.specs.Io.KnownBytes.{Appends, ReadConsumes}
 use Rattle.hume_ports.specs.declared.port.Failed.{Failed}
 
--- A port's name; the bytes left to read and those written so far, where it tells them; how often its reads, its
--- writes and its finishes have failed; how many bytes may be written to it in all, where it tells that; whether
--- all that was written is out; and whether `written` shows it.
+-- what a port means
 pub record PortView : Type 0 where
   pub name : List ℕ
+  -- the bytes left to read and those written so far, where the port tells them
   pub left : Option (List ℕ)
   pub bytes : Option (List ℕ)
+  -- how often a read, a write and a finish of it has failed
   pub read_faults : ℕ
   pub write_faults : ℕ
   pub finish_faults : ℕ
+  -- how many bytes may be written in all, where the port tells it
   pub room : Option ℕ
+  -- whether all that was written is out
   pub flushed : Bool
+  -- whether `written` shows the bytes written
   pub shown : Bool
 
 -- the last value of a count, at which it stays
@@ -42,18 +45,19 @@ pub record CountsFault {T E : Type 0} (before now : ℕ) (result : Result T E) :
 -- Known bytes are followed by all of the written ones at Ok, and by a front of them at Err.
 abbrev pub WriteAppends : {T E : Type 0} → Option (List ℕ) → Option (List ℕ) → Result T E → List ℕ → Type 0
 WriteAppends before now result written =
-    (count : ℕ) × (count ≤ length written) × Appends before now (take count written) × OnOk result (count ≡ length written)
+    (count : ℕ) × (count ≤ length written) × Appends before now (take count written)
+    × OnOk result (count ≡ length written)
 
--- Where the room and the bytes are told, a write fails exactly where there would be more bytes than the room, and
--- then leaves exactly as many bytes as the room.
+-- Where the room and the bytes are told, a write fails exactly where there would be more bytes than the room,
+-- and then leaves exactly as many bytes as the room.
 abbrev pub FailsByRoom : {T E : Type 0} → PortView → PortView → Result T E → List ℕ → Type 0
 FailsByRoom old new result written =
     IfSome old.room (λ room. IfSome old.bytes (λ bytes.
     (IsOk result ↔ (length bytes + length written ≤ room))
     × OnErr result (IfSome new.bytes (λ after. length after ≡ room))))
 
--- A read: Ok(n) moves the next n bytes that are left into the front of the buffer, none only at the end. Failed takes
--- nothing, and never comes from a port that tells its room.
+-- A read: Ok(n) moves the next n bytes that are left into the front of the buffer, none only at the end. Failed
+-- takes nothing, and never comes from a port that tells its room.
 pub record IsRead (old new : PortView) (result : Result ℕ Failed) (buf : List ℕ) : Type 0 where
   pub bound : ReadsAtMost result buf
   pub bytes : ReadConsumes old.left new.left result buf

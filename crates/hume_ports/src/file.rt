@@ -1,6 +1,6 @@
 ghost use Rattle.std.specs.Prelude.{◌≡◌, IfOk, string_bytes};
 ghost use Rattle.std.specs.Io.{ReadsAtMost};
-ghost use Rattle.hume_ports.specs.Port.{PortView, untold};
+ghost use Rattle.hume_ports.specs.Port.{untold};
 
 use crate::port::raise;
 use crate::transfer::{flush, read_once, write_whole};
@@ -9,8 +9,8 @@ use std::alloc::{AllocError, Global};
 use std::fs;
 use std::rt::Files;
 
-/// The file of a name. The first read opens it, and the first write creates or empties it, as does a finish before
-/// which nothing was read or written.
+/// The file of a name. The first read opens it, and the first write creates or empties it, as does a finish
+/// before which nothing was read or written. It tells neither its bytes nor a room.
 #[derive(Drop)]
 pub struct FilePort<R: Files + Clone + Drop> {
     rt: R,

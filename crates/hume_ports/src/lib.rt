@@ -1,4 +1,4 @@
-//! The outside as the tool sees it: named ports that are read, written and finished, and calls on a list of them.
+//! The outside as the tool sees it: named ports that are read, written and finished, and calls on lists of them.
 #![tactic(auto)]
 
 mod file;

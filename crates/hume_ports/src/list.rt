@@ -3,7 +3,7 @@ ghost use Rattle.std.specs.Io.{ReadsAtMost};
 ghost use Rattle.std.specs.Io.KnownBytes.{IsAtEnd};
 ghost use Rattle.hume_ports.specs.Port.{IsRead, IsWrite, IsFinish};
 ghost use Rattle.hume_ports.specs.Ports.{names, ForNameAt, StepAt, Untouched, left_of, flushed_of};
-ghost use Rattle.hume_ports.specs.Delivery.{Progress, Failure, Roomy};
+ghost use Rattle.hume_ports.specs.Delivery.{Progress, ReadFailure, WriteFailure, FinishFailure, Roomy};
 
 use crate::{Failed, Port};
 
@@ -11,7 +11,8 @@ use crate::{Failed, Port};
 pub fn read_at(ports: &mut [Box<dyn Port>], at: usize, buf: &mut [u8]) -> Result<usize, Failed>
     requires place { at < length ports.old }
     requires room { 0 < length buf.old }
-    ensures step { StepAt (map view ports.old) (map view ports.new) at (λ old new. IsRead old new result buf.new) }
+    ensures step { StepAt (map view ports.old) (map view ports.new) at (λ old new.
+        IsRead old new result buf.new) }
     ensures bound { ReadsAtMost result buf.new }
 
     ensures taken { IfOk result (λ count. ForNameAt at (map view ports.old) (λ name.
@@ -19,7 +20,7 @@ pub fn read_at(ports: &mut [Box<dyn Port>], at: usize, buf: &mut [u8]) -> Result
     ensures end { IfOk result (λ count. count ≡ 0 → ForNameAt at (map view ports.old) (λ name.
         IsAtEnd (left_of name (map view ports.new)))) }
     ensures failed { OnErr result (ForNameAt at (map view ports.old) (λ name.
-        Failure (λ port. port.read_faults) name (map view ports.old) (map view ports.new) [] [])) }
+        ReadFailure name (map view ports.old) (map view ports.new) [] [])) }
     ensures roomy { Roomy (map view ports.old) [] → IsOk result }
 
     ensures same_names { names (map view ports.new) ≡ names (map view ports.old) }
@@ -40,8 +41,9 @@ pub fn fill_at(ports: &mut [Box<dyn Port>], at: usize, buf: &mut [u8]) -> Result
         IfSome (left_of name (map view ports.old)) (λ left. take count buf.new ≡ take (length buf.new) left))) }
     ensures end { IfOk result (λ count. count < length buf.new → ForNameAt at (map view ports.old) (λ name.
         IsAtEnd (left_of name (map view ports.new)))) }
-    ensures failed { OnErr result (ForNameAt at (map view ports.old) (λ name. (count : ℕ) × (count < length buf.new)
-        × Failure (λ port. port.read_faults) name (map view ports.old) (map view ports.new) ((name, take count buf.new) ∷ []) [])) }
+    ensures failed { OnErr result (ForNameAt at (map view ports.old) (λ name.
+        (count : ℕ) × (count < length buf.new) × ReadFailure name
+        (map view ports.old) (map view ports.new) ((name, take count buf.new) ∷ []) [])) }
     ensures roomy { Roomy (map view ports.old) [] → IsOk result }
 
     ensures same_names { names (map view ports.new) ≡ names (map view ports.old) }
@@ -62,12 +64,14 @@ pub fn fill_at(ports: &mut [Box<dyn Port>], at: usize, buf: &mut [u8]) -> Result
 /// Writes to the port at that place.
 pub fn write_at(ports: &mut [Box<dyn Port>], at: usize, bytes: &[u8]) -> Result<(), Failed>
     requires { at < length ports.old }
-    ensures step { StepAt (map view ports.old) (map view ports.new) at (λ old new. IsWrite old new result bytes.now) }
+    ensures step { StepAt (map view ports.old) (map view ports.new) at (λ old new.
+        IsWrite old new result bytes.now) }
 
     ensures given { OnOk result (ForNameAt at (map view ports.old) (λ name.
         Progress (map view ports.old) (map view ports.new) [] ((name, bytes.now) ∷ []))) }
-    ensures failed { OnErr result (ForNameAt at (map view ports.old) (λ name. (count : ℕ) × (count ≤ length bytes.now)
-        × Failure (λ port. port.write_faults) name (map view ports.old) (map view ports.new) [] ((name, take count bytes.now) ∷ []))) }
+    ensures failed { OnErr result (ForNameAt at (map view ports.old) (λ name.
+        (count : ℕ) × (count ≤ length bytes.now) × WriteFailure name
+        (map view ports.old) (map view ports.new) [] ((name, take count bytes.now) ∷ []))) }
     ensures roomy { ForNameAt at (map view ports.old) (λ name.
         Roomy (map view ports.old) ((name, bytes.now) ∷ []) → IsOk result) }
 
@@ -81,13 +85,14 @@ pub fn write_at(ports: &mut [Box<dyn Port>], at: usize, bytes: &[u8]) -> Result<
 /// Finishes the port at that place.
 pub fn finish_at(ports: &mut [Box<dyn Port>], at: usize) -> Result<(), Failed>
     requires { at < length ports.old }
-    ensures step { StepAt (map view ports.old) (map view ports.new) at (λ old new. IsFinish old new result) }
+    ensures step { StepAt (map view ports.old) (map view ports.new) at (λ old new.
+        IsFinish old new result) }
 
-    ensures quiet { OnOk result (Progress (map view ports.old) (map view ports.new) [] []) }
+    ensures finished { OnOk result (Progress (map view ports.old) (map view ports.new) [] []) }
     ensures flushed { OnOk result (ForNameAt at (map view ports.old) (λ name.
         flushed_of name (map view ports.new) ≡ true)) }
     ensures failed { OnErr result (ForNameAt at (map view ports.old) (λ name.
-        Failure (λ port. port.finish_faults) name (map view ports.old) (map view ports.new) [] [])) }
+        FinishFailure name (map view ports.old) (map view ports.new) [] [])) }
     ensures roomy { Roomy (map view ports.old) [] → IsOk result }
 
     ensures same_names { names (map view ports.new) ≡ names (map view ports.old) }

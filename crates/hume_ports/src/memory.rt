@@ -1,14 +1,14 @@
-ghost use Rattle.std.specs.Prelude.{◌≡◌, ◌<◌, ◌≤◌, ◌+◌, ◌-◌, ◌++◌, ◌↔◌, min, [], length, drop, take, Some, None, true, false, IfOk, IfSome, IsNone, IsOk, string_bytes, vec_len, vec_capacity};
-ghost use Rattle.hume_ports.specs.Port.{PortView, IsRead, IsWrite, IsFinish, next_count};
+ghost use Rattle.std.specs.Prelude.{◌≡◌, ◌<◌, ◌≤◌, ◌+◌, ◌++◌, ◌↔◌, min, [], length, take, true, false, IfOk, IsNone, IsOk, vec_len, vec_capacity};
+ghost use Rattle.hume_ports.specs.Port.{IsRead, IsWrite, IsFinish, next_count};
 ghost use Rattle.hume_ports.specs.Memory.{told_room, listed, counted, due, accepted};
 
 use crate::port::raise;
 use crate::{Failed, Port};
 use std::alloc::{AllocError, Global};
 
-/// That a call fails: its number, where reads, writes and finishes are counted together from 1, and how many bytes
-/// a write takes before it does.
-#[derive(Clone, Copy, Debug, PartialEq, Eq)]
+/// That a call fails: its number, where reads, writes and finishes are counted together from 1, and how many
+/// bytes a write takes before it does.
+#[derive(Clone, Copy)]
 pub struct Fail {
     pub call: u32,
     pub taken: u32,
@@ -38,8 +38,8 @@ pub struct MemPort {
 impl MemPort {
     ghost use Rattle.hume_ports.specs.MemoryPort.{memory_view, script_of, left_bytes, output_bytes};
 
-    /// A port with these bytes to read, at most `piece` at a call, and with room for `room` bytes, for which all
-    /// memory is taken here.
+    /// A port with these bytes to read, at most `piece` at a call, and with room for `room` bytes. All memory is
+    /// taken here.
     pub fn make(
         alloc: Global,
         name: &str,

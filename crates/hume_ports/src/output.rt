@@ -1,5 +1,5 @@
-ghost use Rattle.std.specs.Prelude.{◌≡◌, IfOk, string_bytes};
-ghost use Rattle.hume_ports.specs.Port.{PortView, untold};
+ghost use Rattle.std.specs.Prelude.{◌≡◌, Ok, IfOk, string_bytes};
+ghost use Rattle.hume_ports.specs.Port.{IsRead, untold};
 
 use crate::port::raise;
 use crate::transfer::write_whole;
@@ -41,7 +41,11 @@ impl<R: Print + Clone + Drop> Port for StdOut<R> {
         self.name.as_str()
     }
 
-    fn read(&mut self, _buf: &mut [u8]) -> Result<usize, Failed> {
+    fn read(&mut self, buf: &mut [u8]) -> Result<usize, Failed>
+        ensures port { IsRead (⟦<StdOut<R> as Port>⟧.view self.old)
+          (⟦<StdOut<R> as Port>⟧.view self.new) result buf.new }
+        ensures nothing { result ≡ Ok 0 }
+    {
         Ok(0)
     }
 

@@ -1,9 +1,9 @@
-ghost use Rattle.std.specs.Prelude.{◌≡◌, ◌<◌, ◌≤◌, length, Some, IfSome};
+ghost use Rattle.std.specs.Prelude.{◌≡◌, ◌<◌, ◌≤◌, length, IfSome};
 ghost use Rattle.std.specs.Option.{is_some};
 ghost use Rattle.hume_ports.specs.Port.{PortView, IsRead, IsWrite, IsFinish, last_count, next_count};
 
 /// A call of a port has failed, as its count says.
-#[derive(Clone, Copy, Debug, PartialEq, Eq)]
+#[derive(Clone, Copy, Debug, PartialEq)]
 pub struct Failed;
 
 /// Something outside with a name, from which bytes come or to which they go.
@@ -25,7 +25,7 @@ pub trait Port: Drop {
     fn finish(&mut self) -> Result<(), Failed>
         ensures { IsFinish (view self.old) (view self.new) result };
 
-    /// The bytes written so far, where the port is shown. A port may tell them in its contract and yet not be shown.
+    /// The bytes written so far, where the port is shown. One that isn't may yet tell them in its contract.
     fn written(&self) -> Option<&[u8]>
         ensures shown { is_some result ≡ (view self.now).shown }
         ensures bytes { IfSome result (λ bytes. (view self.now).bytes ≡ Some bytes.now) };

@@ -1,4 +1,4 @@
-ghost use Rattle.std.specs.Prelude.{◌≡◌, IfOk, OnErr, take};
+ghost use Rattle.std.specs.Prelude.{IfOk, OnErr, take};
 ghost use Rattle.std.specs.Io.{ReadsAtMost, WritesAtMost};
 ghost use Rattle.std.specs.Io.KnownBytes.{Appends, Keeps, ReadConsumes};
 ghost use Rattle.hume_ports.specs.Port.{WriteAppends};
@@ -39,7 +39,8 @@ pub(crate) fn write_whole<F: Write>(file: &mut F, bytes: &[u8]) -> Result<(), Fa
 // Writes again where a signal came in between.
 fn write_once<F: Write>(file: &mut F, bytes: &[u8]) -> Result<usize, Failed>
     ensures bound { WritesAtMost result bytes.now }
-    ensures ok { IfOk result (λ count. Appends (F.contents file.old) (F.contents file.new) (take count bytes.now)) }
+    ensures ok { IfOk result (λ count.
+        Appends (F.contents file.old) (F.contents file.new) (take count bytes.now)) }
     ensures err { OnErr result (Keeps (F.contents file.old) (F.contents file.new)) }
 {
     for _ in 0..u64::MAX {

@@ -6,8 +6,8 @@ use Rattle.hume_ports.proofs.list.finish_at.Goals as goal
 pub returns-clause-step : goal.returns-clause-step
 returns-clause-step g c = step_at _ _ _ _ _ _ c.requires c.finish_of.ensures
 
-pub returns-clause-quiet : goal.returns-clause-quiet
-returns-clause-quiet g c = finish_quiet _ _ _ _ (returns-clause-step g c)
+pub returns-clause-finished : goal.returns-clause-finished
+returns-clause-finished g c = finish_quiet _ _ _ _ (returns-clause-step g c)
 
 pub returns-clause-flushed : goal.returns-clause-flushed
 returns-clause-flushed g c = finish_flushed _ _ _ _ (returns-clause-step g c)
