@@ -7,3 +7,4 @@ pub mod Found
 pub mod Fronts
 pub mod Readings
 pub mod Unique
+pub mod Places

@@ -1,6 +1,7 @@
 -- A reading grows by the piece that the scan finds.
 use Rattle.std.proofs.Common.{◌≡◌, ◌≢◌, ℕ, ◌+◌, ◌-◌, ◌<◌, ◌≤◌, List, [], ◌∷◌, ◌++◌, length, drop, Option, Some, None, refl, sym, ap, ◌∙◌, subst, ◌⊎◌, inl, inr, arith, length-append, append_assoc, append-nil}
-use Rattle.std.specs.List.{AllByRecursion}
+use Rattle.std.specs.Prelude.{All}
+use Rattle.std.proofs.lemmas.List.Elements.{All-append, All-nil, All-from_recursion}
 use Rattle.std.specs.Borrow.{Bor}
 use Rattle.hume_base.specs.declared.limits.TheConstants.{MAX_TOKENS}
 use Rattle.hume_base.specs.declared.keyword.Keyword.{Keyword}
@@ -81,11 +82,9 @@ small_scan told n None text shows e = (shows, e)
 small_scan told n (Some word) text shows e = (shows, e)
 
 pub limits_push : (ts : List Token) (place : ℕ) (k : Kind) → AreWithinLimits ts → length ts < MAX_TOKENS → IsTaken k → AreWithinLimits (ts ++ put place k ∷ [])
-limits_push ts place k h room t = (omega (arith, length-append ts (put place k ∷ [])), all ts h.1)
-  where
-    all : (us : List Token) → AllByRecursion (λ token. IsTaken token.kind) us → AllByRecursion (λ token. IsTaken token.kind) (us ++ put place k ∷ [])
-    all [] g = (t, tt)
-    all (u ∷ us) g = (g.0, all us g.1)
+limits_push ts place k h room t =
+    (omega (arith, length-append ts (put place k ∷ [])),
+     All-append (λ token. IsTaken token.kind) ts (put place k ∷ []) h.1 (All-from_recursion (λ token. IsTaken token.kind) (put place k ∷ []) (t, tt)))
 
 -- the state of the loop: the source is read so far, within the limits
 pub record SoFar (source rest : List ℕ) (ts : List Token) : Type 0 where
@@ -94,7 +93,7 @@ pub record SoFar (source rest : List ℕ) (ts : List Token) : Type 0 where
   pub limits : AreWithinLimits ts
 
 pub begins : (source : List ℕ) → SoFar source source []
-begins source = record { reads = nothing_read source; within = omega arith; limits = (omega arith, tt) }
+begins source = record { reads = nothing_read source; within = omega arith; limits = (omega arith, All-nil (λ token. IsTaken token.kind)) }
 
 module _ (source rest : List ℕ) (ts : List Token) (so_far : SoFar source rest ts) where
   reached : Reaches source (length source - length rest) ts rest

@@ -1,6 +1,7 @@
 -- A source has one cut into pieces, and so one answer.
 use Rattle.std.proofs.Common.{◌≡◌, ◌≢◌, ℕ, ◌+◌, ◌<◌, ◌≤◌, ◌^◌, List, [], ◌∷◌, ◌++◌, length, Option, Some, None, Result, Ok, Err, refl, sym, ap, ◌∙◌, subst, ◌⊎◌, inl, inr, arith, length-append, append_assoc}
 use Rattle.std.specs.List.{AllByRecursion}
+use Rattle.std.proofs.lemmas.List.Elements.{recursion_from_All}
 use Rattle.hume_base.specs.declared.limits.TheConstants.{MAX_TOKENS, MAX_NAME_BYTES}
 use Rattle.hume_base.specs.declared.token.Kind.{Kind}
 use Rattle.hume_base.specs.declared.token.Kind.TheVariants as kind
@@ -44,7 +45,7 @@ same_piece p q as_ bs hp hq lp lq e = elim (split_front (bytes_of p) (bytes_of q
   ]
 ]
 
-piece_some : (p : Piece) → IsPiece p → 0 < length (bytes_of p)
+pub piece_some : (p : Piece) → IsPiece p → 0 < length (bytes_of p)
 piece_some p h = (first_found (bytes_of p) p (piece_alone p h)).some
 
 -- of two cuts the second goes on where the first ends
@@ -93,7 +94,8 @@ next_allowed ps (token k bs) more h =
     let place = 0 + length (source_of ps) in
     let after = tokens_at (0 + length (source_of ps) + length bs) more in
     let whole = subst AreWithinLimits (tokens_at-append 0 ps (token k bs ∷ more)) h in
-    (in_middle (tokens_at 0 ps) (put (0 + length (source_of ps)) k) (tokens_at (0 + length (source_of ps) + length bs) more) whole.1,
+    (in_middle (tokens_at 0 ps) (put (0 + length (source_of ps)) k) (tokens_at (0 + length (source_of ps) + length bs) more)
+         (recursion_from_All (λ token. IsTaken token.kind) _ whole.1),
      omega (arith, whole.0, length-append (tokens_at 0 ps) (put (0 + length (source_of ps)) k ∷ tokens_at (0 + length (source_of ps) + length bs) more)))
 
 no_further : (ps qs : List Piece) (r s : List ℕ) → Further ps qs r s → AreWithinLimits (tokens_at 0 qs) → Blocks (tokens_at 0 ps) r → ⊥

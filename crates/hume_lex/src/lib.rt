@@ -9,5 +9,5 @@ mod scan;
 #[cfg(test)]
 mod tests;
 
-pub use laws::one_answer;
+pub use laws::{one_answer, places_are_within};
 pub use lexer::{LexError, lex};
