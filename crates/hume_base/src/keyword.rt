@@ -141,5 +141,8 @@ impl Keyword {
 fn find(text: &[u8]) -> Option<Keyword>
     ensures { result ≡ keyword_of text.now }
 {
-    KEYWORDS.iter().copied().find(|keyword| keyword.text() == text)
+    KEYWORDS
+        .iter()
+        .copied()
+        .find(|keyword| keyword.text() == text)
 }

@@ -79,6 +79,7 @@ space_ends b e c = by_byte (cases_Bool (nat_eq b 9)) (cases_Bool (nat_eq b 10)) 
   where
     at : (n : ℕ) → nat_eq b n ≡ true → goes_on n [] c ≡ false → goes_on b [] c ≡ false
     at n is h = subst (λ x. goes_on x [] c ≡ false) (sym (eqb-true b n is)) h
+
     by_byte : (nat_eq b 9 ≡ true) ⊎ (nat_eq b 9 ≡ false) → (nat_eq b 10 ≡ true) ⊎ (nat_eq b 10 ≡ false) → (nat_eq b 13 ≡ true) ⊎ (nat_eq b 13 ≡ false) → goes_on b [] c ≡ false
     by_byte (inl p) q r = at 9 p refl
     by_byte (inr p) (inl q) r = at 10 q refl
@@ -104,6 +105,7 @@ escaped_is code byte e = by_code (cases_Bool (nat_eq code 110)) (cases_Bool (nat
   where
     at : (n m : ℕ) → nat_eq code n ≡ true → Some m ≡ Some byte → (is_letter m ≡ true) × (letter_text m ≡ 92 ∷ (n ∷ [])) → (is_letter byte ≡ true) × (letter_text byte ≡ 92 ∷ (code ∷ []))
     at n m is same h = rw (eqb-true code n is, ← some_is m byte same) h
+
     by_code : (nat_eq code 110 ≡ true) ⊎ (nat_eq code 110 ≡ false) → (nat_eq code 116 ≡ true) ⊎ (nat_eq code 116 ≡ false) → (nat_eq code 92 ≡ true) ⊎ (nat_eq code 92 ≡ false) → (nat_eq code 39 ≡ true) ⊎ (nat_eq code 39 ≡ false) → (is_letter byte ≡ true) × (letter_text byte ≡ 92 ∷ (code ∷ []))
     by_code (inl p) q r s = at 110 10 p (rw p at e) (refl, refl)
     by_code (inr p) (inl q) r s = at 116 9 q (rw (p, q) at e) (refl, refl)

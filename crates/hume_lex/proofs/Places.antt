@@ -14,9 +14,10 @@ use Rattle.hume_lex.proofs.Unique.{piece_some}
 below : (i n : ℕ) (ps : List Piece) → AreLongest ps [] → i + length (source_of ps) ≤ n → AllByRecursion (λ token. token.place < n) (tokens_at i ps)
 below i n [] h le = tt
 below i n (gap bs ∷ ps) h le = below (i + length bs) n ps h.2 (omega (arith, le, length-append bs (source_of ps)))
-below i n (token k bs ∷ ps) h le =
-    (omega (arith, le, length-append bs (source_of ps), piece_some (token k bs) h.0),
-     below (i + length bs) n ps h.2 (omega (arith, le, length-append bs (source_of ps))))
+below i n (token k bs ∷ ps) h le = (
+  omega (arith, le, length-append bs (source_of ps), piece_some (token k bs) h.0),
+  below (i + length bs) n ps h.2 (omega (arith, le, length-append bs (source_of ps))),
+)
 
 pub token_within : (source : List ℕ) (ts : List Token) → IsReading source ts → All (λ token. token.place < length source) ts
 token_within source ts h =

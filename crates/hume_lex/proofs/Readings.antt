@@ -82,9 +82,10 @@ small_scan told n None text shows e = (shows, e)
 small_scan told n (Some word) text shows e = (shows, e)
 
 pub limits_push : (ts : List Token) (place : ℕ) (k : Kind) → AreWithinLimits ts → length ts < MAX_TOKENS → IsTaken k → AreWithinLimits (ts ++ put place k ∷ [])
-limits_push ts place k h room t =
-    (omega (arith, length-append ts (put place k ∷ [])),
-     All-append (λ token. IsTaken token.kind) ts (put place k ∷ []) h.1 (All-from_recursion (λ token. IsTaken token.kind) (put place k ∷ []) (t, tt)))
+limits_push ts place k h room t = (
+  omega (arith, length-append ts (put place k ∷ [])),
+  All-append (λ token. IsTaken token.kind) ts (put place k ∷ []) h.1 (All-from_recursion (λ token. IsTaken token.kind) (put place k ∷ []) (t, tt)),
+)
 
 -- the state of the loop: the source is read so far, within the limits
 pub record SoFar (source rest : List ℕ) (ts : List Token) : Type 0 where

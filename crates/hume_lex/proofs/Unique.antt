@@ -93,10 +93,11 @@ next_allowed ps (gap bs) more h = tt
 next_allowed ps (token k bs) more h =
     let place = 0 + length (source_of ps) in
     let after = tokens_at (0 + length (source_of ps) + length bs) more in
-    let whole = subst AreWithinLimits (tokens_at-append 0 ps (token k bs ∷ more)) h in
-    (in_middle (tokens_at 0 ps) (put (0 + length (source_of ps)) k) (tokens_at (0 + length (source_of ps) + length bs) more)
-         (recursion_from_All (λ token. IsTaken token.kind) _ whole.1),
-     omega (arith, whole.0, length-append (tokens_at 0 ps) (put (0 + length (source_of ps)) k ∷ tokens_at (0 + length (source_of ps) + length bs) more)))
+    let whole = subst AreWithinLimits (tokens_at-append 0 ps (token k bs ∷ more)) h in (
+      in_middle (tokens_at 0 ps) (put (0 + length (source_of ps)) k) (tokens_at (0 + length (source_of ps) + length bs) more)
+          (recursion_from_All (λ token. IsTaken token.kind) _ whole.1),
+      omega (arith, whole.0, length-append (tokens_at 0 ps) (put (0 + length (source_of ps)) k ∷ tokens_at (0 + length (source_of ps) + length bs) more)),
+    )
 
 no_further : (ps qs : List Piece) (r s : List ℕ) → Further ps qs r s → AreWithinLimits (tokens_at 0 qs) → Blocks (tokens_at 0 ps) r → ⊥
 unfolding Blocks
@@ -147,9 +148,9 @@ token_stops IsWrong forbidden source place h = record {
   reads = h.before.reads;
   limits = h.before.limits;
   blocked = λ p left e right longest allowed.
-    let same = (same_piece p (token h.kind h.bytes) left h.left right h.spells longest h.longest (sym e ∙ h.is)).0 in
-    let both = subst (IsAllowed h.tokens) same allowed in
-    forbidden h.tokens h.kind h.wrong both.0 both.1;
+      let same = (same_piece p (token h.kind h.bytes) left h.left right h.spells longest h.longest (sym e ∙ h.is)).0 in
+      let both = subst (IsAllowed h.tokens) same allowed in
+      forbidden h.tokens h.kind h.wrong both.0 both.1;
 }
 
 wide_forbidden : IsForbidden IsBadNumber

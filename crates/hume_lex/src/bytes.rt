@@ -122,9 +122,7 @@ pub fn number(digits: &[u8]) -> Option<u64>
 {
     let mut n: u64 = 0;
     for digit in digits {
-        n = n
-            .checked_mul(10)?
-            .checked_add((*digit - b'0') as u64)?;
+        n = n.checked_mul(10)?.checked_add((*digit - b'0') as u64)?;
     }
     Some(n)
 }

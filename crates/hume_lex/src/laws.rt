@@ -12,8 +12,7 @@ pub fn one_answer()
         → IsFault source error → IsFault source other → error ≡ other }
     ensures apart { (source : List ℕ) (tokens : List Token) (error : LexError)
         → IsRead source tokens → IsFault source error → ⊥ }
-{
-}
+{}
 
 /// Each place that is told is one of the source.
 pub fn places_are_within()
@@ -21,5 +20,4 @@ pub fn places_are_within()
         → IsReading source tokens → All (λ token. token.place < length source) tokens }
     ensures fault { (source : List ℕ) (error : LexError)
         → IsFault source error → place_of error < length source }
-{
-}
+{}
