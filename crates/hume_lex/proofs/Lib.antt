@@ -1,6 +1,7 @@
 pub mod Classes
 pub mod Runs
 pub mod Values
+pub mod Scans
 pub mod Texts
 pub mod Longest
 pub mod Found

@@ -1,5 +1,5 @@
 -- Places lie within the source.
-use Rattle.std.proofs.Common.{◌≡◌, ℕ, ◌+◌, ◌<◌, ◌≤◌, List, [], ◌∷◌, ◌++◌, length, sym, ap, ◌∙◌, subst, arith, length-append}
+use Rattle.std.proofs.Common.{ℕ, ◌+◌, ◌<◌, ◌≤◌, List, [], ◌∷◌, length, ap, subst, arith, length-append}
 use Rattle.std.specs.Prelude.{All}
 use Rattle.std.specs.List.{AllByRecursion}
 use Rattle.std.proofs.lemmas.List.Elements.{All-from_recursion}
@@ -7,7 +7,7 @@ use Rattle.hume_base.specs.declared.token.Kind.{Kind}
 use Rattle.hume_base.specs.declared.token.Token.{Token}
 use Rattle.hume_lex.specs.declared.lexer.LexError.{LexError}
 use Rattle.hume_lex.specs.declared.lexer.LexError.TheVariants as error
-use Rattle.hume_lex.specs.Reading.{Piece, gap, token, bytes_of, source_of, AreLongest, tokens_at, IsReading}
+use Rattle.hume_lex.specs.Reading.{Piece, gap, token, source_of, AreLongest, tokens_at, IsReading}
 use Rattle.hume_lex.specs.Faults.{IsBadToken, IsFault, place_of}
 use Rattle.hume_lex.proofs.Unique.{piece_some}
 

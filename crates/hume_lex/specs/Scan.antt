@@ -1,6 +1,6 @@
 -- The piece at the front of the bytes, as a function: what the private functions give. The laws in proofs/ say that it
 -- finds the longest piece where one stands.
-use Rattle.std.specs.Prelude.{ℕ, ◌<◌, List, [], ◌∷◌, ◌++◌, length, drop, Bool, false, ◌&&◌, ◌==◌, nat_lt, nat_le, if◌then◌else◌, Option, Some, None, option_map}
+use Rattle.std.specs.Prelude.{ℕ, List, [], ◌∷◌, ◌++◌, length, drop, Bool, false, ◌&&◌, ◌==◌, nat_lt, nat_le, if◌then◌else◌, Option, Some, None, option_map}
 use Rattle.hume_base.specs.Keywords.{keyword_of}
 use Rattle.hume_base.specs.Symbols.{symbol_of}
 use Rattle.hume_base.specs.declared.keyword.Keyword.{Keyword}

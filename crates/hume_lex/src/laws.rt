@@ -4,7 +4,8 @@ ghost use Rattle.hume_lex.specs.Reading.{IsReading};
 ghost use Rattle.hume_lex.specs.Faults.{IsRead, IsFault, place_of};
 ghost use Rattle.hume_lex.specs.declared.lexer.LexError.{LexError};
 
-/// The laws of readings: a source has one reading at most, and either one within the limits or one fault.
+/// The laws of readings: a source has one reading at most, one fault at most, and no fault beside a reading within the
+/// limits.
 pub fn one_answer()
     ensures reading { (source : List ℕ) (tokens others : List Token)
         → IsReading source tokens → IsReading source others → tokens ≡ others }
