@@ -1,5 +1,5 @@
 -- What a search in a table finds.
-use Rattle.std.proofs.Common.{◌≡◌, List, [], ◌∷◌, Bool, true, false, cond, Option, Some, None, sym, ap, ◌∙◌, ◌⊎◌, inl, inr, refl}
+use Rattle.std.proofs.Common.{◌≡◌, List, [], ◌∷◌, Bool, true, false, cond, Some, sym, ap, ◌∙◌, ◌⊎◌, inl, inr, refl}
 use Rattle.std.specs.List.{find}
 
 -- which side a choice took

@@ -1,7 +1,7 @@
 -- The classes of first bytes are apart.
-use Rattle.std.proofs.Common.{◌≡◌, ℕ, ◌<◌, ◌≤◌, Bool, true, false, not, ◌&&◌, ◌||◌, arith, nat_eq, nat_le, refl}
+use Rattle.std.proofs.Common.{◌≡◌, ℕ, Bool, true, false, ◌||◌, arith, nat_eq}
 use Rattle.std.proofs.lemmas.Bool.Decides.{nat_tests}
-use Rattle.hume_lex.specs.Spelling.{is_space, is_small, is_capital, is_digit, is_name_byte, is_printable, is_plain, is_letter, between}
+use Rattle.hume_lex.specs.Spelling.{is_space, is_small, is_capital, is_digit, is_plain, is_letter}
 
 -- begins a name
 abbrev pub begins_name : ℕ → Bool

@@ -1,6 +1,6 @@
 -- What the scan finds is a piece, and the longest.
-use Rattle.std.proofs.Common.{◌≡◌, ◌≢◌, ℕ, ◌+◌, ◌<◌, ◌≤◌, List, [], ◌∷◌, ◌++◌, length, drop, Bool, true, false, cond, not, ◌&&◌, ◌||◌, Option, Some, None, refl, sym, ap, ◌∙◌, subst, ◌⊎◌, inl, inr, arith, length-append, append_assoc, nat_eq, nat_le}
-use Rattle.std.specs.Prelude.{is_some, option_map, nat_lt}
+use Rattle.std.proofs.Common.{◌≡◌, ◌≢◌, ℕ, ◌<◌, List, [], ◌∷◌, ◌++◌, length, drop, Bool, true, false, cond, ◌&&◌, Option, Some, None, refl, sym, ap, ◌∙◌, subst, ◌⊎◌, inl, inr, arith, append_assoc, nat_eq}
+use Rattle.std.specs.Prelude.{option_map}
 use Rattle.std.specs.List.{list_all}
 use Rattle.std.proofs.lemmas.Bool.{and_parts, and_right, leb-true, ltb-true, eqb-true, cases_Bool}
 use Rattle.std.proofs.lemmas.Bool.Decides.{nat_tests}
@@ -15,7 +15,7 @@ use Rattle.hume_base.specs.declared.limits.TheConstants.{MAX_PORT_NAME_BYTES}
 use Rattle.hume_base.specs.declared.token.Kind.TheVariants as kind
 use Rattle.hume_lex.specs.Spelling.{is_space, is_small, is_capital, is_digit, is_name_byte, is_plain, is_letter, is_quotable, is_no_newline, value_of, letter_text}
 use Rattle.hume_lex.specs.Reading.{Piece, gap, token, bytes_of, IsPiece, IsLongest}
-use Rattle.hume_lex.specs.Scan.{run, small_piece, escaped, starts_with_byte, escape_piece, letter_piece, is_port_name, quoted_piece, one_sign, two_signs, sign_piece, mark_piece, first_piece}
+use Rattle.hume_lex.specs.Scan.{run, small_piece, escaped, starts_with_byte, escape_piece, letter_piece, is_port_name, quoted_piece, two_signs, sign_piece, mark_piece, first_piece}
 use Rattle.hume_lex.proofs.Classes.{begins_name, small_begins, capital_begins, digit_begins_none, plain_is_letter, plain_tests}
 use Rattle.hume_lex.proofs.Runs.{after_run, run_cut, run_all, run_stops}
 use Rattle.hume_lex.proofs.Longest.{goes_on, goes_on_sign, longest_if}
@@ -79,6 +79,7 @@ space_ends b e c = by_byte (cases_Bool (nat_eq b 9)) (cases_Bool (nat_eq b 10)) 
   where
     at : (n : ℕ) → nat_eq b n ≡ true → goes_on n [] c ≡ false → goes_on b [] c ≡ false
     at n is h = subst (λ x. goes_on x [] c ≡ false) (sym (eqb-true b n is)) h
+
     by_byte : (nat_eq b 9 ≡ true) ⊎ (nat_eq b 9 ≡ false) → (nat_eq b 10 ≡ true) ⊎ (nat_eq b 10 ≡ false) → (nat_eq b 13 ≡ true) ⊎ (nat_eq b 13 ≡ false) → goes_on b [] c ≡ false
     by_byte (inl p) q r = at 9 p refl
     by_byte (inr p) (inl q) r = at 10 q refl
@@ -104,6 +105,7 @@ escaped_is code byte e = by_code (cases_Bool (nat_eq code 110)) (cases_Bool (nat
   where
     at : (n m : ℕ) → nat_eq code n ≡ true → Some m ≡ Some byte → (is_letter m ≡ true) × (letter_text m ≡ 92 ∷ (n ∷ [])) → (is_letter byte ≡ true) × (letter_text byte ≡ 92 ∷ (code ∷ []))
     at n m is same h = rw (eqb-true code n is, ← some_is m byte same) h
+
     by_code : (nat_eq code 110 ≡ true) ⊎ (nat_eq code 110 ≡ false) → (nat_eq code 116 ≡ true) ⊎ (nat_eq code 116 ≡ false) → (nat_eq code 92 ≡ true) ⊎ (nat_eq code 92 ≡ false) → (nat_eq code 39 ≡ true) ⊎ (nat_eq code 39 ≡ false) → (is_letter byte ≡ true) × (letter_text byte ≡ 92 ∷ (code ∷ []))
     by_code (inl p) q r s = at 110 10 p (rw p at e) (refl, refl)
     by_code (inr p) (inl q) r s = at 116 9 q (rw (p, q) at e) (refl, refl)
@@ -169,7 +171,6 @@ not_all p (y ∷ ys) x e = and_right _ _ (not_all p ys x e)
 
 quoted_found : (bs : List ℕ) (piece : Piece) → quoted_piece bs ≡ Some piece → Found (34 ∷ bs) piece
 quoted_found bs piece e =
-    let inside = run is_quotable bs in
     let said = token (kind.Quoted (run is_quotable bs)) (34 ∷ (run is_quotable bs ++ 34 ∷ [])) in
     elim (chosen (is_port_name (run is_quotable bs) (drop (length (run is_quotable bs)) bs)) (Some said) None (Some piece) e) [
       | inl h ↦ (
@@ -256,11 +257,9 @@ pub first_found : (bs : List ℕ) (piece : Piece) → first_piece bs ≡ Some pi
 unfolding first_piece
 first_found [] piece e = cc
 first_found (b ∷ bs) piece e =
-    let name = run is_name_byte (b ∷ bs) in
     let small : Option Piece = Some (small_piece (keyword_of (run is_name_byte (b ∷ bs))) (run is_name_byte (b ∷ bs))) in
     let capital : Option Piece = Some (token (kind.Upper (run is_name_byte (b ∷ bs))) (run is_name_byte (b ∷ bs))) in
     let digits : Option Piece = Some (token (kind.Number (value_of (run is_digit (b ∷ bs)))) (run is_digit (b ∷ bs))) in
-    let marks = mark_piece b bs in
     elim (chosen (is_space b) (Some (gap (b ∷ []))) (cond (is_small b) small (cond (is_capital b) capital (cond (is_digit b) digits (mark_piece b bs)))) (Some piece) e) [
       | inl h ↦ subst (Found (b ∷ bs)) (some_is _ _ h.1) (space_found b bs h.0)
       | inr h ↦ elim (chosen (is_small b) small (cond (is_capital b) capital (cond (is_digit b) digits (mark_piece b bs))) (Some piece) h.1) [

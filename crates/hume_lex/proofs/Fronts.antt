@@ -1,6 +1,6 @@
 -- The scan finds a piece where one stands, and just it where nothing follows.
-use Rattle.std.proofs.Common.{◌≡◌, ◌≢◌, ℕ, ◌+◌, ◌<◌, ◌≤◌, List, [], ◌∷◌, ◌++◌, length, drop, Bool, true, false, cond, not, ◌&&◌, ◌||◌, Option, Some, None, refl, sym, ap, ◌∙◌, subst, ◌⊎◌, inl, inr, arith, append_assoc, append-nil, nat_eq, nat_le}
-use Rattle.std.specs.Prelude.{is_some, nat_lt}
+use Rattle.std.proofs.Common.{◌≡◌, ◌≢◌, ℕ, ◌<◌, ◌≤◌, List, [], ◌∷◌, ◌++◌, length, Bool, true, false, cond, ◌&&◌, Option, Some, None, refl, sym, ap, ◌∙◌, ◌⊎◌, inl, inr, arith, append_assoc, append-nil, nat_eq}
+use Rattle.std.specs.Prelude.{is_some}
 use Rattle.std.proofs.lemmas.Bool.{and_from, lt-ltb, le-leb, eqb-true, cases_Bool}
 use Rattle.std.proofs.lemmas.Bool.Decides.{nat_tests}
 use Rattle.hume_base.specs.Keywords.{keyword_text, keyword_of}
@@ -11,10 +11,10 @@ use Rattle.hume_base.specs.declared.keyword.Keyword.{Keyword}
 use Rattle.hume_base.specs.declared.symbol.Symbol.{Symbol}
 use Rattle.hume_base.specs.declared.limits.TheConstants.{MAX_PORT_NAME_BYTES}
 use Rattle.hume_base.specs.declared.token.Kind.TheVariants as kind
-use Rattle.hume_lex.specs.Spelling.{is_space, is_small, is_capital, is_digit, is_name_byte, is_plain, is_letter, is_quotable, is_no_newline, value_of, letter_text, Each, IsName}
+use Rattle.hume_lex.specs.Spelling.{is_space, is_small, is_capital, is_digit, is_name_byte, is_letter, is_quotable, is_no_newline, value_of, letter_text, Each, IsName}
 use Rattle.hume_lex.specs.Reading.{Piece, gap, token, bytes_of, IsPiece, NoPiece}
-use Rattle.hume_lex.specs.Scan.{run, small_piece, starts_with_byte, letter_piece, is_port_name, quoted_piece, one_sign, two_signs, sign_piece, first_piece}
-use Rattle.hume_lex.proofs.Classes.{begins_name, small_begins, capital_begins, small_no_space, capital_no_space, capital_no_small, digit_no_space, digit_no_small, digit_no_capital, letter_is_plain}
+use Rattle.hume_lex.specs.Scan.{run, small_piece, letter_piece, is_port_name, quoted_piece, two_signs, sign_piece, first_piece}
+use Rattle.hume_lex.proofs.Classes.{begins_name, small_no_space, capital_no_space, capital_no_small, digit_no_space, digit_no_small, digit_no_capital, letter_is_plain}
 use Rattle.hume_lex.proofs.Texts.{keyword_is_name, IsMark, MarkText, one, two, symbol_is_marks}
 use Rattle.hume_lex.proofs.Found.{drop_front}
 

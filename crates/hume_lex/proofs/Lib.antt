@@ -1,9 +1,11 @@
 pub mod Classes
 pub mod Runs
 pub mod Values
+pub mod Scans
 pub mod Texts
 pub mod Longest
 pub mod Found
 pub mod Fronts
 pub mod Readings
 pub mod Unique
+pub mod Places

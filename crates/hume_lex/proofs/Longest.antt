@@ -1,5 +1,5 @@
 -- Which byte can follow the bytes of a piece within a longer one.
-use Rattle.std.proofs.Common.{◌≡◌, ℕ, ◌+◌, ◌<◌, List, [], ◌∷◌, ◌++◌, length, Bool, true, false, cond, not, ◌&&◌, ◌||◌, Some, refl, sym, ap, ◌∙◌, subst, inl, inr, arith, length-append, nat_eq}
+use Rattle.std.proofs.Common.{◌≡◌, ℕ, List, [], ◌∷◌, ◌++◌, length, Bool, true, false, cond, ◌&&◌, ◌||◌, Some, refl, sym, ap, ◌∙◌, subst, inl, inr, arith, length-append, nat_eq}
 use Rattle.std.specs.Prelude.{is_some}
 use Rattle.std.specs.List.{list_all}
 use Rattle.std.proofs.lemmas.Bool.{and_from}
@@ -7,12 +7,11 @@ use Rattle.hume_base.specs.Keywords.{keyword_text}
 use Rattle.hume_base.specs.Symbols.{symbol_text, symbol_of}
 use Rattle.hume_base.proofs.SymbolTexts.{symbol_of-text}
 use Rattle.hume_base.specs.declared.symbol.Symbol.{Symbol}
-use Rattle.hume_base.specs.declared.token.Kind.{Kind}
 use Rattle.hume_base.specs.declared.token.Kind.TheVariants as kind
-use Rattle.hume_lex.specs.Spelling.{is_small, is_capital, is_digit, is_name_byte, is_quotable, is_no_newline, Each, IsName, Spells, letter_text}
+use Rattle.hume_lex.specs.Spelling.{is_small, is_capital, is_digit, is_name_byte, is_quotable, is_no_newline, Each, IsName, letter_text}
 use Rattle.hume_lex.specs.Reading.{Piece, gap, token, bytes_of, IsPiece, IsLongest}
 use Rattle.hume_lex.proofs.Classes.{begins_name, small_begins, capital_begins, digit_begins_none}
-use Rattle.hume_lex.proofs.Texts.{keyword_is_name, IsMark, MarkText, one, two, symbol_is_marks, LetterText, plain, escape, letter_text_is}
+use Rattle.hume_lex.proofs.Texts.{keyword_is_name, MarkText, one, two, symbol_is_marks, LetterText, plain, escape, letter_text_is}
 
 -- a letter is not closed yet by these bytes
 abbrev pub is_open_letter : List ℕ → Bool

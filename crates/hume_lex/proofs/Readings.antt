@@ -1,21 +1,19 @@
 -- A reading grows by the piece that the scan finds.
 use Rattle.std.proofs.Common.{◌≡◌, ◌≢◌, ℕ, ◌+◌, ◌-◌, ◌<◌, ◌≤◌, List, [], ◌∷◌, ◌++◌, length, drop, Option, Some, None, refl, sym, ap, ◌∙◌, subst, ◌⊎◌, inl, inr, arith, length-append, append_assoc, append-nil}
-use Rattle.std.specs.List.{AllByRecursion}
+use Rattle.std.proofs.lemmas.List.Elements.{All-append, All-nil, All-from_recursion}
 use Rattle.std.specs.Borrow.{Bor}
 use Rattle.hume_base.specs.declared.limits.TheConstants.{MAX_TOKENS}
-use Rattle.hume_base.specs.declared.keyword.Keyword.{Keyword}
 use Rattle.hume_base.specs.declared.token.Kind.{Kind}
-use Rattle.hume_base.specs.declared.token.Kind.TheVariants as kind
 use Rattle.hume_base.specs.declared.token.Token.{Token}
 use Rattle.hume_lex.specs.declared.lexer.LexError.{LexError}
 use Rattle.hume_lex.specs.declared.lexer.LexError.TheVariants as error
 use Rattle.hume_lex.specs.declared.scan.Front.{Front}
 use Rattle.hume_lex.specs.declared.scan.Front.TheVariants as front
 use Rattle.hume_lex.specs.Reading.{Piece, gap, token, bytes_of, IsPiece, IsLongest, source_of, AreLongest, tokens_at, ReadsTo}
-use Rattle.hume_lex.specs.Faults.{IsTaken, IsTooWide, IsTooLong, AreWithinLimits, Reaches, IsBadChar, IsBadToken, IsBadNumber, IsLongName, IsOneTooMany, IsFault}
-use Rattle.hume_lex.specs.Scan.{small_piece, first_piece}
+use Rattle.hume_lex.specs.Faults.{IsTaken, AreWithinLimits, Reaches, IsBadChar, IsBadToken, IsBadNumber, IsLongName, IsOneTooMany, IsFault}
+use Rattle.hume_lex.specs.Scan.{first_piece}
 use Rattle.hume_lex.specs.View.{Shows, IsScan, IsNext, Takes, IsRefused}
-use Rattle.hume_lex.proofs.Found.{Found, first_found, drop_front}
+use Rattle.hume_lex.proofs.Found.{first_found, drop_front}
 use Rattle.hume_lex.proofs.Fronts.{none_found}
 
 source_of-append : (ps : List Piece) (p : Piece) (rest : List ℕ) → source_of (ps ++ p ∷ []) ++ rest ≡ source_of ps ++ (bytes_of p ++ rest)
@@ -75,17 +73,11 @@ scan_fits told n rest h =
     let f = first_found rest p.0 p.1 in
     (omega (arith, f.some, p.3), omega (arith, ap length f.is, length-append (bytes_of p.0) f.rest, p.3))
 
--- a name or a keyword has the bytes of its text
-pub small_scan : (told : Front) (n : ℕ) (o : Option Keyword) (text : List ℕ) → Shows told (small_piece o text) → n ≡ length text → IsScan (Some (told, n)) (Some (small_piece o text))
-small_scan told n None text shows e = (shows, e)
-small_scan told n (Some word) text shows e = (shows, e)
-
 pub limits_push : (ts : List Token) (place : ℕ) (k : Kind) → AreWithinLimits ts → length ts < MAX_TOKENS → IsTaken k → AreWithinLimits (ts ++ put place k ∷ [])
-limits_push ts place k h room t = (omega (arith, length-append ts (put place k ∷ [])), all ts h.1)
-  where
-    all : (us : List Token) → AllByRecursion (λ token. IsTaken token.kind) us → AllByRecursion (λ token. IsTaken token.kind) (us ++ put place k ∷ [])
-    all [] g = (t, tt)
-    all (u ∷ us) g = (g.0, all us g.1)
+limits_push ts place k h room t = (
+  omega (arith, length-append ts (put place k ∷ [])),
+  All-append (λ token. IsTaken token.kind) ts (put place k ∷ []) h.1 (All-from_recursion (λ token. IsTaken token.kind) (put place k ∷ []) (t, tt)),
+)
 
 -- the state of the loop: the source is read so far, within the limits
 pub record SoFar (source rest : List ℕ) (ts : List Token) : Type 0 where
@@ -94,7 +86,7 @@ pub record SoFar (source rest : List ℕ) (ts : List Token) : Type 0 where
   pub limits : AreWithinLimits ts
 
 pub begins : (source : List ℕ) → SoFar source source []
-begins source = record { reads = nothing_read source; within = omega arith; limits = (omega arith, tt) }
+begins source = record { reads = nothing_read source; within = omega arith; limits = (omega arith, All-nil (λ token. IsTaken token.kind)) }
 
 module _ (source rest : List ℕ) (ts : List Token) (so_far : SoFar source rest ts) where
   reached : Reaches source (length source - length rest) ts rest

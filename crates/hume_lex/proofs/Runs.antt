@@ -1,5 +1,5 @@
 -- How far the bytes at the front pass a test.
-use Rattle.std.proofs.Common.{◌≡◌, ℕ, ◌≤◌, List, [], ◌∷◌, ◌++◌, length, take, Bool, true, false, cond, refl, sym, ap, ◌∙◌, inl, inr, arith, length-append}
+use Rattle.std.proofs.Common.{◌≡◌, ℕ, ◌≤◌, List, [], ◌∷◌, ◌++◌, length, take, Bool, true, false, cond, refl, sym, ap, ◌∙◌, subst, inl, inr, arith, length-append}
 use Rattle.std.specs.Prelude.{All}
 use Rattle.std.specs.List.{prefix_len}
 use Rattle.std.proofs.Math.Seq.{take-append_seam}
@@ -33,13 +33,20 @@ pub run_length : (p : ℕ → Bool) (bs : List ℕ) → prefix_len p bs ≡ leng
 run_length p [] = refl
 run_length p (b ∷ bs) = elim (cases_Bool (p b)) [ inl h ↦ rw h (omega (arith, run_length p bs)) | inr h ↦ rw h ]
 
-pub run_within : (p : ℕ → Bool) (bs : List ℕ) → length (run p bs) ≤ length bs
+run_within : (p : ℕ → Bool) (bs : List ℕ) → length (run p bs) ≤ length bs
 run_within p bs = omega (arith, ap length (run_cut p bs), length-append (run p bs) (after_run p bs))
 
-pub run_taken : (p : ℕ → Bool) (bs : List ℕ) → take (length (run p bs)) bs ≡ run p bs
+run_taken : (p : ℕ → Bool) (bs : List ℕ) → take (length (run p bs)) bs ≡ run p bs
 run_taken p bs = ap (take (length (run p bs))) (run_cut p bs) ∙ take-append_seam (run p bs) (after_run p bs)
 
-pub run_passes : (p : ℕ → Bool) (bs : List ℕ) → All (λ c. p c ≡ true) (run p bs)
-run_passes p bs = All-from_recursion _ _ (run_all p bs)
+-- the prefix of a run's length is the run
+pub prefix_within : (p : ℕ → Bool) (bs : List ℕ) → prefix_len p bs ≤ length bs
+prefix_within p bs = omega (arith, run_length p bs, run_within p bs)
 
-pub ruleset run_steps = (run_length, run_within, run_taken, run_passes)
+pub take-prefix : (p : ℕ → Bool) (bs : List ℕ) → take (prefix_len p bs) bs ≡ run p bs
+take-prefix p bs = ap (λ n. take n bs) (run_length p bs) ∙ run_taken p bs
+
+pub prefix_passes : (p : ℕ → Bool) (bs : List ℕ) → All (λ c. p c ≡ true) (take (prefix_len p bs) bs)
+prefix_passes p bs = subst (All (λ c. p c ≡ true)) (sym (take-prefix p bs)) (All-from_recursion _ _ (run_all p bs))
+
+pub ruleset run_steps = (run_length, prefix_within, take-prefix, prefix_passes)

@@ -1,14 +1,14 @@
 -- What the texts of keywords, symbols and letters begin with, and how long they are.
-use Rattle.std.proofs.Common.{◌≡◌, ◌≢◌, ℕ, ◌+◌, ◌<◌, ◌≤◌, List, [], ◌∷◌, ◌++◌, length, Bool, true, false, cond, not, ◌&&◌, ◌||◌, refl, sym, ap, ◌∙◌, subst, ◌⊎◌, inl, inr, arith, nat_eq}
+use Rattle.std.proofs.Common.{◌≡◌, ℕ, List, [], ◌∷◌, Bool, true, false, not, ◌&&◌, refl, inl, inr, nat_eq}
 use Rattle.std.specs.List.{list_all}
-use Rattle.std.proofs.lemmas.Bool.{and_parts, eqb-true, cases_Bool}
+use Rattle.std.proofs.lemmas.Bool.{and_parts, cases_Bool}
 use Rattle.hume_base.specs.Keywords.{keyword_text}
 use Rattle.hume_base.specs.Symbols.{symbol_text}
 use Rattle.hume_base.specs.declared.keyword.Keyword.{Keyword}
 use Rattle.hume_base.specs.declared.keyword.Keyword.TheVariants as keyword
 use Rattle.hume_base.specs.declared.symbol.Symbol.{Symbol}
 use Rattle.hume_base.specs.declared.symbol.Symbol.TheVariants as symbol
-use Rattle.hume_lex.specs.Spelling.{is_space, is_small, is_digit, is_name_byte, is_letter, Each, IsName, letter_text}
+use Rattle.hume_lex.specs.Spelling.{is_space, is_small, is_digit, is_name_byte, Each, IsName, letter_text}
 use Rattle.hume_lex.proofs.Classes.{begins_name}
 
 pub each_from : (p : ℕ → Bool) (bs : List ℕ) → list_all p bs ≡ true → Each p bs

@@ -1,15 +1,15 @@
 -- A source has one cut into pieces, and so one answer.
-use Rattle.std.proofs.Common.{◌≡◌, ◌≢◌, ℕ, ◌+◌, ◌<◌, ◌≤◌, ◌^◌, List, [], ◌∷◌, ◌++◌, length, Option, Some, None, Result, Ok, Err, refl, sym, ap, ◌∙◌, subst, ◌⊎◌, inl, inr, arith, length-append, append_assoc}
+use Rattle.std.proofs.Common.{◌≡◌, ℕ, ◌+◌, ◌<◌, List, [], ◌∷◌, ◌++◌, length, Some, Result, Err, refl, sym, ap, ◌∙◌, subst, ◌⊎◌, inl, inr, arith, length-append, append_assoc}
 use Rattle.std.specs.List.{AllByRecursion}
-use Rattle.hume_base.specs.declared.limits.TheConstants.{MAX_TOKENS, MAX_NAME_BYTES}
+use Rattle.std.proofs.lemmas.List.Elements.{recursion_from_All}
+use Rattle.hume_base.specs.declared.limits.TheConstants.{MAX_TOKENS}
 use Rattle.hume_base.specs.declared.token.Kind.{Kind}
 use Rattle.hume_base.specs.declared.token.Kind.TheVariants as kind
 use Rattle.hume_base.specs.declared.token.Token.{Token}
 use Rattle.hume_lex.specs.declared.lexer.LexError.{LexError}
 use Rattle.hume_lex.specs.declared.lexer.LexError.TheVariants as error
-use Rattle.hume_lex.specs.Spelling.{Spells}
-use Rattle.hume_lex.specs.Reading.{Piece, gap, token, bytes_of, IsPiece, IsLongest, NoPiece, source_of, AreLongest, tokens_at, ReadsTo, IsReading}
-use Rattle.hume_lex.specs.Faults.{IsTaken, IsTooWide, IsTooLong, AreWithinLimits, IsRead, Reaches, IsBadChar, IsBadToken, IsBadNumber, IsLongName, IsOneTooMany, IsFault}
+use Rattle.hume_lex.specs.Reading.{Piece, gap, token, bytes_of, IsPiece, IsLongest, source_of, AreLongest, tokens_at, ReadsTo, IsReading}
+use Rattle.hume_lex.specs.Faults.{IsTaken, IsTooWide, IsTooLong, AreWithinLimits, IsRead, IsBadChar, IsBadToken, IsBadNumber, IsLongName, IsOneTooMany, IsFault}
 use Rattle.hume_lex.specs.Scan.{first_piece}
 use Rattle.hume_lex.proofs.Found.{first_found}
 use Rattle.hume_lex.proofs.Fronts.{piece_alone}
@@ -44,7 +44,7 @@ same_piece p q as_ bs hp hq lp lq e = elim (split_front (bytes_of p) (bytes_of q
   ]
 ]
 
-piece_some : (p : Piece) → IsPiece p → 0 < length (bytes_of p)
+pub piece_some : (p : Piece) → IsPiece p → 0 < length (bytes_of p)
 piece_some p h = (first_found (bytes_of p) p (piece_alone p h)).some
 
 -- of two cuts the second goes on where the first ends
@@ -90,11 +90,11 @@ next_allowed : (ps : List Piece) (p : Piece) (more : List Piece) → AreWithinLi
 unfolding IsAllowed
 next_allowed ps (gap bs) more h = tt
 next_allowed ps (token k bs) more h =
-    let place = 0 + length (source_of ps) in
-    let after = tokens_at (0 + length (source_of ps) + length bs) more in
-    let whole = subst AreWithinLimits (tokens_at-append 0 ps (token k bs ∷ more)) h in
-    (in_middle (tokens_at 0 ps) (put (0 + length (source_of ps)) k) (tokens_at (0 + length (source_of ps) + length bs) more) whole.1,
-     omega (arith, whole.0, length-append (tokens_at 0 ps) (put (0 + length (source_of ps)) k ∷ tokens_at (0 + length (source_of ps) + length bs) more)))
+    let whole = subst AreWithinLimits (tokens_at-append 0 ps (token k bs ∷ more)) h in (
+      in_middle (tokens_at 0 ps) (put (0 + length (source_of ps)) k) (tokens_at (0 + length (source_of ps) + length bs) more)
+          (recursion_from_All (λ token. IsTaken token.kind) _ whole.1),
+      omega (arith, whole.0, length-append (tokens_at 0 ps) (put (0 + length (source_of ps)) k ∷ tokens_at (0 + length (source_of ps) + length bs) more)),
+    )
 
 no_further : (ps qs : List Piece) (r s : List ℕ) → Further ps qs r s → AreWithinLimits (tokens_at 0 qs) → Blocks (tokens_at 0 ps) r → ⊥
 unfolding Blocks
@@ -109,8 +109,6 @@ record Stops (source rest : List ℕ) (ts : List Token) : Type 0 where
 
 one_stop : (source r s : List ℕ) (ts us : List Token) → Stops source r ts → Stops source s us → (ts ≡ us) × (r ≡ s)
 one_stop source r s ts us a b =
-    let ps = a.reads.pieces in
-    let qs = b.reads.pieces in
     elim (two_cuts a.reads.pieces b.reads.pieces r s (sym a.reads.cover ∙ b.reads.cover) a.reads.longest b.reads.longest) [
       | inl same ↦ (sym a.reads.same ∙ ap (tokens_at 0) same.0 ∙ b.reads.same, same.1)
       | inr o ↦ elim o [
@@ -145,9 +143,9 @@ token_stops IsWrong forbidden source place h = record {
   reads = h.before.reads;
   limits = h.before.limits;
   blocked = λ p left e right longest allowed.
-    let same = (same_piece p (token h.kind h.bytes) left h.left right h.spells longest h.longest (sym e ∙ h.is)).0 in
-    let both = subst (IsAllowed h.tokens) same allowed in
-    forbidden h.tokens h.kind h.wrong both.0 both.1;
+      let same = (same_piece p (token h.kind h.bytes) left h.left right h.spells longest h.longest (sym e ∙ h.is)).0 in
+      let both = subst (IsAllowed h.tokens) same allowed in
+      forbidden h.tokens h.kind h.wrong both.0 both.1;
 }
 
 wide_forbidden : IsForbidden IsBadNumber
@@ -268,9 +266,9 @@ one_reading source ts us a b = elim (two_cuts a.pieces b.pieces [] [] (sym a.cov
 ]
 
 -- an answer that is right is the only one, but for want of memory
-pub only_error : (source : List ℕ) (e : LexError) → (e ≡ error.NoMemory) ⊎ IsFault source e → (ts : List Token) → IsRead source ts → e ≡ error.NoMemory
-only_error source e (inl memory) ts h = memory
-only_error source e (inr fault) ts h = absurd (read_no_fault source ts e h fault)
+pub no_error : (source : List ℕ) (e : LexError) → (e ≡ error.NoMemory) ⊎ IsFault source e → (ts : List Token) → IsRead source ts → e ≡ error.NoMemory
+no_error source e (inl memory) ts h = memory
+no_error source e (inr fault) ts h = absurd (read_no_fault source ts e h fault)
 
 pub same_error : (source : List ℕ) (e f : LexError) → (e ≡ error.NoMemory) ⊎ IsFault source e → IsFault source f → (e ≡ f) ⊎ (e ≡ error.NoMemory)
 same_error source e f (inl memory) h = inr memory

@@ -22,3 +22,5 @@ value_step n m i bs h e = rw (drop-cons bs i 0, e, add-one)
 
 pub value_large : (n i : ℕ) (bs : List ℕ) (whole : ℕ) → i < length bs → value_after n (drop i bs) ≡ whole → n * 10 + (get_or bs i 0 - 48) ≤ whole
 value_large n i bs whole h e = let m = n * 10 + (get_or bs i 0 - 48) in let s = value_step n m i bs h refl in omega (arith, value_after_ge m (drop (i + 1) bs), s, e)
+
+pub ruleset value_steps = (digit_bounds, value_step, value_large)

@@ -1,6 +1,5 @@
 -- When a source is taken, and when it is refused: at its first bad place.
-use Rattle.std.specs.Prelude.{◌≡◌, ℕ, ◌+◌, ◌<◌, ◌≤◌, ◌^◌, List, ◌++◌, length}
-use Rattle.std.specs.List.{AllByRecursion}
+use Rattle.std.specs.Prelude.{◌≡◌, ℕ, ◌+◌, ◌<◌, ◌≤◌, ◌^◌, List, ◌++◌, length, All}
 use Rattle.hume_base.specs.declared.limits.TheConstants.{MAX_TOKENS, MAX_NAME_BYTES}
 use Rattle.hume_base.specs.declared.token.Kind.{Kind}
 use Rattle.hume_base.specs.declared.token.Kind.TheVariants as kind
@@ -29,7 +28,7 @@ IsTaken (kind.Number n) = n < 2 ^ 64
 IsTaken _ = Unit {0}
 
 abbrev pub AreWithinLimits : List Token → Type 0
-AreWithinLimits tokens = (length tokens ≤ MAX_TOKENS) × AllByRecursion (λ token. IsTaken token.kind) tokens
+AreWithinLimits tokens = (length tokens ≤ MAX_TOKENS) × All (λ token. IsTaken token.kind) tokens
 
 -- the source is read, within the limits, as these tokens
 abbrev pub IsRead : List ℕ → List Token → Type 0
@@ -79,3 +78,11 @@ IsFault source (error.BadNumber place) = IsBadToken IsBadNumber source place
 IsFault source (error.LongName place) = IsBadToken IsLongName source place
 IsFault source (error.TooManyTokens place) = IsBadToken IsOneTooMany source place
 IsFault source error.NoMemory = ⊥
+
+-- where it is told; 0 for want of memory
+abbrev pub place_of : LexError → ℕ
+place_of (error.BadChar place) = place
+place_of (error.BadNumber place) = place
+place_of (error.LongName place) = place
+place_of (error.TooManyTokens place) = place
+place_of error.NoMemory = 0

@@ -2,7 +2,7 @@
 use Rattle.std.specs.Prelude.{◌≡◌, ℕ, ◌+◌, List, [], ◌∷◌, ◌++◌, length, true, ◌⊎◌}
 use Rattle.hume_base.specs.declared.token.Kind.{Kind}
 use Rattle.hume_base.specs.declared.token.Token.{Token}
-use Rattle.hume_lex.specs.Spelling.{is_space, is_no_newline, Each, Spells}
+use Rattle.hume_lex.specs.Spelling.{dash, is_space, is_no_newline, Each, Spells}
 
 -- a piece of a source, with its bytes: a gap, which is a space or a comment, or a token
 pub data Piece : Type 0 where
@@ -18,7 +18,7 @@ IsSpace bytes = (byte : ℕ) × (bytes ≡ byte ∷ []) × (is_space byte ≡ tr
 
 -- two dashes, and no newline after them
 abbrev pub IsComment : List ℕ → Type 0
-IsComment bytes = (text : List ℕ) × (bytes ≡ 45 ∷ (45 ∷ text)) × Each is_no_newline text
+IsComment bytes = (text : List ℕ) × (bytes ≡ dash ∷ (dash ∷ text)) × Each is_no_newline text
 
 abbrev pub IsPiece : Piece → Type 0
 IsPiece (gap bytes) = IsSpace bytes ⊎ IsComment bytes

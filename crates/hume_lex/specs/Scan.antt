@@ -1,13 +1,13 @@
 -- The piece at the front of the bytes, as a function: what the private functions give. The laws in proofs/ say that it
 -- finds the longest piece where one stands.
-use Rattle.std.specs.Prelude.{ℕ, ◌<◌, List, [], ◌∷◌, ◌++◌, length, drop, Bool, false, ◌&&◌, ◌==◌, nat_lt, nat_le, if◌then◌else◌, Option, Some, None, option_map}
+use Rattle.std.specs.Prelude.{ℕ, List, [], ◌∷◌, ◌++◌, length, drop, Bool, false, ◌&&◌, ◌==◌, nat_lt, nat_le, if◌then◌else◌, Option, Some, None, option_map}
 use Rattle.hume_base.specs.Keywords.{keyword_of}
 use Rattle.hume_base.specs.Symbols.{symbol_of}
 use Rattle.hume_base.specs.declared.keyword.Keyword.{Keyword}
 use Rattle.hume_base.specs.declared.symbol.Symbol.{Symbol}
 use Rattle.hume_base.specs.declared.limits.TheConstants.{MAX_PORT_NAME_BYTES}
 use Rattle.hume_base.specs.declared.token.Kind.TheVariants as kind
-use Rattle.hume_lex.specs.Spelling.{is_space, is_small, is_capital, is_digit, is_name_byte, is_plain, is_quotable, is_no_newline, value_of}
+use Rattle.hume_lex.specs.Spelling.{tab, newline, double_quote, single_quote, dash, backslash, is_space, is_small, is_capital, is_digit, is_name_byte, is_plain, is_quotable, is_no_newline, value_of}
 use Rattle.hume_lex.specs.Reading.{Piece, gap, token}
 
 -- the bytes from the front on that pass
@@ -20,34 +20,45 @@ abbrev pub small_piece : Option Keyword → List ℕ → Piece
 small_piece (Some word) text = token (kind.Word word) text
 small_piece None text = token (kind.Lower text) text
 
+abbrev pub letter_n : ℕ
+letter_n = 110
+
+abbrev pub letter_t : ℕ
+letter_t = 116
+
 -- the byte that an escape means
 abbrev pub escaped : ℕ → Option ℕ
-escaped code = if code == 110 then Some 10 else (if code == 116 then Some 9 else (if code == 92 then Some 92 else (if code == 39 then Some 39 else None)))
+escaped code =
+    if code == letter_n then Some newline
+    else (if code == letter_t then Some tab
+    else (if code == backslash then Some backslash
+    else (if code == single_quote then Some single_quote
+    else None)))
 
 abbrev pub starts_with_byte : ℕ → List ℕ → Bool
 starts_with_byte wanted [] = false
 starts_with_byte wanted (byte ∷ bytes) = byte == wanted
 
 abbrev pub escape_piece : ℕ → List ℕ → Option Piece
-escape_piece code rest = if starts_with_byte 39 rest then option_map (λ byte. token (kind.Letter byte) (39 ∷ (92 ∷ (code ∷ (39 ∷ []))))) (escaped code) else None
+escape_piece code rest = if starts_with_byte single_quote rest then option_map (λ byte. token (kind.Letter byte) (single_quote ∷ (backslash ∷ (code ∷ (single_quote ∷ []))))) (escaped code) else None
 
 -- after the single quote
 abbrev pub letter_piece : List ℕ → Option Piece
 letter_piece [] = None
 letter_piece (byte ∷ []) = None
 letter_piece (byte ∷ (next ∷ rest)) =
-    if byte == 92 then escape_piece next rest
-    else (if is_plain byte && next == 39 then Some (token (kind.Letter byte) (39 ∷ (byte ∷ (39 ∷ []))))
+    if byte == backslash then escape_piece next rest
+    else (if is_plain byte && next == single_quote then Some (token (kind.Letter byte) (single_quote ∷ (byte ∷ (single_quote ∷ []))))
     else None)
 
 abbrev pub is_port_name : List ℕ → List ℕ → Bool
-is_port_name inside rest = nat_lt 0 (length inside) && nat_le (length inside) MAX_PORT_NAME_BYTES && starts_with_byte 34 rest
+is_port_name inside rest = nat_lt 0 (length inside) && nat_le (length inside) MAX_PORT_NAME_BYTES && starts_with_byte double_quote rest
 
 -- after the double quote
 abbrev pub quoted_piece : List ℕ → Option Piece
 quoted_piece bytes =
     if is_port_name (run is_quotable bytes) (drop (length (run is_quotable bytes)) bytes)
-    then Some (token (kind.Quoted (run is_quotable bytes)) (34 ∷ (run is_quotable bytes ++ 34 ∷ [])))
+    then Some (token (kind.Quoted (run is_quotable bytes)) (double_quote ∷ (run is_quotable bytes ++ double_quote ∷ [])))
     else None
 
 abbrev pub one_sign : ℕ → Option Piece
@@ -60,14 +71,14 @@ two_signs None byte next = one_sign byte
 abbrev pub sign_piece : ℕ → List ℕ → Option Piece
 sign_piece byte [] = one_sign byte
 sign_piece byte (next ∷ rest) =
-    if byte == 45 && next == 45 then Some (gap (byte ∷ (next ∷ run is_no_newline rest)))
+    if byte == dash && next == dash then Some (gap (byte ∷ (next ∷ run is_no_newline rest)))
     else two_signs (symbol_of (byte ∷ (next ∷ []))) byte next
 
 -- after a first byte that begins no name and no number
 abbrev pub mark_piece : ℕ → List ℕ → Option Piece
 mark_piece byte rest =
-    if byte == 39 then letter_piece rest
-    else (if byte == 34 then quoted_piece rest
+    if byte == single_quote then letter_piece rest
+    else (if byte == double_quote then quoted_piece rest
     else sign_piece byte rest)
 
 unfoldable pub first_piece : List ℕ → Option Piece

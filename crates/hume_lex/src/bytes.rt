@@ -48,73 +48,36 @@ fn is_quotable(byte: u8) -> bool
     byte >= b' ' && byte <= b'~' && byte != b'"'
 }
 
-fn name_prefix(bytes: &[u8]) -> usize
+/// How many bytes at the front are letters, digits and underscores.
+pub fn name_len(bytes: &[u8]) -> usize
     ensures { result ≡ prefix_len name_byte bytes.now }
 {
     bytes.iter().take_while(|byte| is_name_byte(**byte)).count()
 }
 
-/// How many bytes at the front are letters, digits and underscores.
-#[tactic(auto, using(crate::proofs::Runs::run_steps))]
-pub fn name_len(bytes: &[u8]) -> usize
-    ensures count { result ≡ length (run name_byte bytes.now) }
-    ensures within { result ≤ length bytes.now }
-    ensures front { take result bytes.now ≡ run name_byte bytes.now }
-{
-    name_prefix(bytes)
-}
-
-fn digits_prefix(bytes: &[u8]) -> usize
+/// How many bytes at the front are digits.
+pub fn digits_len(bytes: &[u8]) -> usize
     ensures { result ≡ prefix_len digit bytes.now }
 {
     bytes.iter().take_while(|byte| is_digit(**byte)).count()
 }
 
-/// How many bytes at the front are digits.
-#[tactic(auto, using(crate::proofs::Runs::run_steps))]
-pub fn digits_len(bytes: &[u8]) -> usize
-    ensures count { result ≡ length (run digit bytes.now) }
-    ensures within { result ≤ length bytes.now }
-    ensures front { take result bytes.now ≡ run digit bytes.now }
-    ensures all { All (λ b. digit b ≡ true) (take result bytes.now) }
-{
-    digits_prefix(bytes)
-}
-
-fn quotable_prefix(bytes: &[u8]) -> usize
+/// How many bytes at the front may stand between double quotes.
+pub fn quotable_len(bytes: &[u8]) -> usize
     ensures { result ≡ prefix_len quotable bytes.now }
 {
     bytes.iter().take_while(|byte| is_quotable(**byte)).count()
 }
 
-/// How many bytes at the front may stand between double quotes.
-#[tactic(auto, using(crate::proofs::Runs::run_steps))]
-pub fn quotable_len(bytes: &[u8]) -> usize
-    ensures count { result ≡ length (run quotable bytes.now) }
-    ensures within { result ≤ length bytes.now }
-    ensures front { take result bytes.now ≡ run quotable bytes.now }
-{
-    quotable_prefix(bytes)
-}
-
-fn line_prefix(bytes: &[u8]) -> usize
+/// How many bytes at the front are no newline.
+pub fn line_len(bytes: &[u8]) -> usize
     ensures { result ≡ prefix_len no_newline bytes.now }
 {
     bytes.iter().take_while(|byte| **byte != b'\n').count()
 }
 
-/// How many bytes at the front are no newline.
-#[tactic(auto, using(crate::proofs::Runs::run_steps))]
-pub fn line_len(bytes: &[u8]) -> usize
-    ensures count { result ≡ length (run no_newline bytes.now) }
-    ensures within { result ≤ length bytes.now }
-    ensures front { take result bytes.now ≡ run no_newline bytes.now }
-{
-    line_prefix(bytes)
-}
-
 /// The number that the digits write, if it has 64 bits.
-#[tactic(auto, using(crate::proofs::Values::digit_bounds, crate::proofs::Values::value_step, crate::proofs::Values::value_large))]
+#[tactic(auto, using(crate::proofs::Values::value_steps))]
 pub fn number(digits: &[u8]) -> Option<u64>
     requires { All (λ b. digit b ≡ true) digits.now }
     ensures value { MatchOption result (2 ^ 64 ≤ value_of digits.now) (λ n. n ≡ value_of digits.now) }
@@ -122,9 +85,7 @@ pub fn number(digits: &[u8]) -> Option<u64>
 {
     let mut n: u64 = 0;
     for digit in digits {
-        n = n
-            .checked_mul(10)?
-            .checked_add((*digit - b'0') as u64)?;
+        n = n.checked_mul(10)?.checked_add((*digit - b'0') as u64)?;
     }
     Some(n)
 }

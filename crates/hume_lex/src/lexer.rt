@@ -50,9 +50,9 @@ pub fn lex(alloc: Global, source: &[u8]) -> Result<Vec<Token>, LexError>
     ensures tokens { IfOk result (λ tokens. IsRead source.now tokens.items) }
     ensures error { IfErr result (λ error. (error ≡ LexError.NoMemory) ⊎ IsFault source.now error) }
     // An answer that is right for the source is the one that is given, unless memory is wanting.
-    ensures all_tokens { (tokens : List TokenValue) → IsRead source.now tokens
+    ensures only_tokens { (tokens : List TokenValue) → IsRead source.now tokens
         → MatchResult result (λ found. found.items ≡ tokens) (λ error. error ≡ LexError.NoMemory) }
-    ensures every_error { (fault : LexError) → IsFault source.now fault
+    ensures only_error { (fault : LexError) → IsFault source.now fault
         → (result ≡ Err fault) ⊎ (result ≡ Err LexError.NoMemory) }
 {
     let mut tokens = Vec::new(alloc);

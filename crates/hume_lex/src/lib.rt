@@ -6,6 +6,8 @@ mod bytes;
 mod laws;
 mod lexer;
 mod scan;
+#[cfg(test)]
+mod tests;
 
-pub use laws::one_answer;
+pub use laws::{one_answer, places_are_within};
 pub use lexer::{LexError, lex};

@@ -42,7 +42,7 @@ pub fn next_front(alloc: Global, rest: &[u8]) -> Result<Option<(Front, &[u8])>, 
     }
 }
 
-#[tactic(auto, using(crate::proofs::Readings::small_scan), unfolding(crate::specs::Scan::first_piece))]
+#[tactic(auto, using(crate::proofs::Scans::small_scan, crate::proofs::Runs::run_steps), unfolding(crate::specs::Scan::first_piece))]
 fn scan(alloc: Global, rest: &[u8]) -> Result<Option<(Front, usize)>, AllocError>
     ensures { IfOk result (λ found. IsScan found (first_piece rest.now)) }
 {
@@ -151,6 +151,7 @@ fn starts_with_byte(bytes: &[u8], wanted: u8) -> bool
     }
 }
 
+#[tactic(auto, using(crate::proofs::Runs::run_steps))]
 fn quoted(alloc: Global, after: &[u8]) -> Result<Option<(Front, usize)>, AllocError>
     ensures { IfOk result (λ found. IsScan found (quoted_piece after.now)) }
 {
@@ -163,6 +164,7 @@ fn quoted(alloc: Global, after: &[u8]) -> Result<Option<(Front, usize)>, AllocEr
     Ok(None)
 }
 
+#[tactic(auto, using(crate::proofs::Runs::run_steps))]
 fn sign(byte: u8, after: &[u8]) -> Option<(Front, usize)>
     ensures { IsScan result (sign_piece byte after.now) }
 {

@@ -1,4 +1,4 @@
-use Rattle.std.proofs.Common.{◌≡◌, ◌-◌, ◌<◌, ◌⊎◌, [], length, Err, inr, refl, sym, ap, ◌∙◌, subst, arith, false-eqb}
+use Rattle.std.proofs.Common.{◌≡◌, ◌-◌, ◌⊎◌, [], length, Err, inr, refl, sym, ap, ◌∙◌, subst, arith, false-eqb}
 use Rattle.std.proofs.lemmas.List.{nil_from_length}
 use Rattle.std.proofs.lemmas.Bool.{eqb-true}
 use Rattle.std.proofs.lemmas.Result.{err_from_is_err_and}
@@ -6,7 +6,7 @@ use Rattle.hume_lex.specs.Faults.{IsFault, IsRead}
 use Rattle.hume_lex.specs.Reading.{ReadsTo}
 use Rattle.hume_lex.specs.declared.lexer.LexError.TheVariants as error
 use Rattle.hume_lex.proofs.Readings.{nothing_there, takes_on, refused_there}
-use Rattle.hume_lex.proofs.Unique.{one_reading, only_error, same_error, as_result, read_no_fault}
+use Rattle.hume_lex.proofs.Unique.{one_reading, no_error, same_error, as_result, read_no_fault}
 use Rattle.hume_lex.proofs.lexer.lex.Goals as goal
 use Rattle.hume_lex.proofs.lexer.lex.Goals.{In_default, In_err-take, After-pieces}
 
@@ -17,11 +17,11 @@ bad_char c =
 pub returns-in_default-clause-error : goal.returns-in_default-clause-error
 returns-in_default-clause-error c = inr (bad_char (goal.at.returns-in_default-clause-error c).In_default)
 
-pub returns-in_default-clause-all_tokens : goal.returns-in_default-clause-all_tokens
-returns-in_default-clause-all_tokens c = only_error _ _ (inr (bad_char (goal.at.returns-in_default-clause-all_tokens c).In_default))
+pub returns-in_default-clause-only_tokens : goal.returns-in_default-clause-only_tokens
+returns-in_default-clause-only_tokens c = no_error _ _ (inr (bad_char (goal.at.returns-in_default-clause-only_tokens c).In_default))
 
-pub returns-in_default-clause-every_error : goal.returns-in_default-clause-every_error
-returns-in_default-clause-every_error c = λ fault h. as_result _ _ fault refl (same_error _ _ fault (inr (bad_char (goal.at.returns-in_default-clause-every_error c).In_default)) h)
+pub returns-in_default-clause-only_error : goal.returns-in_default-clause-only_error
+returns-in_default-clause-only_error c = λ fault h. as_result _ _ fault refl (same_error _ _ fault (inr (bad_char (goal.at.returns-in_default-clause-only_error c).In_default)) h)
 
 refused : (c : In_err-take) → (c.in_err-take.field-0.0 ≡ error.NoMemory) ⊎ IsFault c.args.source.now c.in_err-take.field-0.0
 refused c =
@@ -32,15 +32,15 @@ returns-in_err-take-clause-error c =
     let p = err_from_is_err_and c.from_residual-in_err-take.result c.from_residual-in_err-take.ensures.1 in
     rw (p.1, p.2) (refused (goal.at.returns-in_err-take-clause-error c).In_err-take)
 
-pub returns-in_err-take-clause-all_tokens : goal.returns-in_err-take-clause-all_tokens
-returns-in_err-take-clause-all_tokens c =
+pub returns-in_err-take-clause-only_tokens : goal.returns-in_err-take-clause-only_tokens
+returns-in_err-take-clause-only_tokens c =
     let p = err_from_is_err_and c.from_residual-in_err-take.result c.from_residual-in_err-take.ensures.1 in
-    rw (p.1, p.2) (only_error _ _ (refused (goal.at.returns-in_err-take-clause-all_tokens c).In_err-take))
+    rw (p.1, p.2) (no_error _ _ (refused (goal.at.returns-in_err-take-clause-only_tokens c).In_err-take))
 
-pub returns-in_err-take-clause-every_error : goal.returns-in_err-take-clause-every_error
-returns-in_err-take-clause-every_error c = λ fault h.
+pub returns-in_err-take-clause-only_error : goal.returns-in_err-take-clause-only_error
+returns-in_err-take-clause-only_error c = λ fault h.
     let p = err_from_is_err_and c.from_residual-in_err-take.result c.from_residual-in_err-take.ensures.1 in
-    as_result _ _ fault (p.1 ∙ ap Err p.2) (same_error _ _ fault (refused (goal.at.returns-in_err-take-clause-every_error c).In_err-take) h)
+    as_result _ _ fault (p.1 ∙ ap Err p.2) (same_error _ _ fault (refused (goal.at.returns-in_err-take-clause-only_error c).In_err-take) h)
 
 pub pieces-preserved : goal.pieces-preserved
 pieces-preserved c =
@@ -51,8 +51,8 @@ read c =
     let over : c.pieces.rest.now ≡ [] = nil_from_length _ (eqb-true _ 0 (sym c.pieces-test.ensures)) in
     (subst (λ l. ReadsTo c.args.source.now l c.pieces.tokens.items) over c.pieces.invariant.reads, c.pieces.invariant.limits)
 
-pub returns-clause-all_tokens : goal.returns-clause-all_tokens
-returns-clause-all_tokens c = λ tokens h. one_reading _ _ tokens (read c).0 h.0
+pub returns-clause-only_tokens : goal.returns-clause-only_tokens
+returns-clause-only_tokens c = λ tokens h. one_reading _ _ tokens (read c).0 h.0
 
-pub returns-clause-every_error : goal.returns-clause-every_error
-returns-clause-every_error c = λ fault h. absurd (read_no_fault _ _ fault (read c) h)
+pub returns-clause-only_error : goal.returns-clause-only_error
+returns-clause-only_error c = λ fault h. absurd (read_no_fault _ _ fault (read c) h)
