@@ -1,8 +1,10 @@
 //! The top call: from the words, the source's bytes and the ports to the answer.
 #![tactic(auto)]
 
+mod lines;
 mod order;
 mod status;
 
+pub use lines::{bad_value_line, refused_line, value_line};
 pub use order::Order;
 pub use status::Status;
