@@ -1,10 +1,12 @@
 //! The top call: from the words, the source's bytes and the ports to the answer.
 #![tactic(auto)]
 
+mod line_value;
 mod lines;
 mod order;
 mod status;
 
+pub use line_value::{value_of_line, MAX_LINE_BYTES};
 pub use lines::{bad_value_line, refused_line, value_line};
 pub use order::Order;
 pub use status::Status;
