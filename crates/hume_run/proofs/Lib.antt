@@ -1,1 +1,2 @@
 pub mod LineValue
+pub mod ReadLines

@@ -1,11 +1,14 @@
 //! The top call: from the words, the source's bytes and the ports to the answer.
 #![tactic(auto)]
 
+mod input;
 mod line_value;
 mod lines;
 mod order;
+mod reading;
 mod status;
 
+pub use input::{Input, InputError, read_input};
 pub use line_value::{value_of_line, MAX_LINE_BYTES};
 pub use lines::{bad_value_line, refused_line, value_line};
 pub use order::Order;
