@@ -1,12 +1,11 @@
 -- How a call ends, from how its writes and its finishes ended.
 use Rattle.std.proofs.Common.{◌≡◌, ◌⊎◌, ℕ, Bool, ◌||◌, List, [], ◌∷◌, ◌++◌, length, map, get_or, refl, ap, sym, ◌∙◌, subst, true, false, inl, inr, arith}
 use Rattle.std.specs.List.{All}
-use Rattle.std.proofs.lemmas.List.{length-map}
+use Rattle.std.specs.Str.{bytes_eq}
 use Rattle.std.proofs.lemmas.List.Elements.{All-get_or}
 use Rattle.hume_ports.specs.Port.{PortView}
 use Rattle.hume_ports.specs.Ports.{names, is_among, flushed_of, Untouched}
 use Rattle.hume_ports.specs.Delivery.{Pairs, Delivered, Progress, Failure, Roomy, SameFaults}
-use Rattle.hume_ports.proofs.Names.{is_among-append}
 use Rattle.hume_ports.proofs.Progress.{Progress-on, Delivered-on, read_failure-on, write_failure-on, finish_failure-on}
 use Rattle.hume_ports.proofs.Rooms.{Roomy-on}
 use Rattle.hume_ports.proofs.Untouched.{Untouched-more, Untouched-on}
@@ -17,6 +16,14 @@ use Rattle.hume_run.specs.Statuses.{IsAnswer}
 use Rattle.hume_run.specs.Owed.{Owed}
 use Rattle.hume_run.specs.Headline.{Ends, Fails, FailedRead, FailedWrite, FailedFinish}
 use Rattle.hume_run.specs.Reports.{IsReport, name_at, names_at, pairs_of}
+
+or-in-or : (a b c : Bool) → (a || (b || c)) ≡ ((a || b) || c)
+or-in-or true b c = refl
+or-in-or false b c = refl
+
+is_among-append : (name : List ℕ) (xs ys : List (List ℕ)) → is_among name (xs ++ ys) ≡ (is_among name xs || is_among name ys)
+is_among-append name [] ys = refl
+is_among-append name (x ∷ xs) ys = rw (is_among-append name xs ys) (or-in-or (bytes_eq name x) (is_among name xs) (is_among name ys))
 
 right_false : (a b : Bool) → (a || b) ≡ false → b ≡ false
 right_false true b h = cc

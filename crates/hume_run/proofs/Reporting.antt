@@ -6,7 +6,7 @@ use Rattle.std.proofs.lemmas.List.Elements.{All-get_or, All-map}
 use Rattle.hume_ports.specs.Port.{PortView}
 use Rattle.hume_ports.specs.Ports.{names, is_among, flushed_of, Untouched}
 use Rattle.hume_ports.specs.Delivery.{Pairs, Progress, Failure, Roomy}
-use Rattle.hume_ports.proofs.Progress.{Progress-on, finish_failure-on}
+use Rattle.hume_ports.proofs.Progress.{Progress-on, Failure-on}
 use Rattle.hume_ports.proofs.Rooms.{Roomy-on}
 use Rattle.hume_ports.proofs.Untouched.{Untouched-on}
 use Rattle.hume_run.specs.declared.status.Status.{Status}
@@ -30,8 +30,8 @@ settle_write_failed owed olds news report is failed no_room touches =
     let F : Pairs → Type 0 = λ pairs. FailedWrite pairs olds news in
     let R : Pairs → Type 0 = λ pairs. Roomy olds pairs in
     ends_failed owed olds news (inr (inl (subst F is.writes failed)))
-        (λ roomy. (let h : false ≡ true = no_room (subst R (sym is.writes) roomy) in cc))
-        (more_touched owed.reads owed.finishes olds news (touches owed.finishes is.among))
+    (λ roomy. (let h : false ≡ true = no_room (subst R (sym is.writes) roomy) in cc))
+    (more_touched owed.reads owed.finishes olds news (touches owed.finishes is.among))
 
 -- the lines first, and then the finishes
 both_touched : (owed : Owed) (olds mids news : List PortView) (report : Report) → IsReport owed (names olds) report → names mids ≡ names olds
@@ -41,7 +41,7 @@ both_touched owed olds mids news report is same touches finished =
     let named : names_at (names mids) report.finishes.items ≡ owed.finishes = ap (λ ns. names_at ns report.finishes.items) same ∙ is.finishes in
     let U : List (List ℕ) → Type 0 = λ touched. Untouched touched mids news in
     more_touched owed.reads owed.finishes olds news
-        (Untouched-on owed.finishes olds mids news (touches owed.finishes is.among) same (subst U named finished))
+    (Untouched-on owed.finishes olds mids news (touches owed.finishes is.among) same (subst U named finished))
 
 pub settle_finish_failed : (owed : Owed) (olds mids news : List PortView) (report : Report) → IsReport owed (names olds) report
     → Progress olds mids [] (pairs_of (names olds) report.lines.items)
@@ -60,11 +60,11 @@ settle_finish_failed owed olds mids news report is written failed no_room touche
       name = failed.name;
       is_finished = subst A named failed.is_finished;
       taken = failed.taken;
-      failure = subst W (append-nil owed.writes) (finish_failure-on failed.name olds mids news [] failed.taken owed.writes [] made failed.failure);
+      failure = subst W (append-nil owed.writes) (Failure-on (λ port. port.finish_faults) failed.name olds mids news [] failed.taken owed.writes [] made made.same_faults.finishes failed.failure);
     } in
     ends_failed owed olds news (inr (inr failure))
-        (λ roomy. (let h : false ≡ true = no_room (Roomy-on olds mids [] owed.writes [] made (subst R (sym (append-nil owed.writes)) roomy)) in cc))
-        (both_touched owed olds mids news report is written.same_names touches finished)
+    (λ roomy. (let h : false ≡ true = no_room (Roomy-on olds mids [] owed.writes [] made (subst R (sym (append-nil owed.writes)) roomy)) in cc))
+    (both_touched owed olds mids news report is written.same_names touches finished)
 
 pub settle_done : (owed : Owed) (olds mids news : List PortView) (report : Report) → IsReport owed (names olds) report
     → Progress olds mids [] (pairs_of (names olds) report.lines.items)
@@ -77,6 +77,6 @@ settle_done owed olds mids news report is written quiet flushed touches finished
     let P : Pairs → Type 0 = λ pairs. Progress olds news [] pairs in
     let F : List (List ℕ) → Type 0 = λ ns. All (λ name. flushed_of name news ≡ true) ns in
     ends_answered owed olds news report.status [] is.status is.answer
-        (subst P (append-nil (pairs_of (names olds) report.lines.items) ∙ is.writes) (Progress-on olds mids news [] [] (pairs_of (names olds) report.lines.items) [] written quiet))
-        (subst F named (All-map (λ name. flushed_of name news ≡ true) (name_at (names mids)) report.finishes.items flushed))
-        (both_touched owed olds mids news report is written.same_names touches finished)
+    (subst P (append-nil (pairs_of (names olds) report.lines.items) ∙ is.writes) (Progress-on olds mids news [] [] (pairs_of (names olds) report.lines.items) [] written quiet))
+    (subst F named (All-map (λ name. flushed_of name news ≡ true) (name_at (names mids)) report.finishes.items flushed))
+    (both_touched owed olds mids news report is written.same_names touches finished)

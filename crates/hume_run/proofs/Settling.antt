@@ -43,9 +43,9 @@ pub still_untouched : (olds mids news : List PortView) (lines : List Line) (coun
     → (touched : List (List ℕ)) → All (λ l. is_among (name_at (names olds) l.at) touched ≡ true) lines → Untouched touched olds news
 still_untouched olds mids news lines count line within is place before step touched among =
     Untouched-on touched olds mids news (before.untouched touched among) before.progress.same_names
-        (Untouched-among mids news (name_at (names olds) line.at) touched
-            (of_item (λ l. is_among (name_at (names olds) l.at) touched ≡ true) lines count line within is among)
-            (at_place olds mids line.at (λ name. Untouched (name ∷ []) mids news) before.progress.same_names place step))
+    (Untouched-among mids news (name_at (names olds) line.at) touched
+    (of_item (λ l. is_among (name_at (names olds) l.at) touched ≡ true) lines count line within is among)
+    (at_place olds mids line.at (λ name. Untouched (name ∷ []) mids news) before.progress.same_names place step))
 
 pub Written-more : (olds mids news : List PortView) (lines : List Line) (count : ℕ) (line : Line) → count < length lines → line ≡ get_or lines count line
     → IsPlace (names olds) line.at → Written olds mids lines count
@@ -57,7 +57,7 @@ Written-more olds mids news lines count line within is place before given step =
     record {
       progress = subst P (sym (pairs-more (names olds) lines count line within is))
           (Progress-on olds mids news [] [] _ _ before.progress
-              (at_place olds mids line.at (λ name. Progress mids news [] ((name, line.bytes.items) ∷ [])) before.progress.same_names place given));
+          (at_place olds mids line.at (λ name. Progress mids news [] ((name, line.bytes.items) ∷ [])) before.progress.same_names place given));
       untouched = still_untouched olds mids news lines count line within is place before step;
     }
 
@@ -83,7 +83,7 @@ write_failed olds mids news lines count line within is place before failed =
       in_order = split_at (names olds) lines count line within is;
       count = f.0;
       taken = [];
-      failure = write_failure-on (name_at (names olds) line.at) olds mids news [] [] _ _ before.progress f.2;
+      failure = write_failure-on (name_at (names olds) line.at) olds mids news [] _ _ before.progress f.2;
     }
 
 pub write_roomy : (olds mids : List PortView) (lines : List Line) (count : ℕ) (line : Line) (R : Type 0) → count < length lines → line ≡ get_or lines count line
@@ -93,9 +93,9 @@ pub write_roomy : (olds mids : List PortView) (lines : List Line) (count : ℕ) 
 write_roomy olds mids lines count line R within is place before step roomy =
     let P : Pairs → Type 0 = λ pairs. Roomy olds pairs in
     let rest = Roomy-on olds mids [] (pairs_of (names olds) (take count lines)) (pair_of (names olds) line ∷ pairs_of (names olds) (drop (count + 1) lines)) before.progress
-        (subst P (split_at (names olds) lines count line within is) roomy) in
+    (subst P (split_at (names olds) lines count line within is) roomy) in
     at_place olds mids line.at (λ name. Roomy mids ((name, line.bytes.items) ∷ []) → R) before.progress.same_names place step
-        (Roomy-first mids (pair_of (names olds) line ∷ []) (pairs_of (names olds) (drop (count + 1) lines)) rest)
+    (Roomy-first mids (pair_of (names olds) line ∷ []) (pairs_of (names olds) (drop (count + 1) lines)) rest)
 
 -- ---- finishes
 
@@ -127,9 +127,9 @@ pub finish_untouched : (olds mids news : List PortView) (places : List ℕ) (cou
     → Untouched (names_at (names olds) places) olds news
 finish_untouched olds mids news places count at within is place before step =
     Untouched-on (names_at (names olds) places) olds mids news before.untouched before.progress.same_names
-        (Untouched-among mids news (name_at (names olds) at) (names_at (names olds) places)
-            (named_among (names olds) places count at within is)
-            (at_place olds mids at (λ name. Untouched (name ∷ []) mids news) before.progress.same_names place step))
+    (Untouched-among mids news (name_at (names olds) at) (names_at (names olds) places)
+    (named_among (names olds) places count at within is)
+    (at_place olds mids at (λ name. Untouched (name ∷ []) mids news) before.progress.same_names place step))
 
 pub Finished-more : (olds mids news : List PortView) (places : List ℕ) (count at : ℕ) → count < length places → at ≡ get_or places count 0
     → IsPlace (names olds) at → Finished olds mids places count
@@ -155,7 +155,7 @@ finish_failed olds mids news places count at within is place before failed = rec
   name = name_at (names olds) at;
   is_finished = named_among (names olds) places count at within is;
   taken = [];
-  failure = finish_failure-on (name_at (names olds) at) olds mids news [] [] [] [] before.progress
+  failure = finish_failure-on (name_at (names olds) at) olds mids news [] [] before.progress
       (at_place olds mids at (λ name. Failure (λ port. port.finish_faults) name mids news [] []) before.progress.same_names place failed);
 }
 

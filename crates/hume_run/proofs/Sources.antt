@@ -3,7 +3,7 @@ use Rattle.std.proofs.Common.{◌≡◌, ℕ, ◌<◌, List, [], ◌∷◌, ◌+
 use Rattle.std.proofs.Math.Seq.{take-append_seam}
 use Rattle.hume_ports.specs.Port.{PortView}
 use Rattle.hume_ports.specs.Ports.{left_of, ForNameAt}
-use Rattle.hume_ports.specs.Delivery.{Pairs, Progress, Failure}
+use Rattle.hume_ports.specs.Delivery.{Pairs, Progress, ReadFailure}
 use Rattle.hume_run.specs.Headline.{source_text}
 
 -- what is kept of a buffer of the length of the whole that was filled so far
@@ -28,6 +28,6 @@ pub source_is : (olds : List PortView) (at count : ℕ) (buf text : List ℕ) �
 source_is olds at count buf text is long front name place = text_of_left (left_of name olds) count buf text is long (front name place)
 
 pub source_failed : (olds news : List PortView) (at : ℕ) (buf : List ℕ)
-    → ForNameAt at olds (λ name. (count : ℕ) × (count < length buf) × Failure (λ port. port.read_faults) name olds news ((name, take count buf) ∷ []) [])
-    → ForNameAt at olds (λ name. (taken : Pairs) × Failure (λ port. port.read_faults) name olds news taken [])
+    → ForNameAt at olds (λ name. (count : ℕ) × (count < length buf) × ReadFailure name olds news ((name, take count buf) ∷ []) [])
+    → ForNameAt at olds (λ name. (taken : Pairs) × ReadFailure name olds news taken [])
 source_failed olds news at buf failed name place = let f = failed name place in ((name, take f.0 buf) ∷ [], f.2)

@@ -5,7 +5,7 @@ use Rattle.std.specs.Str.{bytes_eq}
 use Rattle.hume_base.specs.declared.limits.TheConstants.{MAX_SOURCE_BYTES}
 use Rattle.hume_ports.specs.Port.{PortView}
 use Rattle.hume_ports.specs.Ports.{names, place_of, left_of, flushed_of, is_among, Untouched}
-use Rattle.hume_ports.specs.Delivery.{Pairs, Delivered, SameFaults, Failure, Roomy}
+use Rattle.hume_ports.specs.Delivery.{Pairs, Delivered, SameFaults, ReadFailure, WriteFailure, FinishFailure, Roomy}
 use Rattle.hume_run.specs.declared.status.Status.{Status}
 use Rattle.hume_run.specs.declared.status.Status.TheVariants.{Usage, Fault, NoMemory}
 use Rattle.hume_run.specs.Statuses.{IsAnswer}
@@ -22,7 +22,7 @@ pub record FailedRead (reads : List (List ℕ)) (old new : List PortView) : Type
   pub name : List ℕ
   pub is_read : is_among name reads ≡ true
   pub taken : Pairs
-  pub failure : Failure (λ port. port.read_faults) name old new taken []
+  pub failure : ReadFailure name old new taken []
 
 -- One of these writes failed: those before it were made, and perhaps a front of its own bytes went out.
 pub record FailedWrite (writes : Pairs) (old new : List PortView) : Type 0 where
@@ -32,14 +32,14 @@ pub record FailedWrite (writes : Pairs) (old new : List PortView) : Type 0 where
   pub in_order : writes ≡ made ++ (pair ∷ later)
   pub count : ℕ
   pub taken : Pairs
-  pub failure : Failure (λ port. port.write_faults) pair.0 old new taken (made ++ (pair.0, take count pair.1) ∷ [])
+  pub failure : WriteFailure pair.0 old new taken (made ++ (pair.0, take count pair.1) ∷ [])
 
 -- A finish of a port with one of these names failed, and all of these writes were made.
 pub record FailedFinish (finishes : List (List ℕ)) (writes : Pairs) (old new : List PortView) : Type 0 where
   pub name : List ℕ
   pub is_finished : is_among name finishes ≡ true
   pub taken : Pairs
-  pub failure : Failure (λ port. port.finish_faults) name old new taken writes
+  pub failure : FinishFailure name old new taken writes
 
 -- How a call that owes this may fail: at a read, a write or a finish.
 abbrev pub Fails : Owed → List PortView → List PortView → Type 0

@@ -2,6 +2,7 @@ pub mod Statuses
 pub mod Words
 pub mod OneBox
 pub mod Inputs
+pub mod Reading
 pub mod Owed
 pub mod Headline
 pub mod Reports

@@ -1,6 +1,6 @@
 ghost use Rattle.std.specs.Prelude.{◌≡◌, ◌<◌, ℕ, List, [], ◌∷◌, length, map, IfOk, IfSome, IsErrOf};
 ghost use Rattle.hume_ports.specs.Ports.{names, left_of, ForNameAt, Untouched};
-ghost use Rattle.hume_ports.specs.Delivery.{Pairs, Progress, Failure, Roomy};
+ghost use Rattle.hume_ports.specs.Delivery.{Pairs, Progress, ReadFailure, Roomy};
 ghost use Rattle.hume_run.specs.Headline.{source_text};
 
 use hume_base::limits::MAX_SOURCE_BYTES;
@@ -29,7 +29,7 @@ pub fn read_source(
     ensures text { IfOk result (λ text. ForNameAt at (map view ports.old) (λ name.
         IfSome (left_of name (map view ports.old)) (λ left. text.items ≡ source_text left))) }
     ensures failed { IsErrOf result SourceError.Failed → ForNameAt at (map view ports.old) (λ name.
-        (taken : Pairs) × Failure (λ port. port.read_faults) name (map view ports.old) (map view ports.new) taken []) }
+        (taken : Pairs) × ReadFailure name (map view ports.old) (map view ports.new) taken []) }
     ensures memory { IsErrOf result SourceError.NoMemory → map view ports.new ≡ map view ports.old }
     ensures roomy { Roomy (map view ports.old) [] → IsErrOf result SourceError.Failed → ⊥ }
     ensures same_names { names (map view ports.new) ≡ names (map view ports.old) }

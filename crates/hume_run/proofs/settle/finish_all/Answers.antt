@@ -10,7 +10,7 @@ loop-at-init g c = Finished-start _ _
 pub loop-at-preserved : goal.loop-at-preserved
 loop-at-preserved g c = Finished-more _ _ _ _ _ _ c.loop-at-test.true refl
     (place_place _ _ _ _ c.loop-at-test.true refl c.requires) c.loop-at.invariant
-    c.in-Ok.ensures.quiet c.in-Ok.ensures.flushed c.in-Ok.ensures.untouched
+    c.in-Ok.ensures.finished c.in-Ok.ensures.flushed c.in-Ok.ensures.untouched
 
 pub returns-in-Err-clause-failed : goal.returns-in-Err-clause-failed
 returns-in-Err-clause-failed g c = finish_failed _ _ _ _ _ _ c.loop-at-test.true refl
