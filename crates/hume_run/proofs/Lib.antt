@@ -5,3 +5,5 @@ pub mod Reporting
 pub mod Sources
 pub mod LineValue
 pub mod ReadLines
+pub mod Supersteps
+pub mod Feeding

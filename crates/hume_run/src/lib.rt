@@ -4,6 +4,7 @@
 mod input;
 mod line_value;
 mod lines;
+mod net_run;
 mod order;
 mod reading;
 mod report;

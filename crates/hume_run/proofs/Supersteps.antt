@@ -1,0 +1,16 @@
+-- One superstep more.
+use Rattle.std.proofs.Common.{◌≡◌, ℕ, ◌+◌, refl, ap, add-one}
+use Rattle.std.proofs.lemmas.Grind.{common_steps}
+use Rattle.hume_model.specs.declared.core_tree.Core.{Core}
+use Rattle.hume_model.specs.declared.state.State.{State}
+use Rattle.hume_model.specs.Lockstep.{superstep, lockstep}
+
+pub lockstep-zero : (core : Core) (state : State) → lockstep core state 0 ≡ state
+unfolding lockstep
+lockstep-zero core state = refl
+
+pub lockstep-more : (core : Core) (state : State) (steps : ℕ) → lockstep core state (steps + 1) ≡ superstep core (lockstep core state steps)
+unfolding lockstep
+lockstep-more core state steps = ap (lockstep core state) (add-one steps)
+
+pub ruleset superstep_steps = (common_steps, lockstep-zero, lockstep-more)
