@@ -4,3 +4,4 @@ pub mod OneBox
 pub mod Inputs
 pub mod Owed
 pub mod Headline
+pub mod Places
