@@ -5,3 +5,4 @@ pub mod Inputs
 pub mod Owed
 pub mod Headline
 pub mod Places
+pub mod Reader
