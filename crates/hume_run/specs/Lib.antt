@@ -5,4 +5,5 @@ pub mod Inputs
 pub mod Owed
 pub mod Headline
 pub mod Places
+pub mod PartsOf
 pub mod Reader

@@ -7,16 +7,6 @@ use Rattle.std.specs.Str.{bytes_eq}
 use Rattle.hume_model.specs.declared.core_tree.Op.{Op}
 use Rattle.hume_model.specs.declared.core_tree.Op.TheVariants.{Add, Sub, Mul}
 use Rattle.hume_run.specs.OneBox.{OneBox}
-use Rattle.hume_run.specs.declared.one_box.Parts.{Parts}
-
--- The parts that a call tells.
-abbrev pub parts_of : Parts → OneBox
-parts_of parts = record {
-  input = parts.input.now;
-  op = parts.op;
-  digits = parts.digits.now;
-  output = parts.output.now;
-}
 
 -- ---- the pieces
 

@@ -2,7 +2,7 @@
 ghost use Rattle.std.specs.Prelude.{◌≡◌, [], ◌∷◌, IfOk, None};
 ghost use Rattle.hume_model.specs.WellFormed.{IsWellFormed};
 ghost use Rattle.hume_run.specs.OneBox.{IsOperand, core_of, one_box as core_box, one_rule as core_rule, int_32};
-ghost use Rattle.hume_run.specs.Reader.{parts_of};
+ghost use Rattle.hume_run.specs.PartsOf.{parts_of};
 
 use crate::numbers::value;
 use crate::one_box::Parts;

@@ -15,3 +15,8 @@ pub use one_box::{Parts, read_one_box};
 pub use order::Order;
 pub use status::Status;
 pub use words::read_words;
+
+#[cfg(test)]
+mod source_tests;
+#[cfg(test)]
+mod words_tests;

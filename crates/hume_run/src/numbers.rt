@@ -5,12 +5,15 @@ ghost use Rattle.std.specs.List.{list_all};
 ghost use Rattle.std.specs.Str.Parse.{digits_value};
 ghost use Rattle.hume_run.specs.Words.{is_number as number};
 
-/// Whether the bytes are one to nine digits and nothing else.
+/// Digits of a number.
+pub const MAX_DIGITS: usize = 9;
+
+/// Whether the bytes are digits and nothing else, and few enough.
 #[tactic(auto, using(crate::proofs::Digits::digit_steps))]
 pub fn is_number(bytes: &[u8]) -> bool
     ensures { result ≡ number bytes.now }
 {
-    1 <= bytes.len() && bytes.len() <= 9 && all_digits(bytes)
+    1 <= bytes.len() && bytes.len() <= MAX_DIGITS && all_digits(bytes)
 }
 
 fn all_digits(bytes: &[u8]) -> bool

@@ -1,18 +1,18 @@
 // The source of one box between two streams.
-ghost use Rattle.std.specs.Prelude.{◌≡◌, ◌≤◌, ⊤, length, take, drop, MatchOption, IfSome, None, Some};
+ghost use Rattle.std.specs.Prelude.{◌≡◌, ◌≤◌, length, MatchOption, IfSome, None, Some};
 ghost use Rattle.std.specs.Char.{is_ascii_digit};
 ghost use Rattle.std.specs.List.{prefix_len};
 ghost use Rattle.std.specs.Str.{bytes_eq};
 ghost use Rattle.hume_run.specs.OneBox.{OneBox, Spells};
-ghost use Rattle.hume_run.specs.Reader.{parts_of, after as text_after, op_of as operation, operator as first_operator, operand as first_operand, port_name as first_name, is_name_byte as name_byte, cut as pieces, at_end};
+ghost use Rattle.hume_run.specs.PartsOf.{parts_of};
+ghost use Rattle.hume_run.specs.Reader.{after as text_after, op_of as operation, operator as first_operator, operand as first_operand, port_name as first_name, is_name_byte as name_byte, cut as pieces, at_end};
 
+use crate::numbers::MAX_DIGITS;
 use hume_base::limits::MAX_PORT_NAME_BYTES;
 use hume_model::Op;
 
-/// Digits of an operand.
-const MAX_OPERAND_DIGITS: usize = 9;
-
 /// What is free in a one-box source.
+#[derive(Drop)]
 pub struct Parts<'a> {
     /// The name of the input stream's port.
     pub input: &'a [u8],
@@ -88,7 +88,7 @@ fn op_of(sign: u8) -> Option<Op>
 fn operand(source: &[u8]) -> Option<(&[u8], &[u8])>
     ensures { MatchOption result (first_operand source.now ≡ None) (λ read. first_operand source.now ≡ Some (read.0.now, read.1.now)) }
 {
-    cut(source, digits_len(source), MAX_OPERAND_DIGITS)
+    cut(source, digits_len(source), MAX_DIGITS)
 }
 
 fn digits_len(source: &[u8]) -> usize
