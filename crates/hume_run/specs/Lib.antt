@@ -6,3 +6,6 @@ pub mod Reading
 pub mod Owed
 pub mod Headline
 pub mod Reports
+pub mod Places
+pub mod PartsOf
+pub mod Reader

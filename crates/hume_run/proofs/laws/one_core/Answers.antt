@@ -1,0 +1,5 @@
+use Rattle.hume_run.proofs.Whole.{one_core}
+use Rattle.hume_run.proofs.laws.one_core.Goals as goal
+
+pub returns : goal.returns
+returns c = one_core

@@ -1,0 +1,7 @@
+-- The place of the source's name among the words.
+use Rattle.std.specs.Prelude.{ℕ}
+use Rattle.hume_run.specs.declared.order.Order.{Order}
+use Rattle.hume_run.specs.declared.order.Order.TheVariants.{Run}
+
+abbrev pub source_place : Order → ℕ
+source_place (Run steps source) = source

@@ -1,0 +1,99 @@
+// The core of a one-box source.
+ghost use Rattle.std.specs.Prelude.{◌≡◌, [], ◌∷◌, IfOk, None};
+ghost use Rattle.hume_model.specs.WellFormed.{IsWellFormed};
+ghost use Rattle.hume_run.specs.OneBox.{IsOperand, core_of, one_box as core_box, one_rule as core_rule, int_32};
+ghost use Rattle.hume_run.specs.PartsOf.{parts_of};
+
+use crate::numbers::value;
+use crate::one_box::Parts;
+use hume_base::{List, Text, Ty};
+use hume_model::{BoxC, Core, Expr, InPat, NodeC, Op, PatC, PortC, Res, RuleC, StreamC, WireC};
+use std::alloc::{AllocError, Global};
+
+/// The core that a source of these parts stands for.
+#[tactic(auto, using(crate::proofs::Cores::core_steps))]
+pub fn build_core(alloc: Global, parts: &Parts) -> Result<Core, AllocError>
+    requires { IsOperand parts.now.digits.now }
+    ensures core { IfOk result (λ core. core ≡ core_of (parts_of parts.now)) }
+    ensures well_formed { IfOk result (λ core. IsWellFormed core) }
+{
+    let mut nodes = one(alloc, NodeC::Rules(one_box(alloc, parts)?))?;
+    nodes.push(NodeC::From(stream(alloc, b"s", 3, parts.input)?))?;
+    nodes.push(NodeC::To(stream(alloc, b"t", 4, parts.output)?))?;
+    let mut wires = one(alloc, wire(5, 1, 0))?;
+    wires.push(wire(6, 0, 2))?;
+    Ok(Core { nodes, wires })
+}
+
+fn one_box(alloc: Global, parts: &Parts) -> Result<BoxC, AllocError>
+    requires { IsOperand parts.now.digits.now }
+    ensures { IfOk result (λ made. made ≡ core_box (parts_of parts.now)) }
+{
+    Ok(BoxC {
+        name: Text::from_bytes(alloc, b"b")?,
+        line: 1,
+        ins: one(alloc, port(alloc, b"x")?)?,
+        outs: one(alloc, port(alloc, b"y")?)?,
+        fair: false,
+        rules: one(alloc, one_rule(alloc, parts)?)?,
+    })
+}
+
+#[tactic(auto, using(crate::proofs::Cores::core_steps))]
+fn one_rule(alloc: Global, parts: &Parts) -> Result<RuleC, AllocError>
+    requires { IsOperand parts.now.digits.now }
+    ensures { IfOk result (λ rule. rule ≡ core_rule (parts_of parts.now)) }
+{
+    let mut operands = one(alloc, Expr::Var(0))?;
+    operands.push(Expr::Word(u64::from(value(parts.digits))))?;
+    let result = Expr::Prim(parts.op, INT_32, operands);
+    Ok(RuleC {
+        pats: one(alloc, InPat::Built(PatC::Var))?,
+        result: Res::Outs(one(alloc, Some(result))?),
+    })
+}
+
+/// The type of every value of a one-box source.
+const INT_32: Ty = Ty::Int(32);
+
+fn port(alloc: Global, name: &[u8]) -> Result<PortC, AllocError>
+    ensures { IfOk result (λ port. port ≡ record { name = name.now; ty = int_32 }) }
+{
+    Ok(PortC {
+        name: Text::from_bytes(alloc, name)?,
+        ty: INT_32,
+    })
+}
+
+fn stream(alloc: Global, name: &[u8], line: u32, port: &[u8]) -> Result<StreamC, AllocError>
+    ensures { IfOk result (λ stream. stream ≡ record { name = name.now; line = line; port = port.now }) }
+{
+    Ok(StreamC {
+        name: Text::from_bytes(alloc, name)?,
+        line,
+        port: Text::from_bytes(alloc, port)?,
+    })
+}
+
+/// A wire between the first ports of two nodes.
+fn wire(line: u32, from: u32, to: u32) -> WireC
+    ensures { result ≡ record { line = line; from = from; from_port = 0; to = to; to_port = 0; ty = int_32; initial = None } }
+{
+    WireC {
+        line,
+        from,
+        from_port: 0,
+        to,
+        to_port: 0,
+        ty: INT_32,
+        initial: None,
+    }
+}
+
+fn one<T: Drop>(alloc: Global, item: T) -> Result<List<T>, AllocError>
+    ensures { IfOk result (λ list. list ≡ item ∷ []) }
+{
+    let mut list = List::new(alloc);
+    list.push(item)?;
+    Ok(list)
+}

@@ -1,0 +1,47 @@
+ghost use Rattle.std.specs.Prelude.{◌≡◌, ◌<◌, ◌≤◌, length, map, IfSome, Some, string_bytes};
+ghost use Rattle.hume_run.specs.Words.{order_of, number_of, run_of as asked_run, steps_of};
+ghost use Rattle.hume_run.specs.Places.{source_place};
+
+use crate::numbers::{is_number, value};
+use crate::order::Order;
+
+/// Supersteps of a run.
+const MAX_STEPS: u32 = 64;
+
+/// The place of the source's name among the words.
+const SOURCE_PLACE: u32 = 3;
+
+/// What the words of a call ask for, if they have a form.
+pub fn read_words(words: &[String]) -> Option<Order>
+    ensures order { result ≡ order_of (map string_bytes words.now) }
+    ensures steps { IfSome result (λ order. steps_of order ≤ 64) }
+    ensures source { IfSome result (λ order. source_place order < length words.now) }
+{
+    match words {
+        [command, steps, workers, _, ..] if command.as_str() == "run" => {
+            run_of(number(steps)?, number(workers)?)
+        }
+        _ => None,
+    }
+}
+
+fn number(word: &str) -> Option<u32>
+    ensures { result ≡ number_of word.now }
+{
+    if is_number(word.as_bytes()) {
+        return Some(value(word.as_bytes()));
+    }
+    None
+}
+
+fn run_of(steps: u32, workers: u32) -> Option<Order>
+    ensures { result ≡ asked_run (Some steps) (Some workers) }
+{
+    if steps <= MAX_STEPS && workers == 1 {
+        return Some(Order::Run {
+            steps,
+            source: SOURCE_PLACE,
+        });
+    }
+    None
+}
