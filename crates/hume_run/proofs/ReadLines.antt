@@ -208,6 +208,11 @@ EndsAs-goes_on want reading next h some on few line-is =
     (ap (bad_from (1 + length reading.values)) same ∙ on.same_bad [])
     (EndsAs-all want next few line-is)
 
+pub EndsAs-on : (want : ℕ) (a b : Reading) (x : List ℕ) (input : Input) → GoesOn a x b → EndsAs want b input → IsInputAmong want (good_with a x) (bad_with a x) input
+EndsAs-on want a b x input h ends =
+    let same : x ++ [] ≡ x = append-nil x in
+    among_same want _ _ _ _ input (ap (good_with a) (sym same) ∙ h.same_good []) (ap (bad_with a) (sym same) ∙ h.same_bad []) ends
+
 pub not_empty : (b : Bool) (line : List ℕ) → IsTrue b ↔ (line ≡ []) → b ≡ false → 0 < length line
 not_empty b [] h e = absurd (let t : b ≡ true = h.1 refl in cc)
 not_empty b (byte ∷ line) h e = omega arith

@@ -3,7 +3,7 @@ use Rattle.std.specs.Prelude.{◌≡◌, ◌==◌, ◌+◌, ◌*◌, ◌<◌, �
 use Rattle.hume_base.specs.declared.types.Value.{Value}
 use Rattle.hume_ports.specs.Port.{PortView}
 use Rattle.hume_ports.specs.Ports.{left_of}
-use Rattle.hume_ports.specs.Delivery.{Progress}
+use Rattle.hume_ports.specs.Delivery.{Progress, Failure}
 use Rattle.hume_run.specs.declared.line_value.TheConstants.{MAX_LINE_BYTES}
 use Rattle.hume_run.specs.declared.input.Input.{Input}
 use Rattle.hume_run.specs.declared.input.Input.TheVariants.{Values, Bad}
@@ -30,6 +30,14 @@ pub record GivesInput (want : ℕ) (name : List ℕ) (old new : List PortView) (
   pub told : IfSome (left_of name old) (λ left. text ≡ left)
   pub untold : IsNone (left_of name old) → text ≡ taken
   pub is_input : IsInputOf want text input
+
+-- From the port of that name something was read, and nothing else was done.
+abbrev pub ReadsSome : List ℕ → List PortView → List PortView → Type 0
+ReadsSome name old new = (taken : List ℕ) × Progress old new ((name, taken) ∷ []) []
+
+-- A read of the port of that name failed, perhaps after others.
+abbrev pub FailsToRead : List ℕ → List PortView → List PortView → Type 0
+FailsToRead name old new = (taken : List ℕ) × Failure (λ port. port.read_faults) name old new ((name, taken) ∷ []) []
 
 -- ---- a reading: the values of the lines that were read, all good, and the bytes of the line that isn't ended
 

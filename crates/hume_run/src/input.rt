@@ -1,8 +1,8 @@
-ghost use Rattle.std.specs.Prelude.{◌≡◌, ◌<◌, ℕ, List as Items, [], ◌∷◌, length, map, IfOk};
+ghost use Rattle.std.specs.Prelude.{◌≡◌, ◌<◌, [], ◌∷◌, length, map, IfOk};
 ghost use Rattle.std.specs.Result.{IsErrOf};
 ghost use Rattle.hume_ports.specs.Ports.{names, ForNameAt, Untouched};
-ghost use Rattle.hume_ports.specs.Delivery.{Progress, Failure, Roomy};
-ghost use Rattle.hume_run.specs.Reading.{GivesInput};
+ghost use Rattle.hume_ports.specs.Delivery.{Roomy};
+ghost use Rattle.hume_run.specs.Reading.{GivesInput, ReadsSome, FailsToRead};
 
 use crate::reading::Reading;
 use hume_base::{List, Value};
@@ -62,10 +62,10 @@ pub fn read_input(
     requires { at < length ports.old }
     ensures input { IfOk result (λ input. ForNameAt at (map view ports.old) (λ name.
         GivesInput want name (map view ports.old) (map view ports.new) input)) }
-    ensures failed { IsErrOf result InputError.Failed → ForNameAt at (map view ports.old) (λ name. (taken : Items ℕ)
-        × Failure (λ port. port.read_faults) name (map view ports.old) (map view ports.new) ((name, taken) ∷ []) []) }
-    ensures no_memory { IsErrOf result InputError.NoMemory → ForNameAt at (map view ports.old) (λ name. (taken : Items ℕ)
-        × Progress (map view ports.old) (map view ports.new) ((name, taken) ∷ []) []) }
+    ensures failed { IsErrOf result InputError.Failed
+        → ForNameAt at (map view ports.old) (λ name. FailsToRead name (map view ports.old) (map view ports.new)) }
+    ensures no_memory { IsErrOf result InputError.NoMemory
+        → ForNameAt at (map view ports.old) (λ name. ReadsSome name (map view ports.old) (map view ports.new)) }
     ensures roomy { Roomy (map view ports.old) [] → IsErrOf result InputError.Failed → ⊥ }
 
     ensures idle { want ≡ 0 → map view ports.new ≡ map view ports.old }
@@ -76,29 +76,6 @@ pub fn read_input(
     if want == 0 {
         return Ok(Input::Values(List::new(alloc)));
     }
-    read_lines(alloc, ports, at, want)
-}
-
-fn read_lines(
-    alloc: Global,
-    ports: &mut [Box<dyn Port>],
-    at: usize,
-    want: u32,
-) -> Result<Input, InputError>
-    requires place { at < length ports.old }
-    requires some { 0 < want }
-    ensures input { IfOk result (λ input. ForNameAt at (map view ports.old) (λ name.
-        GivesInput want name (map view ports.old) (map view ports.new) input)) }
-    ensures failed { IsErrOf result InputError.Failed → ForNameAt at (map view ports.old) (λ name. (taken : Items ℕ)
-        × Failure (λ port. port.read_faults) name (map view ports.old) (map view ports.new) ((name, taken) ∷ []) []) }
-    ensures no_memory { IsErrOf result InputError.NoMemory → ForNameAt at (map view ports.old) (λ name. (taken : Items ℕ)
-        × Progress (map view ports.old) (map view ports.new) ((name, taken) ∷ []) []) }
-    ensures roomy { Roomy (map view ports.old) [] → IsErrOf result InputError.Failed → ⊥ }
-
-    ensures same_names { names (map view ports.new) ≡ names (map view ports.old) }
-    ensures untouched { ForNameAt at (map view ports.old) (λ name.
-        Untouched (name ∷ []) (map view ports.old) (map view ports.new)) }
-{
     let mut reading = Reading::new(alloc);
     let mut piece = [0; PIECE_BYTES];
     'pieces: loop {
