@@ -121,7 +121,7 @@ reads_some want olds mids news at reading result buf bytes h piece name e =
 
 pub fails_to_read : (want : ℕ) (olds mids news : List PortView) (at : ℕ) (reading : Reading) → HasLines want olds mids at reading → ForNameAt at mids (λ name. Failure (λ port. port.read_faults) name mids news [] []) → ForNameAt at olds (λ name. FailsToRead name olds news)
 fails_to_read want olds mids news at reading h failed name e =
-    (h.taken, read_failure-on name olds mids news ((name, h.taken) ∷ []) [] [] [] (h.read.progress name e) (failed name (ap (place_of name) h.read.same_names ∙ e)))
+    (h.taken, read_failure-on name olds mids news ((name, h.taken) ∷ []) [] (h.read.progress name e) (failed name (ap (place_of name) h.read.same_names ∙ e)))
 
 pub lines_names : (want : ℕ) (olds mids news : List PortView) (at : ℕ) (reading : Reading) (result : Result ℕ Failed) (buf : List ℕ) → HasLines want olds mids at reading → OneRead mids news at result buf → names news ≡ names olds
 lines_names want olds mids news at reading result buf h one = names_after olds mids news at h.taken result buf h.read one

@@ -12,7 +12,7 @@ use Rattle.hume_model.specs.declared.core_tree.Core.{Core}
 use Rattle.hume_run.specs.OneBox.{OneBox, IsNameByte, IsPortName, IsOperand, IsOneBox, op_sign, text_of, core_of, Spells, StandsFor}
 use Rattle.hume_run.specs.Reader.{after, operator, operand, is_name_byte, port_name, before_op, before_input, before_output, at_end, ended, with_output, with_input, with_stream, with_operand, with_op, with_box, parts_read}
 use Rattle.hume_run.proofs.Digits.{all_digits_is}
-use Rattle.hume_run.proofs.Reading.{after_sound, after_text, operator_sound, operator_sign, IsFront, Stops, front_sound, front_cut}
+use Rattle.hume_run.proofs.TextReaders.{after_sound, after_text, operator_sound, operator_sign, IsFront, Stops, front_sound, front_cut}
 
 -- ---- names and operands
 

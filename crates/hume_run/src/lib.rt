@@ -14,10 +14,8 @@ mod reading;
 mod report;
 mod settle;
 mod source;
-mod source_tests;
 mod status;
 mod words;
-mod words_tests;
 
 pub use build::build_core;
 pub use input::{Input, InputError, read_input};
@@ -30,4 +28,6 @@ pub use status::Status;
 pub use words::read_words;
 
 #[cfg(test)]
+mod source_tests;
 #[cfg(test)]
+mod words_tests;
