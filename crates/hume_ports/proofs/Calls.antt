@@ -45,8 +45,7 @@ StaysFlushed-step : (olds news : List PortView) (at : ℕ) (step : PortView → 
 StaysFlushed-step olds news at step given law same s name out =
     of_first-any_step false (λ port. port.flushed) name olds news at step (λ a b. a ≡ true → b ≡ true) (λ x h. h) law same s
 
--- reads
-
+-- a read with that result
 abbrev Reads : Result ℕ Failed → List ℕ → PortView → PortView → Type 0
 Reads result buf old new = IsRead old new result buf
 
@@ -94,8 +93,7 @@ read_failed olds news at (Err failed) buf s = λ name e. record {
   delivered = Delivered-kept olds news at (Reads (Err failed) buf) (λ old new is. ap (λ p. p.bytes) is.keeps) s;
 }
 
--- writes
-
+-- a write with that result
 abbrev Writes : Result (Unit {0}) Failed → List ℕ → PortView → PortView → Type 0
 Writes result written old new = IsWrite old new result written
 
@@ -150,8 +148,7 @@ write_failed olds news at (Err failed) written s = λ name e.
       },
     )
 
--- finishes
-
+-- a finish with that result
 abbrev Finishes : Result (Unit {0}) Failed → PortView → PortView → Type 0
 Finishes result old new = IsFinish old new result
 

@@ -43,7 +43,7 @@ impl<R: Print + Clone + Drop> Port for StdOut<R> {
 
     fn read(&mut self, buf: &mut [u8]) -> Result<usize, Failed>
         ensures port { IsRead (⟦<StdOut<R> as Port>⟧.view self.old)
-          (⟦<StdOut<R> as Port>⟧.view self.new) result buf.new }
+            (⟦<StdOut<R> as Port>⟧.view self.new) result buf.new }
         ensures nothing { result ≡ Ok 0 }
     {
         Ok(0)

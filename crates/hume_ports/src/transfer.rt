@@ -36,6 +36,15 @@ pub(crate) fn write_whole<F: Write>(file: &mut F, bytes: &[u8]) -> Result<(), Fa
     Ok(())
 }
 
+pub(crate) fn flush<F: Write>(file: &mut F) -> Result<(), Failed>
+    ensures { Keeps (F.contents file.old) (F.contents file.new) }
+{
+    match file.flush() {
+        Ok(()) => Ok(()),
+        Err(_) => Err(Failed),
+    }
+}
+
 // Writes again where a signal came in between.
 fn write_once<F: Write>(file: &mut F, bytes: &[u8]) -> Result<usize, Failed>
     ensures bound { WritesAtMost result bytes.now }
@@ -51,13 +60,4 @@ fn write_once<F: Write>(file: &mut F, bytes: &[u8]) -> Result<usize, Failed>
         }
     }
     Err(Failed)
-}
-
-pub(crate) fn flush<F: Write>(file: &mut F) -> Result<(), Failed>
-    ensures { Keeps (F.contents file.old) (F.contents file.new) }
-{
-    match file.flush() {
-        Ok(()) => Ok(()),
-        Err(_) => Err(Failed),
-    }
 }
