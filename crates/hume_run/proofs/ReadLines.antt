@@ -136,9 +136,12 @@ pub pushed_long : (want : ℕ) (old : Reading) (byte : ℕ) → HasNoNewline old
 pushed_long want old byte h e few long =
     settled_bad want old (byte ∷ []) few (λ rest.
     let full : List ℕ = old.line ++ (byte ∷ []) in
-    let begun = lines_of-begun full rest (no_newline-push old.line byte h e) (omega arith) in
-    (full ++ begun.0, begun.1, ap lines_of (sym (append_assoc old.line (byte ∷ []) rest)) ∙ begun.2,
-    value_of-long (full ++ begun.0) (omega (arith, length-append full begun.0))))
+    let begun = lines_of-begun full rest (no_newline-push old.line byte h e) (omega arith) in (
+      full ++ begun.0,
+      begun.1,
+      ap lines_of (sym (append_assoc old.line (byte ∷ []) rest)) ∙ begun.2,
+      value_of-long (full ++ begun.0) (omega (arith, length-append full begun.0)),
+    ))
 
 pub pushed_on : (old new : Reading) (byte : ℕ) → new.values ≡ old.values → new.line ≡ old.line ++ (byte ∷ []) → GoesOn old (byte ∷ []) new
 pushed_on old new byte values-are line-is = record {
@@ -155,9 +158,6 @@ pushed_open want old new byte open-before e values-are line-is short = record {
 }
 
 -- ---- many bytes
-
-pub GoesOn-start : (reading : Reading) → GoesOn reading [] reading
-GoesOn-start reading = record { same_good = λ rest. refl; same_bad = λ rest. refl; further = omega arith }
 
 pub GoesOn-on : (a b c : Reading) (x y : List ℕ) → GoesOn a x b → GoesOn b y c → GoesOn a (x ++ y) c
 GoesOn-on a b c x y h g = record {

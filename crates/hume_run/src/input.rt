@@ -6,7 +6,7 @@ ghost use Rattle.hume_run.specs.Reading.{GivesInput, ReadsSome, FailsToRead};
 
 use crate::reading::Reading;
 use hume_base::{List, Value};
-use hume_ports::{read_at, Port};
+use hume_ports::{Port, read_at};
 use std::alloc::{AllocError, Global};
 use thiserror::Error;
 

@@ -9,7 +9,12 @@ mod reading;
 mod status;
 
 pub use input::{Input, InputError, read_input};
-pub use line_value::{value_of_line, MAX_LINE_BYTES};
+pub use line_value::{MAX_LINE_BYTES, value_of_line};
 pub use lines::{bad_value_line, refused_line, value_line};
 pub use order::Order;
 pub use status::Status;
+
+#[cfg(test)]
+mod input_tests;
+#[cfg(test)]
+mod line_tests;

@@ -2,7 +2,7 @@ ghost use Rattle.std.specs.Prelude.{◌≡◌, true, false, MatchOption, IsTrue}
 ghost use Rattle.std.specs.Str.{all_ascii_digits};
 ghost use Rattle.hume_run.specs.Inputs.{value_of, is_int_text, is_int_32, int_written, without_minus};
 
-use hume_base::{word_of_int, Value};
+use hume_base::{Value, word_of_int};
 
 /// Bytes of a line that stands for a value.
 pub const MAX_LINE_BYTES: usize = 65_536;

@@ -1,7 +1,7 @@
 ghost use Rattle.std.specs.Prelude.{◌≡◌, ◌++◌, ◌∷◌, [], codes, decimal, IfOk, OnOk};
 ghost use Rattle.hume_run.specs.Owed.{refused_line, bad_value_line, value_line};
 
-use hume_base::{int_of_word, Refusal, Value};
+use hume_base::{Refusal, Value, int_of_word};
 use itoa::Buffer;
 use std::alloc::{AllocError, Global};
 

@@ -2,7 +2,7 @@ ghost use Rattle.std.specs.Prelude.{◌≡◌, ◌+◌, ◌<◌, ◌^◌, [], �
 ghost use Rattle.hume_run.specs.Reading.{IsOpen, Reaches, EndsAs, input_found};
 
 use crate::input::Input;
-use crate::line_value::{value_of_line, MAX_LINE_BYTES};
+use crate::line_value::{MAX_LINE_BYTES, value_of_line};
 use hume_base::{List, Value};
 use std::alloc::{AllocError, Global};
 

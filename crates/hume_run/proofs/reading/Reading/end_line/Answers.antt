@@ -10,9 +10,10 @@ returns-in-None-clause-found c =
 
 pub returns-then-len-want-clause-found : goal.returns-then-len-want-clause-found
 returns-then-len-want-clause-found c =
-    let value : value_of c.args.self.now.line ≡ Some c.in-Some.value = sym (c.value_of_line.ensures ∙ ap value_of c.as_slice.ensures) ∙ c.in-Some.is in
-    (ended_open _ _ (omega arith) c.clear.ensures,
-    ended_on c.args.self.now _ c.in-Some.value c.requires.one_line c.requires.short value c.in_ok-push-in-Some.ensures.ok c.clear.ensures)
+    let value : value_of c.args.self.now.line ≡ Some c.in-Some.value = sym (c.value_of_line.ensures ∙ ap value_of c.as_slice.ensures) ∙ c.in-Some.is in (
+      ended_open _ _ (omega arith) c.clear.ensures,
+      ended_on c.args.self.now _ c.in-Some.value c.requires.one_line c.requires.short value c.in_ok-push-in-Some.ensures.ok c.clear.ensures,
+    )
 
 pub returns-clause-found : goal.returns-clause-found
 returns-clause-found c =

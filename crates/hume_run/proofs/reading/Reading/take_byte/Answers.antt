@@ -9,6 +9,7 @@ returns-then-len-gt-MAX_LINE_BYTES c =
     (omega (arith, ap length c.in_ok-push.ensures.ok)))
 
 pub returns : goal.returns
-returns c =
-    (pushed_open _ c.args.self.now _ c.args.byte c.requires (ne_eqb _ 10 c.if-byte-eq10.false) refl c.in_ok-push.ensures.ok (omega arith),
-    pushed_on c.args.self.now _ c.args.byte refl c.in_ok-push.ensures.ok)
+returns c = (
+  pushed_open _ c.args.self.now _ c.args.byte c.requires (ne_eqb _ 10 c.if-byte-eq10.false) refl c.in_ok-push.ensures.ok (omega arith),
+  pushed_on c.args.self.now _ c.args.byte refl c.in_ok-push.ensures.ok,
+)
