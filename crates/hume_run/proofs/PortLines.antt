@@ -14,7 +14,7 @@ use Rattle.hume_run.specs.declared.input.Input.TheVariants.{Values}
 use Rattle.hume_run.specs.declared.reading.Reading.{Reading}
 use Rattle.hume_run.specs.declared.reading.Found.{Found}
 use Rattle.hume_run.specs.Reading.{IsInputOf, GivesInput, ReadsSome, FailsToRead, IsOpen, GoesOn, Settles, EndsAs, Reaches, input_found, distance}
-use Rattle.hume_run.proofs.ReadLines.{GoesOn-start, GoesOn-on, Settles-on, EndsAs-on}
+use Rattle.hume_run.proofs.ReadLines.{GoesOn-on, Settles-on, EndsAs-on}
 
 -- a reading before the first byte
 abbrev no_reading : Reading

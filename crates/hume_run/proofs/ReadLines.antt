@@ -159,9 +159,6 @@ pushed_open want old new byte open-before e values-are line-is short = record {
 
 -- ---- many bytes
 
-pub GoesOn-start : (reading : Reading) → GoesOn reading [] reading
-GoesOn-start reading = record { same_good = λ rest. refl; same_bad = λ rest. refl; further = omega arith }
-
 pub GoesOn-on : (a b c : Reading) (x y : List ℕ) → GoesOn a x b → GoesOn b y c → GoesOn a (x ++ y) c
 GoesOn-on a b c x y h g = record {
   same_good = λ rest. rw append_assoc (h.same_good (y ++ rest) ∙ g.same_good rest);

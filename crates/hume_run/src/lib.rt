@@ -16,6 +16,14 @@ mod settle;
 mod source;
 mod status;
 mod words;
+#[cfg(test)]
+mod input_tests;
+#[cfg(test)]
+mod line_tests;
+#[cfg(test)]
+mod source_tests;
+#[cfg(test)]
+mod words_tests;
 
 pub use build::build_core;
 pub use input::{Input, InputError, read_input};
@@ -26,8 +34,3 @@ pub use one_box::{Parts, read_one_box};
 pub use order::Order;
 pub use status::Status;
 pub use words::read_words;
-
-#[cfg(test)]
-mod source_tests;
-#[cfg(test)]
-mod words_tests;
