@@ -9,3 +9,4 @@ pub mod Fronts
 pub mod Readings
 pub mod Unique
 pub mod Places
+pub mod Total

@@ -95,39 +95,45 @@ module _ (source rest : List ℕ) (ts : List Token) (so_far : SoFar source rest 
   pub nothing_there : 0 < length rest → first_piece rest ≡ None → IsBadChar source (length source - length rest)
   nothing_there some e = record { tokens = ts; rest = rest; before = reached; some = some; none = none_found rest e }
 
+  pub bad_token : (IsWrong : List Token → Kind → Type 0) (k : Kind) (bs : List ℕ) → first_piece rest ≡ Some (token k bs) → IsWrong ts k → IsBadToken IsWrong source (length source - length rest)
+  bad_token IsWrong k bs e wrong =
+      let f = first_found rest (token k bs) e in
+      record { tokens = ts; rest = rest; before = reached; kind = k; bytes = bs; left = f.rest; is = f.is; spells = f.right; longest = f.longest; wrong = wrong }
+
+  left_within : (p : Piece) → first_piece rest ≡ Some p → length (drop (length (bytes_of p)) rest) ≤ length source
+  left_within p e =
+      let w = so_far.within in
+      let f = first_found rest p e in
+      omega (arith, ap length (ap (drop (length (bytes_of p))) f.is ∙ drop_front (bytes_of p) f.rest), ap length f.is, length-append (bytes_of p) f.rest)
+
+  pub after_gap : (bs : List ℕ) → first_piece rest ≡ Some (gap bs) → SoFar source (drop (length bs) rest) ts
+  after_gap bs e = record {
+    reads = subst (ReadsTo source (drop (length bs) rest)) (append-nil ts) (one_more source rest ts (gap bs) so_far.reads e);
+    within = left_within (gap bs) e;
+    limits = so_far.limits;
+  }
+
+  pub after_token : (k : Kind) (bs : List ℕ) → first_piece rest ≡ Some (token k bs) → length ts < MAX_TOKENS → IsTaken k → SoFar source (drop (length bs) rest) (ts ++ put (length source - length rest) k ∷ [])
+  after_token k bs e room t = record {
+    reads = one_more source rest ts (token k bs) so_far.reads e;
+    within = left_within (token k bs) e;
+    limits = limits_push ts (length source - length rest) k so_far.limits room t;
+  }
+
   module _ (left : Bor (List ℕ)) where
     pub takes_on : (told : Front) (place : ℕ) (us : List Token) → place ≡ length source - length rest → IsNext (Some (told, left)) rest → Takes told place ts us → SoFar source left.now us
     takes_on front.Gap place us here next t = by_piece next.0 next.1 next.2 next.3
       where
         by_piece : (p : Piece) → first_piece rest ≡ Some p → Shows front.Gap p → left.now ≡ drop (length (bytes_of p)) rest → SoFar source left.now us
         by_piece (token k bs) e s l = absurd s
-        by_piece (gap bs) e s l =
-            let w = so_far.within in
-            let f = first_found rest (gap bs) e in
-            record {
-              reads = rw (l, t) (subst (ReadsTo source (drop (length bs) rest)) (append-nil ts) (one_more source rest ts (gap bs) so_far.reads e));
-              within = omega (arith, ap length l, ap length (ap (drop (length bs)) f.is ∙ drop_front bs f.rest), ap length f.is, length-append bs f.rest);
-              limits = rw t so_far.limits;
-            }
+        by_piece (gap bs) e s l = rw (l, t) (after_gap bs e)
     takes_on (front.Token k) place us here next t = by_piece next.0 next.1 next.2 next.3
       where
         by_piece : (p : Piece) → first_piece rest ≡ Some p → Shows (front.Token k) p → left.now ≡ drop (length (bytes_of p)) rest → SoFar source left.now us
         by_piece (gap bs) e s l = absurd s
-        by_piece (token m bs) e s l =
-            let w = so_far.within in
-            let f = first_found rest (token m bs) e in
-            record {
-              reads = rw (l, t.0, here, ← s.0) (one_more source rest ts (token m bs) so_far.reads e);
-              within = omega (arith, ap length l, ap length (ap (drop (length bs)) f.is ∙ drop_front bs f.rest), ap length f.is, length-append bs f.rest);
-              limits = rw (t.0, ← s.0) (limits_push ts place m so_far.limits t.1 s.1);
-            }
+        by_piece (token m bs) e s l = rw (l, t.0, here, ← s.0) (after_token m bs e t.1 s.1)
     takes_on front.WideNumber place us here next t = absurd t
     takes_on front.LongName place us here next t = absurd t
-
-    bad_token : (IsWrong : List Token → Kind → Type 0) (k : Kind) (bs : List ℕ) → first_piece rest ≡ Some (token k bs) → IsWrong ts k → IsBadToken IsWrong source (length source - length rest)
-    bad_token IsWrong k bs e wrong =
-        let f = first_found rest (token k bs) e in
-        record { tokens = ts; rest = rest; before = reached; kind = k; bytes = bs; left = f.rest; is = f.is; spells = f.right; longest = f.longest; wrong = wrong }
 
     pub refused_there : (told : Front) (place : ℕ) (e : LexError) → place ≡ length source - length rest → IsNext (Some (told, left)) rest → IsRefused told ts place e → (e ≡ error.NoMemory) ⊎ IsFault source e
     refused_there told place (error.BadChar at) here next r = absurd r

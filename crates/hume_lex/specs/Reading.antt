@@ -26,7 +26,8 @@ IsPiece (token kind bytes) = Spells kind bytes
 
 -- no piece takes the bytes and more of what follows them
 abbrev pub IsLongest : List ℕ → List ℕ → Type 0
-IsLongest bytes rest = (piece : Piece) (byte : ℕ) (more left : List ℕ) → IsPiece piece → bytes_of piece ≡ bytes ++ (byte ∷ more) → rest ≡ (byte ∷ more) ++ left → ⊥
+IsLongest bytes rest = (piece : Piece) (byte : ℕ) (more left : List ℕ) → IsPiece piece
+    → bytes_of piece ≡ bytes ++ (byte ∷ more) → rest ≡ (byte ∷ more) ++ left → ⊥
 
 -- no piece stands at the front of the bytes
 abbrev pub NoPiece : List ℕ → Type 0
@@ -39,13 +40,15 @@ source_of (piece ∷ pieces) = bytes_of piece ++ source_of pieces
 -- each piece is one, and the longest that fits before what follows it; rest follows all of them
 abbrev pub AreLongest : List Piece → List ℕ → Type 0
 AreLongest [] rest = Unit {0}
-AreLongest (piece ∷ pieces) rest = IsPiece piece × IsLongest (bytes_of piece) (source_of pieces ++ rest) × AreLongest pieces rest
+AreLongest (piece ∷ pieces) rest =
+    IsPiece piece × IsLongest (bytes_of piece) (source_of pieces ++ rest) × AreLongest pieces rest
 
 -- the tokens among the pieces, the first piece at this place
 abbrev pub tokens_at : ℕ → List Piece → List Token
 tokens_at place [] = []
 tokens_at place (gap bytes ∷ pieces) = tokens_at (place + length bytes) pieces
-tokens_at place (token kind bytes ∷ pieces) = record { kind = kind; place = place } ∷ tokens_at (place + length bytes) pieces
+tokens_at place (token kind bytes ∷ pieces) =
+    record { kind = kind; place = place } ∷ tokens_at (place + length bytes) pieces
 
 -- these are the tokens of the source up to where the rest begins
 pub record ReadsTo (source rest : List ℕ) (tokens : List Token) : Type 0 where

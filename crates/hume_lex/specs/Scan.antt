@@ -26,6 +26,16 @@ letter_n = 110
 abbrev pub letter_t : ℕ
 letter_t = 116
 
+-- a name or a keyword, a name with a capital, and a number of this text
+abbrev pub name_of : List ℕ → Piece
+name_of text = small_piece (keyword_of text) text
+
+abbrev pub capital_of : List ℕ → Piece
+capital_of text = token (kind.Upper text) text
+
+abbrev pub number_of : List ℕ → Piece
+number_of text = token (kind.Number (value_of text)) text
+
 -- the byte that an escape means
 abbrev pub escaped : ℕ → Option ℕ
 escaped code =
@@ -39,8 +49,14 @@ abbrev pub starts_with_byte : ℕ → List ℕ → Bool
 starts_with_byte wanted [] = false
 starts_with_byte wanted (byte ∷ bytes) = byte == wanted
 
+-- a letter of the byte, between single quotes
+abbrev pub letter_of : ℕ → List ℕ → Piece
+letter_of byte text = token (kind.Letter byte) (single_quote ∷ (text ++ single_quote ∷ []))
+
 abbrev pub escape_piece : ℕ → List ℕ → Option Piece
-escape_piece code rest = if starts_with_byte single_quote rest then option_map (λ byte. token (kind.Letter byte) (single_quote ∷ (backslash ∷ (code ∷ (single_quote ∷ []))))) (escaped code) else None
+escape_piece code rest =
+    if starts_with_byte single_quote rest then option_map (λ byte. letter_of byte (backslash ∷ (code ∷ []))) (escaped code)
+    else None
 
 -- after the single quote
 abbrev pub letter_piece : List ℕ → Option Piece
@@ -48,17 +64,22 @@ letter_piece [] = None
 letter_piece (byte ∷ []) = None
 letter_piece (byte ∷ (next ∷ rest)) =
     if byte == backslash then escape_piece next rest
-    else (if is_plain byte && next == single_quote then Some (token (kind.Letter byte) (single_quote ∷ (byte ∷ (single_quote ∷ []))))
+    else (if is_plain byte && next == single_quote then Some (letter_of byte (byte ∷ []))
     else None)
 
+-- as long as a port's name may be, and closed
 abbrev pub is_port_name : List ℕ → List ℕ → Bool
-is_port_name inside rest = nat_lt 0 (length inside) && nat_le (length inside) MAX_PORT_NAME_BYTES && starts_with_byte double_quote rest
+is_port_name inside rest =
+    nat_lt 0 (length inside) && nat_le (length inside) MAX_PORT_NAME_BYTES && starts_with_byte double_quote rest
+
+abbrev pub quoted_of : List ℕ → Piece
+quoted_of inside = token (kind.Quoted inside) (double_quote ∷ (inside ++ double_quote ∷ []))
 
 -- after the double quote
 abbrev pub quoted_piece : List ℕ → Option Piece
 quoted_piece bytes =
     if is_port_name (run is_quotable bytes) (drop (length (run is_quotable bytes)) bytes)
-    then Some (token (kind.Quoted (run is_quotable bytes)) (double_quote ∷ (run is_quotable bytes ++ double_quote ∷ [])))
+    then Some (quoted_of (run is_quotable bytes))
     else None
 
 abbrev pub one_sign : ℕ → Option Piece
@@ -85,7 +106,7 @@ unfoldable pub first_piece : List ℕ → Option Piece
 first_piece [] = None
 first_piece (byte ∷ rest) =
     if is_space byte then Some (gap (byte ∷ []))
-    else (if is_small byte then Some (small_piece (keyword_of (run is_name_byte (byte ∷ rest))) (run is_name_byte (byte ∷ rest)))
-    else (if is_capital byte then Some (token (kind.Upper (run is_name_byte (byte ∷ rest))) (run is_name_byte (byte ∷ rest)))
-    else (if is_digit byte then Some (token (kind.Number (value_of (run is_digit (byte ∷ rest)))) (run is_digit (byte ∷ rest)))
+    else (if is_small byte then Some (name_of (run is_name_byte (byte ∷ rest)))
+    else (if is_capital byte then Some (capital_of (run is_name_byte (byte ∷ rest)))
+    else (if is_digit byte then Some (number_of (run is_digit (byte ∷ rest)))
     else mark_piece byte rest)))

@@ -102,10 +102,14 @@ letter_text byte =
 
 -- the bytes are a spelling of this kind; a number is as wide and a name as long as it is written
 abbrev pub Spells : Kind → List ℕ → Type 0
-Spells (kind.Lower name) bytes = (bytes ≡ name) × IsName is_small bytes × ((word : Keyword) → bytes ≢ keyword_text word)
+Spells (kind.Lower name) bytes =
+    (bytes ≡ name) × IsName is_small bytes × ((word : Keyword) → bytes ≢ keyword_text word)
 Spells (kind.Upper name) bytes = (bytes ≡ name) × IsName is_capital bytes
 Spells (kind.Number n) bytes = Each is_digit bytes × (0 < length bytes) × (n ≡ value_of bytes)
-Spells (kind.Letter byte) bytes = (is_letter byte ≡ true) × (bytes ≡ single_quote ∷ (letter_text byte ++ single_quote ∷ []))
-Spells (kind.Quoted inside) bytes = Each is_quotable inside × (0 < length inside) × (length inside ≤ MAX_PORT_NAME_BYTES) × (bytes ≡ double_quote ∷ (inside ++ double_quote ∷ []))
+Spells (kind.Letter byte) bytes =
+    (is_letter byte ≡ true) × (bytes ≡ single_quote ∷ (letter_text byte ++ single_quote ∷ []))
+Spells (kind.Quoted inside) bytes =
+    Each is_quotable inside × (0 < length inside) × (length inside ≤ MAX_PORT_NAME_BYTES)
+    × (bytes ≡ double_quote ∷ (inside ++ double_quote ∷ []))
 Spells (kind.Word word) bytes = bytes ≡ keyword_text word
 Spells (kind.Sign symbol) bytes = bytes ≡ symbol_text symbol

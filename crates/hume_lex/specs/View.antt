@@ -29,18 +29,24 @@ IsScan (Some told) None = ⊥
 -- the piece at the front of the bytes, and what is left after it
 abbrev pub IsNext : Option (Front × Bor (List ℕ)) → List ℕ → Type 0
 IsNext None bytes = first_piece bytes ≡ None
-IsNext (Some told) bytes = (piece : Piece) × (first_piece bytes ≡ Some piece) × Shows told.0 piece × (told.1.now ≡ drop (length (bytes_of piece)) bytes)
+IsNext (Some told) bytes =
+    (piece : Piece) × (first_piece bytes ≡ Some piece) × Shows told.0 piece
+    × (told.1.now ≡ drop (length (bytes_of piece)) bytes)
 
 -- the tokens take the piece, which stands at this place
 abbrev pub Takes : Front → ℕ → List Token → List Token → Type 0
 Takes front.Gap place old new = new ≡ old
-Takes (front.Token kind) place old new = (new ≡ old ++ record { kind = kind; place = place } ∷ []) × (length old < MAX_TOKENS)
+Takes (front.Token kind) place old new =
+    (new ≡ old ++ record { kind = kind; place = place } ∷ []) × (length old < MAX_TOKENS)
 Takes _ place old new = ⊥
 
 -- why the piece is refused after these tokens
 abbrev pub IsRefused : Front → List Token → ℕ → LexError → Type 0
 IsRefused told tokens place (error.BadChar at) = ⊥
-IsRefused told tokens place (error.BadNumber at) = (at ≡ place) × (length tokens < MAX_TOKENS) × (told ≡ front.WideNumber)
-IsRefused told tokens place (error.LongName at) = (at ≡ place) × (length tokens < MAX_TOKENS) × (told ≡ front.LongName)
-IsRefused told tokens place (error.TooManyTokens at) = (at ≡ place) × (MAX_TOKENS ≤ length tokens) × (told ≢ front.Gap)
+IsRefused told tokens place (error.BadNumber at) =
+    (at ≡ place) × (length tokens < MAX_TOKENS) × (told ≡ front.WideNumber)
+IsRefused told tokens place (error.LongName at) =
+    (at ≡ place) × (length tokens < MAX_TOKENS) × (told ≡ front.LongName)
+IsRefused told tokens place (error.TooManyTokens at) =
+    (at ≡ place) × (MAX_TOKENS ≤ length tokens) × (told ≢ front.Gap)
 IsRefused told tokens place error.NoMemory = Unit {0}
