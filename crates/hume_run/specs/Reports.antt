@@ -16,6 +16,11 @@ pub record IsPlace (names : List (List ℕ)) (at : ℕ) : Type 0 where
   pub within : at < length names
   pub first : place_of (name_at names at) names ≡ Some at
 
+-- The place is that of the port that the name means.
+pub record IsPlaceOf (name : List ℕ) (names : List (List ℕ)) (at : ℕ) : Type 0 where
+  pub place : IsPlace names at
+  pub named : name_at names at ≡ name
+
 abbrev pub pair_of : List (List ℕ) → Line → List ℕ × List ℕ
 pair_of names line = (name_at names line.at, line.bytes.items)
 

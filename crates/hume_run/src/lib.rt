@@ -3,7 +3,11 @@
 
 mod build;
 mod input;
+#[cfg(test)]
+mod input_tests;
 mod laws;
+#[cfg(test)]
+mod line_tests;
 mod line_value;
 mod lines;
 mod net_run;
@@ -11,17 +15,15 @@ mod numbers;
 mod one_box;
 mod order;
 mod reading;
+mod refuse;
 mod report;
 mod settle;
 mod source;
-mod status;
-mod words;
-#[cfg(test)]
-mod input_tests;
-#[cfg(test)]
-mod line_tests;
 #[cfg(test)]
 mod source_tests;
+mod status;
+mod streams;
+mod words;
 #[cfg(test)]
 mod words_tests;
 

@@ -1,0 +1,38 @@
+-- Which ports may be streams'.
+use Rattle.std.proofs.Common.{◌≡◌, ℕ, zero, suc, Bool, true, false, cond, ◌<◌, ◌+◌, List, [], ◌∷◌, length, Option, Some, None, refl, ap, sym, ◌∙◌, subst, arith, slice_index_or}
+use Rattle.std.specs.Option.{option_map}
+use Rattle.std.specs.Str.{bytes_eq}
+use Rattle.std.proofs.lemmas.Grind.{common_steps}
+use Rattle.hume_ports.specs.Ports.{place_of}
+use Rattle.hume_ports.proofs.Names.{same_name, place-zero, place-suc}
+use Rattle.hume_run.specs.OneBox.{OneBox, core_of}
+use Rattle.hume_run.specs.Owed.{streams, unfit_line}
+use Rattle.hume_run.specs.Reports.{IsPlace, IsPlaceOf, name_at}
+
+found_within : (name : List ℕ) (names : List (List ℕ)) (at : ℕ) → place_of name names ≡ Some at → at < length names
+found_within name [] at found = cc
+found_within name (first ∷ others) zero found = omega arith
+found_within name (first ∷ others) (suc at) found =
+    let later = found_within name others at (place-suc (bytes_eq first name) (place_of name others) at found).1 in omega (arith, later)
+
+found_named : (name : List ℕ) (names : List (List ℕ)) (at : ℕ) → place_of name names ≡ Some at → name_at names at ≡ name
+found_named name [] at found = cc
+found_named name (first ∷ others) zero found = same_name first name (place-zero (bytes_eq first name) (place_of name others) found)
+found_named name (first ∷ others) (suc at) found = found_named name others at (place-suc (bytes_eq first name) (place_of name others) at found).1
+
+-- what is found by a name is the place that the name means
+pub found_place : (name : List ℕ) (names : List (List ℕ)) (at : ℕ) → place_of name names ≡ Some at → IsPlaceOf name names at
+found_place name names at found =
+    let named = found_named name names at found in
+    let P : List ℕ → Type 0 = λ n. place_of n names ≡ Some at in
+    record {
+      place = record { within = found_within name names at found; first = subst P (sym named) found };
+      named = named;
+    }
+
+-- the same of a port that is found where it isn't the source's
+pub found_fit : (is_source : Bool) (name : List ℕ) (names : List (List ℕ)) (at : ℕ) → Some at ≡ cond is_source None (place_of name names) → IsPlaceOf name names at
+found_fit true name names at found = cc
+found_fit false name names at found = found_place name names at (sym found)
+
+pub ruleset stream_steps = (common_steps, found_place)

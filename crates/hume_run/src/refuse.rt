@@ -1,0 +1,36 @@
+ghost use Rattle.std.specs.Prelude.{◌≡◌, ℕ, List, map, IfOk};
+ghost use Rattle.hume_ports.specs.Ports.{names};
+ghost use Rattle.hume_run.specs.Owed.{owed_refused, std_out};
+ghost use Rattle.hume_run.specs.Headline.{Ends};
+ghost use Rattle.hume_run.specs.Reports.{IsPlaceOf, IsReport};
+
+use crate::lines::refused_line;
+use crate::report::{Report, one_line, one_place};
+use crate::settle::settle;
+use crate::status::Status;
+use hume_base::Refusal;
+use hume_ports::Port;
+use std::alloc::{AllocError, Global};
+
+/// Tells which rule the source breaks.
+pub fn refuse(alloc: Global, ports: &mut [Box<dyn Port>], out: usize, refusal: Refusal) -> Status
+    requires { IsPlaceOf std_out (names (map view ports.old)) out }
+    ensures { (source : List ℕ) → Ends (owed_refused source refusal) (map view ports.old) (map view ports.new) result }
+{
+    match refusal_report(alloc, out, refusal) {
+        Ok(report) => settle(ports, &report),
+        Err(_) => Status::NoMemory,
+    }
+}
+
+fn refusal_report(alloc: Global, out: usize, refusal: Refusal) -> Result<Report, AllocError>
+    ensures { IfOk result (λ report. (names : List (List ℕ)) → IsPlaceOf std_out names out
+        → (source : List ℕ) → IsReport (owed_refused source refusal) names report) }
+{
+    let bytes = refused_line(alloc, refusal)?;
+    Ok(Report {
+        status: Status::Refused,
+        lines: one_line(alloc, out, bytes)?,
+        finishes: one_place(alloc, out)?,
+    })
+}
