@@ -9,3 +9,4 @@ pub mod Reports
 pub mod Places
 pub mod PartsOf
 pub mod Reader
+pub mod BoxReports

@@ -1,6 +1,7 @@
 //! The top call: from the words, the source's bytes and the ports to the answer.
 #![tactic(auto)]
 
+mod box_report;
 mod build;
 mod input;
 #[cfg(test)]
