@@ -6,4 +6,4 @@ pub mod Owed
 pub mod Headline
 pub mod Places
 pub mod PartsOf
-pub mod Reader
+pub mod Pieces

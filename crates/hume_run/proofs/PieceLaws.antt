@@ -15,7 +15,7 @@ use Rattle.hume_base.proofs.Tables.{chosen}
 use Rattle.hume_model.specs.declared.core_tree.Op.{Op}
 use Rattle.hume_model.specs.declared.core_tree.Op.TheVariants.{Add, Sub, Mul}
 use Rattle.hume_run.specs.OneBox.{op_sign}
-use Rattle.hume_run.specs.Reader.{after, op_of, operator, cut, front}
+use Rattle.hume_run.specs.Pieces.{after, op_of, operator, cut, front}
 
 pub prefix_within : (test : ℕ → Bool) (source : List ℕ) → prefix_len test source ≤ length source
 prefix_within test source = prefix_len-le-length test source
