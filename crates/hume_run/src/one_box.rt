@@ -83,7 +83,7 @@ fn op_of(sign: u8) -> Option<Op>
     }
 }
 
-#[tactic(auto, using(crate::proofs::PieceLaws::prefix_within))]
+#[tactic(auto, using(crate::proofs::PieceLaws::within))]
 fn operand(source: &[u8]) -> Option<(&[u8], &[u8])>
     ensures { MatchOption result (first_operand source.now ≡ None) (λ read. first_operand source.now ≡ Some (read.0.now, read.1.now)) }
 {
@@ -99,7 +99,7 @@ fn digits_len(source: &[u8]) -> usize
         .count()
 }
 
-#[tactic(auto, using(crate::proofs::PieceLaws::prefix_within))]
+#[tactic(auto, using(crate::proofs::PieceLaws::within))]
 fn port_name(source: &[u8]) -> Option<(&[u8], &[u8])>
     ensures { MatchOption result (first_name source.now ≡ None) (λ read. first_name source.now ≡ Some (read.0.now, read.1.now)) }
 {
