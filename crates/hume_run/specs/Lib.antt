@@ -8,5 +8,5 @@ pub mod Headline
 pub mod Reports
 pub mod Places
 pub mod PartsOf
-pub mod Reader
 pub mod BoxReports
+pub mod Pieces

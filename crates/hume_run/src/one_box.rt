@@ -1,11 +1,11 @@
 // The source of one box between two streams.
-ghost use Rattle.std.specs.Prelude.{◌≡◌, ◌≤◌, length, MatchOption, IfSome, None, Some};
+ghost use Rattle.std.specs.Prelude.{◌≡◌, ◌≤◌, length, MatchOption, IfSome, None, Some, codes};
 ghost use Rattle.std.specs.Char.{is_ascii_digit};
 ghost use Rattle.std.specs.List.{prefix_len};
 ghost use Rattle.std.specs.Str.{bytes_eq};
 ghost use Rattle.hume_run.specs.OneBox.{OneBox, Spells};
 ghost use Rattle.hume_run.specs.PartsOf.{parts_of};
-ghost use Rattle.hume_run.specs.Reader.{after as text_after, op_of as operation, operator as first_operator, operand as first_operand, port_name as first_name, is_name_byte as name_byte, cut as pieces, at_end};
+ghost use Rattle.hume_run.specs.Pieces.{after as text_after, op_of as operation, operator as first_operator, operand as first_operand, port_name as first_name, is_name_byte as name_byte, cut as pieces};
 
 use crate::numbers::MAX_DIGITS;
 use hume_base::limits::MAX_PORT_NAME_BYTES;
@@ -49,21 +49,20 @@ pub fn read_one_box(source: &[u8]) -> Option<Parts<'_>>
     })
 }
 
-#[tactic(auto, unfolding(crate::specs::Reader::at_end))]
 fn is_end(rest: &[u8]) -> bool
-    ensures { result ≡ bytes_eq rest.now at_end }
+    ensures { result ≡ bytes_eq rest.now (codes "\" ;\nwire s to b.x ;\nwire b.y to t ;\n") }
 {
     rest == b"\" ;\nwire s to b.x ;\nwire b.y to t ;\n".as_slice()
 }
 
-#[tactic(auto, unfolding(crate::specs::Reader::after))]
+#[tactic(auto, unfolding(crate::specs::Pieces::after))]
 fn after<'a>(source: &'a [u8], text: &[u8]) -> Option<&'a [u8]>
     ensures { MatchOption result (text_after text.now source.now ≡ None) (λ rest. text_after text.now source.now ≡ Some rest.now) }
 {
     source.strip_prefix(text)
 }
 
-#[tactic(auto, unfolding(crate::specs::Reader::operator))]
+#[tactic(auto, unfolding(crate::specs::Pieces::operator))]
 fn operator(source: &[u8]) -> Option<(Op, &[u8])>
     ensures { MatchOption result (first_operator source.now ≡ None) (λ read. first_operator source.now ≡ Some (read.0, read.1.now)) }
 {
@@ -84,7 +83,7 @@ fn op_of(sign: u8) -> Option<Op>
     }
 }
 
-#[tactic(auto, using(crate::proofs::TextReaders::prefix_within))]
+#[tactic(auto, using(crate::proofs::PieceLaws::within))]
 fn operand(source: &[u8]) -> Option<(&[u8], &[u8])>
     ensures { MatchOption result (first_operand source.now ≡ None) (λ read. first_operand source.now ≡ Some (read.0.now, read.1.now)) }
 {
@@ -100,7 +99,7 @@ fn digits_len(source: &[u8]) -> usize
         .count()
 }
 
-#[tactic(auto, using(crate::proofs::TextReaders::prefix_within))]
+#[tactic(auto, using(crate::proofs::PieceLaws::within))]
 fn port_name(source: &[u8]) -> Option<(&[u8], &[u8])>
     ensures { MatchOption result (first_name source.now ≡ None) (λ read. first_name source.now ≡ Some (read.0.now, read.1.now)) }
 {
@@ -122,7 +121,7 @@ fn is_name_byte(byte: u8) -> bool
     byte >= b' ' && byte <= b'~' && byte != b'"'
 }
 
-#[tactic(auto, unfolding(crate::specs::Reader::cut))]
+#[tactic(auto, unfolding(crate::specs::Pieces::cut))]
 fn cut(source: &[u8], count: usize, most: usize) -> Option<(&[u8], &[u8])>
     requires { count ≤ length source.now }
     ensures { MatchOption result (pieces count most source.now ≡ None) (λ read. pieces count most source.now ≡ Some (read.0.now, read.1.now)) }

@@ -51,10 +51,18 @@ fn other_rules_are_not_read(rt: HostRuntime) -> Result<(), Stop> {
 }
 
 #[test]
-fn a_port_name_has_1_to_255_bytes(rt: HostRuntime) -> Result<(), Stop> {
+fn a_port_name_is_printable_and_has_no_quote(rt: HostRuntime) -> Result<(), Stop> {
+    for name in ["", "a\"b", "a\tb", "a\nb", "é", "\x7f"] {
+        assert!(rt; !is_read(rt.alloc(), "x + 5", name, "o")?, "{name}");
+    }
+    assert!(rt; is_read(rt.alloc(), "x + 5", " ~", "o")?);
+    Ok(())
+}
+
+#[test]
+fn a_port_name_has_at_most_255_bytes(rt: HostRuntime) -> Result<(), Stop> {
     let alloc = rt.alloc();
     let mut name = String::from_str(alloc, "")?;
-    assert!(rt; !is_read(alloc, "x + 5", "i", &name)?);
     for _byte in 0..255 {
         name.push('n')?;
     }

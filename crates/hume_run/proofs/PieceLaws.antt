@@ -1,4 +1,4 @@
--- The reading of a one-box source is the one that its text has.
+-- What is read of each piece is what stands there, and is read where it stands.
 use Rattle.std.proofs.Common.{◌≡◌, ℕ, ◌+◌, ◌<◌, ◌≤◌, List, [], ◌∷◌, ◌++◌, length, take, drop, Bool, true, false, suc, Option, None, Some, refl, sym, ap, ◌∙◌, subst, inl, inr, arith}
 use Rattle.std.specs.Prelude.{◌==◌, ◌&&◌, nat_le, ⊤}
 use Rattle.std.specs.List.{prefix_len, list_all}
@@ -15,10 +15,9 @@ use Rattle.hume_base.proofs.Tables.{chosen}
 use Rattle.hume_model.specs.declared.core_tree.Op.{Op}
 use Rattle.hume_model.specs.declared.core_tree.Op.TheVariants.{Add, Sub, Mul}
 use Rattle.hume_run.specs.OneBox.{op_sign}
-use Rattle.hume_run.specs.Reader.{after, op_of, operator, cut, front}
+use Rattle.hume_run.specs.Pieces.{after, op_of, operator, cut, front}
 
-pub prefix_within : (test : ℕ → Bool) (source : List ℕ) → prefix_len test source ≤ length source
-prefix_within test source = prefix_len-le-length test source
+pub ruleset within = (prefix_len-le-length)
 
 -- ---- a text
 

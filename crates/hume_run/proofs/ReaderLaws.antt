@@ -10,9 +10,10 @@ use Rattle.std.proofs.lemmas.Option.{option_and_then_some, cond_some, same_Some}
 use Rattle.std.proofs.lemmas.Slice.Eq.{bytes_eq-Decides}
 use Rattle.hume_model.specs.declared.core_tree.Core.{Core}
 use Rattle.hume_run.specs.OneBox.{OneBox, IsNameByte, IsPortName, IsOperand, IsOneBox, op_sign, text_of, core_of, Spells, StandsFor}
-use Rattle.hume_run.specs.Reader.{after, operator, operand, is_name_byte, port_name, before_op, before_input, before_output, at_end, ended, with_output, with_input, with_stream, with_operand, with_op, with_box, parts_read}
+use Rattle.hume_run.specs.Pieces.{after, operator, operand, is_name_byte, port_name}
+use Rattle.hume_run.proofs.Reader.{before_op, before_input, before_output, at_end, ended, with_output, with_input, with_stream, with_operand, with_op, with_box, parts_read}
 use Rattle.hume_run.proofs.Digits.{all_digits_is}
-use Rattle.hume_run.proofs.TextReaders.{after_sound, after_text, operator_sound, operator_sign, IsFront, Stops, front_sound, front_cut}
+use Rattle.hume_run.proofs.PieceLaws.{after_sound, after_text, operator_sound, operator_sign, IsFront, Stops, front_sound, front_cut}
 
 -- ---- names and operands
 
