@@ -44,7 +44,9 @@ fn output_lines_are_written_in_decimal(rt: HostRuntime) -> Result<(), Stop> {
         line: 12,
     };
     assert!(rt; refused_line(alloc, refusal)?.as_slice() == b"refused 55 line 12\n".as_slice());
-    assert!(rt; bad_value_line(alloc, b"cars", 3)?.as_slice() == b"bad value cars line 3\n".as_slice());
+    assert!(rt;
+        bad_value_line(alloc, b"cars", 3)?.as_slice() == b"bad value cars line 3\n".as_slice()
+    );
     assert!(rt; value_line(alloc, &Value::Word(0))?.as_slice() == b"0\n".as_slice());
     let least = Value::Word(18_446_744_071_562_067_968);
     assert!(rt; value_line(alloc, &least)?.as_slice() == b"-2147483648\n".as_slice());
