@@ -1,5 +1,5 @@
 -- Lines that are read from a port in pieces.
-use Rattle.std.proofs.Common.{◌≡◌, ℕ, ◌+◌, ◌*◌, ◌-◌, ◌<◌, ◌≤◌, List, [], ◌∷◌, ◌++◌, length, take, Option, Some, None, IsNone, IfSome, Result, refl, sym, ap, subst, arith, ◌∙◌, append_assoc, append-nil, length-append, length-take}
+use Rattle.std.proofs.Common.{◌≡◌, ℕ, ◌<◌, List, [], ◌∷◌, ◌++◌, Option, Some, None, IsNone, IfSome, Result, refl, sym, ap, subst, arith, ◌∙◌, append-nil}
 use Rattle.std.specs.Io.KnownBytes.{Consumes, IsAtEnd}
 use Rattle.hume_ports.specs.declared.port.Failed.{Failed}
 use Rattle.hume_ports.specs.Port.{PortView}
@@ -8,12 +8,10 @@ use Rattle.hume_ports.specs.Delivery.{Progress, Failure}
 use Rattle.hume_ports.proofs.Names.{bytes_for-one}
 use Rattle.hume_ports.proofs.Progress.{read_failure-on, Drawn-first}
 use Rattle.hume_ports.proofs.Filling.{HasRead, HasRead-start, HasRead-on, OneRead, names_after, untouched_after, end_after}
-use Rattle.hume_base.specs.declared.types.Value.{Value}
 use Rattle.hume_run.specs.declared.input.Input.{Input}
 use Rattle.hume_run.specs.declared.input.Input.TheVariants.{Values}
 use Rattle.hume_run.specs.declared.reading.Reading.{Reading}
-use Rattle.hume_run.specs.declared.reading.Found.{Found}
-use Rattle.hume_run.specs.Reading.{IsInputOf, GivesInput, ReadsSome, FailsToRead, IsOpen, GoesOn, Settles, EndsAs, Reaches, input_found, distance}
+use Rattle.hume_run.specs.Reading.{GivesInput, ReadsSome, FailsToRead, IsOpen, GoesOn, Settles, EndsAs}
 use Rattle.hume_run.proofs.ReadLines.{GoesOn-on, Settles-on, EndsAs-on}
 
 -- a reading before the first byte

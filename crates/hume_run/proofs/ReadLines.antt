@@ -1,5 +1,5 @@
 -- How a reading goes on by one byte, and by many.
-use Rattle.std.proofs.Common.{◌≡◌, ℕ, ◌+◌, ◌*◌, ◌<◌, ◌≤◌, Bool, true, false, IsTrue, ◌↔◌, cond, eqb, ◌&&◌, List, [], ◌∷◌, ◌++◌, length, take, drop, get_or, Option, Some, None, Result, refl, sym, ap, subst, arith, ◌∙◌, append_assoc, append-nil, length-append}
+use Rattle.std.proofs.Common.{◌≡◌, ℕ, ◌+◌, ◌<◌, ◌≤◌, Bool, true, false, IsTrue, ◌↔◌, cond, eqb, ◌&&◌, List, [], ◌∷◌, ◌++◌, length, take, drop, get_or, Option, Some, None, refl, sym, ap, subst, arith, ◌∙◌, append_assoc, append-nil, length-append}
 use Rattle.std.proofs.Math.Seq.{take-append_seam}
 use Rattle.std.proofs.lemmas.Bool.{lt-leb}
 use Rattle.std.proofs.lemmas.List.{take_all, take_more, take-append-drop}
@@ -9,10 +9,8 @@ use Rattle.hume_base.specs.Words.{word_of}
 use Rattle.hume_run.specs.declared.input.Input.{Input}
 use Rattle.hume_run.specs.declared.input.Input.TheVariants.{Values, Bad}
 use Rattle.hume_run.specs.declared.reading.Reading.{Reading}
-use Rattle.hume_run.specs.declared.reading.Found.{Found}
-use Rattle.hume_run.specs.declared.reading.Found.TheVariants.{Enough, BadLine}
 use Rattle.hume_run.specs.Inputs.{in_front, lines_of, is_good, value_of, is_int_text, is_int_32, int_written, put_before, good, bad, good_lines, bad_from}
-use Rattle.hume_run.specs.Reading.{IsInputAmong, HasNoNewline, IsOpen, GoesOn, Settles, EndsAs, input_found, Reaches, good_with, bad_with, distance}
+use Rattle.hume_run.specs.Reading.{IsInputAmong, HasNoNewline, IsOpen, GoesOn, Settles, EndsAs, good_with, bad_with}
 
 -- ---- lines
 

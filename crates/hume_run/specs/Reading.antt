@@ -10,9 +10,10 @@ use Rattle.hume_run.specs.declared.input.Input.TheVariants.{Values, Bad}
 use Rattle.hume_run.specs.declared.reading.Reading.{Reading}
 use Rattle.hume_run.specs.declared.reading.Found.{Found}
 use Rattle.hume_run.specs.declared.reading.Found.TheVariants.{Enough, BadLine}
-use Rattle.hume_run.specs.Inputs.{lines_of, good, bad, good_lines, bad_from}
+use Rattle.hume_run.specs.Inputs.{lines_of, good, bad, bad_from}
 
--- The input is the wanted values, of which the first are all before a bad line; or, where they are too few, that line.
+-- The input is the first of all these values, as many as are wanted, and with too few of them no line is bad; or it is
+-- the bad line, with too few of them before it.
 abbrev pub IsInputAmong : ℕ → List Value → Option ℕ → Input → Type 0
 IsInputAmong want all bad_line (Values values) = (values ≡ take want all) × (length all < want → bad_line ≡ None)
 IsInputAmong want all bad_line (Bad line) = (length all < want) × (bad_line ≡ Some line)
@@ -49,6 +50,7 @@ good_with reading rest = reading.values ++ good (reading.line ++ rest)
 abbrev pub bad_with : Reading → List ℕ → Option ℕ
 bad_with reading rest = bad_from (1 + length reading.values) (lines_of (reading.line ++ rest))
 
+-- none of the bytes is a newline
 abbrev pub HasNoNewline : List ℕ → Type 0
 HasNoNewline [] = ⊤
 HasNoNewline (byte ∷ bytes) = ((byte == 10) ≡ false) × HasNoNewline bytes
@@ -78,6 +80,7 @@ Settles want reading bytes input =
 abbrev pub EndsAs : ℕ → Reading → Input → Type 0
 EndsAs want reading input = IsInputAmong want (good_with reading []) (bad_with reading []) input
 
+-- the input of a reading with these values
 abbrev pub input_found : List Value → Found → Input
 input_found values Enough = Values values
 input_found values (BadLine line) = Bad line

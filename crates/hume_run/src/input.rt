@@ -79,10 +79,7 @@ pub fn read_input(
     let mut reading = Reading::new(alloc);
     let mut piece = [0; PIECE_BYTES];
     'pieces: loop {
-        let count = match read_at(ports, at, &mut piece) {
-            Ok(count) => count,
-            Err(failed) => return Err(InputError::from(failed)),
-        };
+        let count = read_at(ports, at, &mut piece)?;
         if count == 0 {
             return Ok(reading.finish(want)?);
         }

@@ -7,14 +7,14 @@ use hume_base::{List, Value};
 use std::alloc::{AllocError, Global};
 
 /// The values of the lines that were read so far, and the bytes of the line that isn't ended.
-#[derive(Debug, Drop)]
+#[derive(Drop)]
 pub struct Reading {
     values: List<Value>,
     line: List<u8>,
 }
 
 /// What a reading comes to before its port is at the end.
-#[derive(Clone, Copy, Debug)]
+#[derive(Clone, Copy)]
 pub enum Found {
     /// As many values as are wanted.
     Enough,

@@ -1,4 +1,4 @@
-use Rattle.std.proofs.Common.{arith, ap, sym, length, ◌∷◌, [], ◌∙◌, length-append, ◌≡◌, ◌++◌, Some, None}
+use Rattle.std.proofs.Common.{arith, ap, sym, length, ◌∷◌, [], ◌∙◌, length-append, ◌≡◌, Some, None}
 use Rattle.hume_run.specs.Inputs.{value_of}
 use Rattle.hume_run.proofs.ReadLines.{ended_bad, ended_enough, ended_on, ended_open}
 use Rattle.hume_run.proofs.reading.Reading.end_line.Goals as goal
