@@ -2,5 +2,6 @@ pub mod Evaluation
 pub mod Positions
 pub mod Powers
 pub mod Ranges
+pub mod Ranks
 pub mod Sides
 pub mod Starts

@@ -1,6 +1,9 @@
+pub mod Outcomes
 pub mod Operations
-pub mod Meaning
+pub mod Patterns
 pub mod Matching
+pub mod Meaning
+pub mod Results
 pub mod Firing
 pub mod HalfSteps
 pub mod Lockstep
