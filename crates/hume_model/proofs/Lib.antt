@@ -1,3 +1,4 @@
+pub mod Agreement
 pub mod Evaluation
 pub mod Positions
 pub mod Powers

@@ -3,6 +3,7 @@ pub mod Operations
 pub mod Patterns
 pub mod Matching
 pub mod Meaning
+pub mod Calls
 pub mod Results
 pub mod Firing
 pub mod HalfSteps

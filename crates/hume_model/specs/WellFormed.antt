@@ -9,5 +9,6 @@ HasFewRules (Rules b) = length b.rules ≤ 64
 HasFewRules (From stream) = ⊤
 HasFewRules (To stream) = ⊤
 
-pub record IsWellFormed (core : Core) : Type 0 where
+-- no box has more rules than are allowed
+pub record HasSmallBoxes (core : Core) : Type 0 where
   pub rules : All HasFewRules core.nodes

@@ -7,6 +7,7 @@ mod core_tree;
 mod evaluate;
 mod firing;
 mod half_steps;
+mod laws;
 mod matching;
 mod net;
 mod operations;
@@ -23,6 +24,7 @@ pub use core_tree::{
     WireC,
 };
 pub use evaluate::eval_plain;
+pub use laws::calls_unfold;
 pub use net::{Net, net_make};
 pub use outcome::{DIV_ZERO, NO_CASE, Outcome, Outputs, RANGE, Several};
 pub use state::{Firing, HalfStep, Part, State};
