@@ -1,5 +1,6 @@
 pub mod Agreement
 pub mod Evaluation
+pub mod Layers
 pub mod Positions
 pub mod Powers
 pub mod Ranges

@@ -4,6 +4,7 @@ pub mod Patterns
 pub mod Matching
 pub mod Meaning
 pub mod Calls
+pub mod Typing
 pub mod Results
 pub mod Firing
 pub mod HalfSteps
