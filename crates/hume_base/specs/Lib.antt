@@ -1,5 +1,6 @@
 pub mod Flat
 pub mod formers
+pub mod Holding
 pub mod Keywords
 pub mod Places
 pub mod Rules

@@ -1,6 +1,8 @@
 pub mod Agreement
 pub mod Evaluation
+pub mod Fields
 pub mod Layers
+pub mod PatternTypes
 pub mod Positions
 pub mod Powers
 pub mod Ranges
