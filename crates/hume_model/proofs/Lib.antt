@@ -1,5 +1,6 @@
 pub mod Agreement
 pub mod Evaluation
+pub mod ExpressionTypes
 pub mod Fields
 pub mod Layers
 pub mod PatternTypes
@@ -9,3 +10,4 @@ pub mod Ranges
 pub mod Ranks
 pub mod Sides
 pub mod Starts
+pub mod Widths

@@ -1,8 +1,9 @@
 -- What is asked of a core that is handed to a call.
-use Rattle.std.specs.Prelude.{◌≤◌, ⊤, length, All}
+use Rattle.std.specs.Prelude.{◌≡◌, ◌≤◌, ⊤, length, All, None, true, slice_get}
 use Rattle.hume_model.specs.declared.core_tree.NodeC.{NodeC}
 use Rattle.hume_model.specs.declared.core_tree.NodeC.TheVariants.{Rules, From, To}
 use Rattle.hume_model.specs.declared.core_tree.Core.{Core}
+use Rattle.hume_model.specs.Typing.{is_raised}
 
 abbrev pub HasFewRules : NodeC → Type 0
 HasFewRules (Rules b) = length b.rules ≤ 64
@@ -12,3 +13,9 @@ HasFewRules (To stream) = ⊤
 -- no box has more rules than are allowed
 pub record HasSmallBoxes (core : Core) : Type 0 where
   pub rules : All HasFewRules core.nodes
+
+-- the first exceptions are those that every program has, which carry nothing
+pub record HasOwnExceptions (core : Core) : Type 0 where
+  pub div_zero : is_raised core.types (slice_get core.exns 0) None ≡ true
+  pub range : is_raised core.types (slice_get core.exns 1) None ≡ true
+  pub no_case : is_raised core.types (slice_get core.exns 2) None ≡ true
