@@ -28,11 +28,11 @@ use Rattle.hume_model.specs.Outcomes.{and_then, with_all, in_order, then_rest, o
 use Rattle.hume_model.specs.Operations.{prim, binary, unary, gives, exact, truth, number_at, word_at, unless_zero, word_of_value, is_place, item_of, item_or_raise, updated}
 use Rattle.hume_model.specs.Patterns.{matches}
 use Rattle.hume_model.specs.Meaning.{Calls, eval_with, variable, first_arm, arm_with}
-use Rattle.hume_model.specs.Typing.{HasType, HaveTypes, ArmsHaveType, is_outcome, is_raised, is_carried, is_number_type, is_arithmetic, is_comparison}
+use Rattle.hume_model.specs.Typing.{AreOf, HasType, HaveTypes, ArmsHaveType, is_outcome, is_raised, is_carried, is_number_type, is_arithmetic, is_comparison}
 use Rattle.hume_model.specs.WellFormed.{HasOwnExceptions}
 use Rattle.hume_model.proofs.Layers.{out-word, out-tuple, out-vector, out-con, bool-value, tuple-value, vector-value, eval-word, eval-variable, eval-con, eval-tuple, eval-vector, eval-prim, eval-index, eval-update, eval-choice, eval-case, eval-let, eval-call, eval-raise-none, eval-raise-some}
 use Rattle.hume_model.proofs.Fields.{data-value}
-use Rattle.hume_model.proofs.PatternTypes.{AreOf, both_true, of_both, one_of, pattern_typed}
+use Rattle.hume_model.proofs.PatternTypes.{both_true, of_both, one_of, pattern_typed}
 use Rattle.hume_model.proofs.Widths.{number-value}
 
 either : (P : Outcome → Type 0) (b : Bool) (x y : Outcome) → P x → P y → P (if b then x else y)
@@ -181,7 +181,7 @@ module _ (core : Core) where
 
     module _ (down : HoldSmaller core.types) (call : Calls)
         (called : (f : ℕ) (function : FunC) → slice_get core.funs f ≡ Some function → (args : List Value) → AllOf function.params args → GivesOf function.gives (call f args)) where
-      matched_arm : (t : Ty) (m : Option (List Value)) (go : List Value → Outcome) (other : Outcome)
+      pub matched_arm : (t : Ty) (m : Option (List Value)) (go : List Value → Outcome) (other : Outcome)
           → ((vs : List Value) → m ≡ Some vs → GivesOf t (go vs)) → GivesOf t other → GivesOf t (on_match m go other)
       matched_arm t None go other p q = q
       matched_arm t (Some vs) go other p q = p vs refl

@@ -1,4 +1,5 @@
 pub mod Agreement
+pub mod CallTypes
 pub mod Evaluation
 pub mod ExpressionTypes
 pub mod Fields

@@ -10,16 +10,12 @@ use Rattle.hume_base.specs.Holding.{HoldSmaller}
 use Rattle.hume_base.specs.Values.{is_value, is_value_with, is_named_value, all_pass, is_con_of, is_tuple_of, fields_at}
 use Rattle.hume_model.specs.declared.core_tree.PatC.{PatC}
 use Rattle.hume_model.specs.Patterns.{Match, matches, matches_all, both, all_match, match_word, match_con, match_tuple}
-use Rattle.hume_model.specs.Typing.{IsPattern, ArePatterns}
+use Rattle.hume_model.specs.Typing.{IsPattern, ArePatterns, AreOf}
 use Rattle.hume_model.proofs.Layers.{variable-match, any-match, word-match, con-match, tuple-match, tuple-value}
 use Rattle.hume_model.proofs.Fields.{data-value}
 
 pub both_true : (a b : Bool) → a ≡ true → b ≡ true → (a && b) ≡ true
 both_true a b p q = rw (p, q) refl
-
--- the values are of the types, one by one
-abbrev pub AreOf : Types → List Ty → List Value → Type 0
-AreOf types ts vs = all_pass (map (is_value types) ts) vs ≡ true
 
 pub of_both : (types : Types) (ts us : List Ty) (vs ws : List Value) → AreOf types ts vs → AreOf types us ws → AreOf types (ts ++ us) (vs ++ ws)
 of_both types [] us [] ws p q = q

@@ -1,5 +1,5 @@
 -- Which patterns, expressions and results of a core are of which type, by the types of their variables.
-use Rattle.std.specs.Prelude.{◌≡◌, ℕ, ◌<◌, nat_le, ◌&&◌, Bool, true, false, List, [], ◌∷◌, ◌++◌, length, Option, Some, None, slice_get, replicate}
+use Rattle.std.specs.Prelude.{◌≡◌, ℕ, ◌<◌, nat_le, ◌&&◌, Bool, true, false, List, [], ◌∷◌, ◌++◌, length, map, Option, Some, None, slice_get, replicate}
 use Rattle.hume_base.specs.declared.types.Ty.{Ty, out-Ty}
 use Rattle.hume_base.specs.declared.types.Ty.TheOpen.{Ty-F}
 use Rattle.hume_base.specs.declared.types.Ty.TheVariants as shape
@@ -7,7 +7,7 @@ use Rattle.hume_base.specs.declared.types.SumDef.{SumDef}
 use Rattle.hume_base.specs.declared.types.Types.{Types}
 use Rattle.hume_base.specs.declared.types.Value.TheVariants as value
 use Rattle.hume_base.specs.declared.types.Value.{Value}
-use Rattle.hume_base.specs.Values.{is_value, fields_at}
+use Rattle.hume_base.specs.Values.{is_value, all_pass, fields_at}
 use Rattle.hume_model.specs.declared.core_tree.Op.{Op}
 use Rattle.hume_model.specs.declared.core_tree.Op.TheVariants.{Add, Sub, Mul, Div, Mod, Neg, Not, Convert, Eq, Ne, Lt, Le, Gt, Ge}
 use Rattle.hume_model.specs.declared.core_tree.PatC.{PatC}
@@ -120,6 +120,15 @@ mutual
     one_arm : {vars bound : List Ty} {of ty : Ty} {p : PatC} {e : Expr} {arms : List (PatC × Expr)} → IsPattern core.types of p bound
         → HasType core (vars ++ bound) e ty → ArmsHaveType core vars of arms ty → ArmsHaveType core vars of ((p, e) ∷ arms) ty
 
+-- each equation has patterns for the parameters, and a body of the type that the function gives
+pub data EquationsHave (core : Core) (function : FunC) : List EqC → Type 0 where
+  none : EquationsHave core function []
+  one : {equation : EqC} {equations : List EqC} (vars : List Ty) → ArePatterns core.types function.params equation.pats vars
+      → HasType core vars equation.body function.gives → EquationsHave core function equations → EquationsHave core function (equation ∷ equations)
+
+abbrev pub FunctionsAreTyped : Core → Type 0
+FunctionsAreTyped core = (number : ℕ) (function : FunC) → slice_get core.funs number ≡ Some function → EquationsHave core function function.equations
+
 -- what an exception carries, by what its declaration says
 abbrev pub is_carried : Types → Option Ty → Option Value → Bool
 is_carried types None None = true
@@ -135,3 +144,7 @@ is_raised types (Some exn) carried = is_carried types exn.carries carried
 abbrev pub is_outcome : Core → Ty → Outcome → Bool
 is_outcome core ty (Gives v) = is_value core.types ty v
 is_outcome core ty (Raises exn carried) = is_raised core.types (slice_get core.exns exn) carried
+
+-- each value is of the type in its place
+abbrev pub AreOf : Types → List Ty → List Value → Type 0
+AreOf types tys values = all_pass (map (is_value types) tys) values ≡ true

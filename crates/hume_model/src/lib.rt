@@ -24,7 +24,7 @@ pub use core_tree::{
     WireC,
 };
 pub use evaluate::eval_plain;
-pub use laws::calls_unfold;
+pub use laws::{calls_unfold, evaluation_keeps_types, what_is_taken_is_there};
 pub use net::{Net, net_make};
 pub use outcome::{DIV_ZERO, NO_CASE, Outcome, Outputs, RANGE, Several};
 pub use state::{Firing, HalfStep, Part, State};
