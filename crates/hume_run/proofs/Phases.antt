@@ -84,7 +84,7 @@ pub ends_unread : (owed : Owed) (olds news : List PortView) (name : List ℕ) (t
     → (Roomy olds [] → ⊥) → Untouched (name ∷ []) olds news → Ends owed olds news Fault
 ends_unread owed olds news name taken reads failure no_room untouched =
     ends_failed owed olds news (inl (record { name = name; is_read = reads; taken = taken; failure = failure }))
-        (λ roomy. no_room (Roomy-nothing olds owed.writes roomy)) (read_touched owed olds news name reads untouched)
+    (λ roomy. no_room (Roomy-nothing olds owed.writes roomy)) (read_touched owed olds news name reads untouched)
 
 -- memory was refused after reads of one of them
 pub ends_unstarted : (owed : Owed) (olds news : List PortView) (name : List ℕ) (taken : Pairs) → is_among name owed.reads ≡ true → Progress olds news taken []

@@ -76,7 +76,7 @@ box_runs steps parts olds mids news at input status place given untouched ends =
       texts = texts;
       told = told_by_others olds parts.input g.text g.told;
       ends = λ source. (let owed = owed_run steps source texts (core_of parts) in
-      ends_after owed olds mids news status ((parts.input, g.taken) ∷ []) g.progress
+          ends_after owed olds mids news status ((parts.input, g.taken) ∷ []) g.progress
           (read_touched owed olds mids parts.input (second_among source parts.input) (untouched parts.input e))
           (ends texts is_input source));
     }
@@ -160,7 +160,7 @@ owed_read steps source text ns texts None e =
     (owed_refused source refusal, inl (refusal, inl ((λ core stands. none_read text e stands.parts stands.spelled), refl), refl))
 owed_read steps source text ns texts (Some parts) e =
     owed_accepted steps source text ns texts (core_of parts) (unfit_line ns source [] (streams (core_of parts)))
-        (record { parts = parts; spelled = read_spells text parts e; is = refl }) refl
+    (record { parts = parts; spelled = read_spells text parts e; is = refl }) refl
 
 -- whatever the text, something is owed
 pub something_owed : (steps : ℕ) (source text : List ℕ) (ns : List (List ℕ)) (texts : List ℕ → List ℕ) → (owed : Owed) × IsOwed steps source text ns texts owed

@@ -7,7 +7,9 @@ ghost use Rattle.hume_run.specs.PartsOf.{parts_of};
 use crate::numbers::value;
 use crate::one_box::Parts;
 use hume_base::{List, Text, Ty, Types};
-use hume_model::{BoxC, Core, ExnDef, Expr, InPat, NodeC, Op, PatC, PortC, Res, RuleC, StreamC, WireC};
+use hume_model::{
+    BoxC, Core, ExnDef, Expr, InPat, NodeC, Op, PatC, PortC, Res, RuleC, StreamC, WireC,
+};
 use std::alloc::{AllocError, Global};
 
 /// The core that a source of these parts stands for.

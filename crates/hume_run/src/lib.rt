@@ -3,6 +3,8 @@
 
 mod box_report;
 mod build;
+#[cfg(test)]
+mod fault_tests;
 mod input;
 #[cfg(test)]
 mod input_tests;
@@ -16,6 +18,8 @@ mod numbers;
 mod one_box;
 mod order;
 mod reading;
+#[cfg(test)]
+mod refusal_tests;
 mod refuse;
 mod report;
 mod run;
@@ -25,7 +29,11 @@ mod source;
 mod source_tests;
 mod status;
 mod streams;
+#[cfg(test)]
+mod test_calls;
 mod top;
+#[cfg(test)]
+mod top_tests;
 mod words;
 #[cfg(test)]
 mod words_tests;

@@ -8,8 +8,10 @@ use Rattle.hume_run.proofs.Ending.{ends_without_memory}
 use Rattle.hume_run.proofs.run.run_input.Goals as goal
 
 pub settle-requires : goal.settle-requires
-settle-requires g c = (owed_run c.args.steps [] (λ name. c.requires.input.0) (core_of (parts_of c.args.parts.now)),
-  c.in-Ok.ensures _ c.requires.output c.requires.out (λ name. c.requires.input.0) c.requires.input.1 [])
+settle-requires g c = (
+  owed_run c.args.steps [] (λ name. c.requires.input.0) (core_of (parts_of c.args.parts.now)),
+  c.in-Ok.ensures _ c.requires.output c.requires.out (λ name. c.requires.input.0) c.requires.input.1 [],
+)
 
 pub returns-in-Ok : goal.returns-in-Ok
 returns-in-Ok g c texts is source = c.settle.ensures (owed_run c.args.steps source texts (core_of (parts_of c.args.parts.now)))
