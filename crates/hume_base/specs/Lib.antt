@@ -1,7 +1,10 @@
+pub mod Flat
 pub mod formers
+pub mod Holding
 pub mod Keywords
 pub mod Places
 pub mod Rules
+pub mod Sizes
 pub mod Symbols
 pub mod Values
 pub mod Words

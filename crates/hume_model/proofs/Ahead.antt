@@ -45,29 +45,30 @@ cond-with : (test : Bool) (g h g' h' : HalfStep) (coming : List Value) → g' �
 cond-with true g h g' h' coming e f = e
 cond-with false g h g' h' coming e f = f
 
-execute-with : (node : NodeC) (part : Part) (ins : List (Option Value)) (coming : List Value) → execute node (with_coming part coming) ins ≡ half_with (execute node part ins) coming
-execute-with (Rules b) part ins coming = cond-with (is_some part.pending) (idle part ins) _ (idle (with_coming part coming) ins) _ coming refl (fired-with b part ins _ coming)
-execute-with (From stream) part ins coming = refl
-execute-with (To stream) part ins coming = refl
+execute-with : (core : Core) (node : NodeC) (part : Part) (ins : List (Option Value)) (coming : List Value)
+    → execute core node (with_coming part coming) ins ≡ half_with (execute core node part ins) coming
+execute-with core (Rules b) part ins coming = cond-with (is_some part.pending) (idle part ins) _ (idle (with_coming part coming) ins) _ coming refl (fired-with b part ins _ coming)
+execute-with core (From stream) part ins coming = refl
+execute-with core (To stream) part ins coming = refl
 
 -- nor does it change it
-execute-coming : (node : NodeC) (part : Part) (ins : List (Option Value)) → (execute node part ins).part.coming ≡ part.coming
-execute-coming node part ins = ap (λ half. half.part.coming) (execute-with node part ins part.coming)
+execute-coming : (core : Core) (node : NodeC) (part : Part) (ins : List (Option Value)) → (execute core node part ins).part.coming ≡ part.coming
+execute-coming core node part ins = ap (λ half. half.part.coming) (execute-with core node part ins part.coming)
 
 same_part : (count : ℕ) (p q : Part) → AlikeParts count p q → q ≡ with_coming p q.coming
 same_part count p q a = λ i. record { pending = a.pending i; order = a.order i; coming = q.coming; taken = a.taken i }
 
-pub executes_alike : (count : ℕ) (node : NodeC) (p q : Part) (ins : List (Option Value)) → AlikeParts count p q → AlikeHalves count (execute node p ins) (execute node q ins)
-executes_alike count node p q ins a =
-    let e : execute node q ins ≡ half_with (execute node p ins) q.coming =
-    ap (λ part. execute node part ins) (same_part count p q a) ∙ execute-with node p ins q.coming in
+pub executes_alike : (count : ℕ) (core : Core) (node : NodeC) (p q : Part) (ins : List (Option Value)) → AlikeParts count p q → AlikeHalves count (execute core node p ins) (execute core node q ins)
+executes_alike count core node p q ins a =
+    let e : execute core node q ins ≡ half_with (execute core node p ins) q.coming =
+    ap (λ part. execute core node part ins) (same_part count p q a) ∙ execute-with core node p ins q.coming in
     record {
       side = ap (λ half. half.side) e;
       part = record {
         pending = ap (λ half. half.part.pending) e;
         order = ap (λ half. half.part.order) e;
         taken = ap (λ half. half.part.taken) e;
-        coming = ap (λ half. take count half.part.coming) e ∙ a.coming ∙ ap (take count) (sym (execute-coming node p ins));
+        coming = ap (λ half. take count half.part.coming) e ∙ a.coming ∙ ap (take count) (sym (execute-coming core node p ins));
       };
     }
 
@@ -114,8 +115,8 @@ asserted_alike : (count : ℕ) (before after before' after' : Part) (values outs
     → AlikeHalves count (asserted before after values outs) (asserted before' after' values outs)
 asserted_alike count before after before' after' values outs b a =
     elim (have_room values outs) as (λ test. AlikeHalves count
-        (cond test (record { part = after; side = written values outs }) (idle before outs))
-        (cond test (record { part = after'; side = written values outs }) (idle before' outs))) [
+    (cond test (record { part = after; side = written values outs }) (idle before outs))
+    (cond test (record { part = after'; side = written values outs }) (idle before' outs))) [
       | true ↦ record { side = refl; part = a }
       | false ↦ record { side = refl; part = b }
     ]
@@ -130,8 +131,8 @@ next_alike count p q outs (v ∷ ps) (w ∷ qs) a same =
     let rest : take count qs ≡ take count ps = cc in
     let P : Value → Type 0 = λ value. AlikeHalves count (assert_next p outs (v ∷ ps)) (asserted q (record q { coming = qs }) (Some value ∷ []) outs) in
     subst P (sym first)
-        (asserted_alike count p (record p { coming = ps }) q (record q { coming = qs }) (Some v ∷ []) outs (fewer count p q a)
-            (record { pending = a.pending; order = a.order; taken = a.taken; coming = rest }))
+    (asserted_alike count p (record p { coming = ps }) q (record q { coming = qs }) (Some v ∷ []) outs (fewer count p q a)
+    (record { pending = a.pending; order = a.order; taken = a.taken; coming = rest }))
 
 pub asserts_alike : (count : ℕ) (node : NodeC) (p q : Part) (outs : List (Option Value)) → AlikeParts (suc count) p q → AlikeHalves count (super_step node p outs) (super_step node q outs)
 asserts_alike count (Rules b) p q outs a = pending_alike count p q outs (fewer count p q a)
@@ -159,9 +160,9 @@ parts_alike count s t node a = record {
 executed_alike : (count : ℕ) (core : Core) (s t : State) (number : ℕ) (node : Option NodeC) → Alike count s t → AlikeHalves count (executed_at core s number node) (executed_at core t number node)
 executed_alike count core s t number None a = idle_alike count (part_of s number) (part_of t number) [] (parts_alike count s t number a)
 executed_alike count core s t number (Some node) a =
-    let P : List (Option Value) → Type 0 = λ ins. AlikeHalves count (execute node (part_of s number) (inputs core s number node)) (execute node (part_of t number) ins) in
+    let P : List (Option Value) → Type 0 = λ ins. AlikeHalves count (execute core node (part_of s number) (inputs core s number node)) (execute core node (part_of t number) ins) in
     let seen : inputs core s number node ≡ inputs core t number node = ap (λ wires. inputs core (record s { wires = wires }) number node) (sym a.wires) in
-    subst P seen (executes_alike count node (part_of s number) (part_of t number) (inputs core s number node) (parts_alike count s t number a))
+    subst P seen (executes_alike count core node (part_of s number) (part_of t number) (inputs core s number node) (parts_alike count s t number a))
 
 stepped_alike : (count : ℕ) (core : Core) (s t : State) (number : ℕ) (node : Option NodeC) → Alike (suc count) s t → AlikeHalves count (stepped_at core s number node) (stepped_at core t number node)
 stepped_alike count core s t number None a = idle_alike count (part_of s number) (part_of t number) [] (fewer count (part_of s number) (part_of t number) (parts_alike (suc count) s t number a))
@@ -220,13 +221,13 @@ pub mid_alike : (count : ℕ) (core : Core) (s t : State) → Alike count s t �
 mid_alike count core s t a =
     let alike : (node : ℕ) → AlikeHalves count (executed core s node) (executed core t node) = λ node. executed_alike count core s t node (slice_get core.nodes node) a in
     gathered_alike count (length core.nodes) (executed core s) (executed core t) _ _ alike
-        (ap (λ f. map f core.wires) (λ i wire. same_left (length core.nodes) (executed core s) (executed core t) (λ node. (alike node).side) wire.to wire.to_port i))
+    (ap (λ f. map f core.wires) (λ i wire. same_left (length core.nodes) (executed core s) (executed core t) (λ node. (alike node).side) wire.to wire.to_port i))
 
 pub up_alike : (count : ℕ) (core : Core) (s t : State) → Alike (suc count) s t → Alike count (up core s) (up core t)
 up_alike count core s t a =
     let alike : (node : ℕ) → AlikeHalves count (stepped core s node) (stepped core t node) = λ node. stepped_alike count core s t node (slice_get core.nodes node) a in
     gathered_alike count (length core.nodes) (stepped core s) (stepped core t) _ _ alike
-        (ap (λ f. map f core.wires) (λ i wire. same_left (length core.nodes) (stepped core s) (stepped core t) (λ node. (alike node).side) wire.from wire.from_port i))
+    (ap (λ f. map f core.wires) (λ i wire. same_left (length core.nodes) (stepped core s) (stepped core t) (λ node. (alike node).side) wire.from wire.from_port i))
 
 superstep_alike : (count : ℕ) (core : Core) (s t : State) → Alike (suc count) s t → Alike count (superstep core s) (superstep core t)
 unfolding superstep

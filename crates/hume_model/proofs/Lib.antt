@@ -1,7 +1,15 @@
 pub mod Ahead
+pub mod Agreement
+pub mod CallTypes
 pub mod Evaluation
+pub mod ExpressionTypes
+pub mod Fields
+pub mod Layers
+pub mod PatternTypes
 pub mod Positions
 pub mod Powers
 pub mod Ranges
+pub mod Ranks
 pub mod Sides
 pub mod Starts
+pub mod Widths

@@ -6,6 +6,7 @@ use Rattle.hume_base.specs.declared.types.Value.{Value}
 use Rattle.hume_model.specs.declared.core_tree.BoxC.{BoxC}
 use Rattle.hume_model.specs.declared.core_tree.NodeC.{NodeC}
 use Rattle.hume_model.specs.declared.core_tree.NodeC.TheVariants.{Rules, From, To}
+use Rattle.hume_model.specs.declared.core_tree.Core.{Core}
 use Rattle.hume_model.specs.declared.state.Part.{Part}
 use Rattle.hume_model.specs.declared.state.HalfStep.{HalfStep}
 use Rattle.hume_model.specs.declared.state.Firing.{Firing}
@@ -46,10 +47,10 @@ emptied (input ∷ ins) = None ∷ emptied ins
 
 -- The execute step. A box with pending outputs does nothing; another fires if a rule fits. An output stream takes
 -- what is there. An input stream does nothing.
-abbrev pub execute : NodeC → Part → List (Option Value) → HalfStep
-execute (Rules b) part ins = if is_some part.pending then idle part ins else fired b part ins (fire b.rules part.order ins)
-execute (From stream) part ins = idle part ins
-execute (To stream) part ins = record {
+abbrev pub execute : Core → NodeC → Part → List (Option Value) → HalfStep
+execute core (Rules b) part ins = if is_some part.pending then idle part ins else fired b part ins (fire core b part.order ins)
+execute core (From stream) part ins = idle part ins
+execute core (To stream) part ins = record {
   part = record part { taken = part.taken ++ present ins };
   side = emptied ins;
 }

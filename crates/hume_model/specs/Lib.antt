@@ -1,6 +1,11 @@
+pub mod Outcomes
 pub mod Operations
-pub mod Meaning
+pub mod Patterns
 pub mod Matching
+pub mod Meaning
+pub mod Calls
+pub mod Typing
+pub mod Results
 pub mod Firing
 pub mod HalfSteps
 pub mod Lockstep

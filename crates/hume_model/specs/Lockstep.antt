@@ -62,7 +62,7 @@ each_node core says = numbered (length core.nodes) says
 
 abbrev pub executed_at : Core → State → ℕ → Option NodeC → HalfStep
 executed_at core state number None = idle (part_of state number) []
-executed_at core state number (Some node) = execute node (part_of state number) (inputs core state number node)
+executed_at core state number (Some node) = execute core node (part_of state number) (inputs core state number node)
 
 -- what a node makes of a state in its execute step
 abbrev pub executed : Core → State → ℕ → HalfStep

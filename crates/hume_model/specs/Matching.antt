@@ -2,14 +2,9 @@
 use Rattle.std.specs.Prelude.{Bool, true, false, ◌&&◌, List, [], ◌∷◌, ◌++◌, Option, None, Some}
 use Rattle.std.specs.Option.{is_some, unwrap_or}
 use Rattle.hume_base.specs.declared.types.Value.{Value}
-use Rattle.hume_model.specs.declared.core_tree.PatC.{PatC}
-use Rattle.hume_model.specs.declared.core_tree.PatC.TheVariants.{Var}
 use Rattle.hume_model.specs.declared.core_tree.InPat.{InPat}
 use Rattle.hume_model.specs.declared.core_tree.InPat.TheVariants.{Star, AnyStar, Any, Built}
-
--- the values of the variables of a pattern that the value matches
-abbrev pub matches : PatC → Value → Option (List Value)
-matches Var value = Some (value ∷ [])
+use Rattle.hume_model.specs.Patterns.{matches}
 
 abbrev pub fits_at : InPat → Option Value → Bool
 fits_at Star input = true

@@ -12,16 +12,6 @@ pub fn copy_maybe(alloc: Global, value: &Option<Value>) -> Result<Option<Value>,
     }
 }
 
-pub fn copy_values(alloc: Global, values: &[Value]) -> Result<List<Value>, AllocError>
-    ensures { IfOk result (λ copies. copies ≡ values.now) }
-{
-    let mut copies = List::new(alloc);
-    for value in values {
-        copies.push(copy_value(alloc, value)?)?;
-    }
-    Ok(copies)
-}
-
 pub fn copy_outputs(
     alloc: Global,
     outs: &[Option<Value>],

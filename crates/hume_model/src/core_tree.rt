@@ -1,5 +1,5 @@
 //! The core: a checked program as data, in which every name has become a number.
-use hume_base::{List, Text, Ty, Value};
+use hume_base::{Box, List, Text, Ty, Types, Value};
 
 /// An operation on words.
 #[derive(Clone, Copy, Debug, PartialEq, Eq)]
@@ -7,21 +7,52 @@ pub enum Op {
     Add,
     Sub,
     Mul,
+    Div,
+    Mod,
+    Neg,
+    Not,
+    /// From any `int` or `nat` to the type.
+    Convert,
+    Eq,
+    Ne,
+    Lt,
+    Le,
+    Gt,
+    Ge,
 }
 
-/// An expression. Variables are numbered from 0, outermost first.
+/// An expression. Variables are numbered from 0, outermost first. Parts stand in source order.
 #[derive(Drop)]
 pub enum Expr {
     Word(u64),
     Var(u32),
-    /// An operation at a type on its operands, in source order.
+    /// A constructor, by its place in its data type.
+    Con(u32, List<Expr>),
+    Tuple(List<Expr>),
+    Vect(List<Expr>),
+    /// An operation at the type of its operands; `Convert` at that of its result.
     Prim(Op, Ty, List<Expr>),
+    /// An element of a vector of so many, by its place from 1.
+    Index(u32, Box<Expr>, Box<Expr>),
+    /// A vector of so many with another element at a place from 1.
+    Update(u32, Box<Expr>, Box<Expr>, Box<Expr>),
+    If(Box<Expr>, Box<Expr>, Box<Expr>),
+    /// The first alternative that the first part matches, which is of the type.
+    Case(Box<Expr>, Ty, List<(PatC, Expr)>),
+    Let(Box<Expr>, Box<Expr>),
+    Call(u32, List<Expr>),
+    /// An exception, with what it carries.
+    Raise(u8, Option<Box<Expr>>),
 }
 
-/// A pattern that a value must match.
+/// A pattern that a value must match. Its variables are numbered from left to right.
 #[derive(Drop)]
 pub enum PatC {
     Var,
+    Any,
+    Word(u64),
+    Con(u32, List<PatC>),
+    Tuple(List<PatC>),
 }
 
 /// What stands at an input position of a rule.
@@ -37,16 +68,29 @@ pub enum InPat {
     Built(PatC),
 }
 
-/// The result of a rule.
+/// The result of a rule or of a handler.
 #[derive(Drop)]
 pub enum Res {
     /// One output each, or none where `*` stands.
     Outs(List<Option<Expr>>),
+    If(Expr, Box<Res>, Box<Res>),
+    Case(Expr, Ty, List<(PatC, Res)>),
+    Let(Expr, Box<Res>),
+    Raise(u8, Option<Expr>),
 }
 
 #[derive(Drop)]
 pub struct RuleC {
     pub pats: List<InPat>,
+    pub result: Res,
+}
+
+/// What a box gives when a rule's result raises the exception.
+#[derive(Drop)]
+pub struct HandC {
+    pub exn: u8,
+    /// Whether the handler binds what the exception carries: its only variable.
+    pub bound: bool,
     pub result: Res,
 }
 
@@ -65,6 +109,7 @@ pub struct BoxC {
     pub outs: List<PortC>,
     pub fair: bool,
     pub rules: List<RuleC>,
+    pub handlers: List<HandC>,
 }
 
 #[derive(Drop)]
@@ -96,9 +141,36 @@ pub struct WireC {
     pub initial: Option<Value>,
 }
 
-/// Boxes and streams, numbered from 0 in source order, and the wires that join them.
+/// An exception, with the type of what it carries.
+#[derive(Drop)]
+pub struct ExnDef {
+    pub name: Text,
+    pub carries: Option<Ty>,
+}
+
+#[derive(Drop)]
+pub struct EqC {
+    pub pats: List<PatC>,
+    pub body: Expr,
+}
+
+#[derive(Drop)]
+pub struct FunC {
+    pub name: Text,
+    pub line: u32,
+    pub params: List<Ty>,
+    pub gives: Ty,
+    pub equations: List<EqC>,
+}
+
+/// Data types, exceptions and functions; boxes and streams, numbered from 0 in source order; and the wires that join
+/// them. A function calls only functions of smaller numbers.
 #[derive(Drop)]
 pub struct Core {
+    pub types: Types,
+    /// `DivZero`, `Range` and `NoCase` first.
+    pub exns: List<ExnDef>,
+    pub funs: List<FunC>,
     pub nodes: List<NodeC>,
     pub wires: List<WireC>,
 }

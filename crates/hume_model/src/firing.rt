@@ -1,12 +1,13 @@
-ghost use Rattle.std.specs.Prelude.{◌≡◌, IfOk, slice_get, map};
+ghost use Rattle.std.specs.Prelude.{◌≡◌, IfOk, MatchOption, slice_get, ◌==◌, [], Some, None, if◌then◌else◌};
 ghost use Rattle.std.specs.List.{find};
-ghost use Rattle.std.specs.Option.{option_map};
-ghost use Rattle.hume_model.specs.Meaning.{eval};
-ghost use Rattle.hume_model.specs.Firing.{fire, firing_of, rule_fits, outputs_of_result};
+ghost use Rattle.std.specs.Option.{option_map, option_to_list};
+ghost use Rattle.hume_model.specs.declared.core_tree.HandC.{HandC};
+ghost use Rattle.hume_model.specs.Firing.{fire, firing_of, rule_fits, handled, handled_by};
 
-use crate::core_tree::{Expr, Res, RuleC};
-use crate::evaluate::evaluate;
+use crate::core_tree::{BoxC, Core, HandC, RuleC};
 use crate::matching::{bound_values, is_fitting, taken_inputs};
+use crate::outcome::Outputs;
+use crate::results::outputs_of;
 use crate::state::Firing;
 use hume_base::{List, Value};
 use std::alloc::{AllocError, Global};
@@ -14,52 +15,78 @@ use std::alloc::{AllocError, Global};
 /// What the first rule in the order that fits does; none where no rule fits.
 pub fn first_firing(
     alloc: Global,
-    rules: &[RuleC],
+    core: &Core,
+    b: &BoxC,
     order: &[u32],
     ins: &[Option<Value>],
 ) -> Result<Option<Firing>, AllocError>
-    ensures { IfOk result (λ firing. firing ≡ fire rules.now order.now ins.now) }
+    ensures { IfOk result (λ firing. firing ≡ fire core.now b.now order.now ins.now) }
 {
-    let Some(number) = first_fitting(rules, order, ins) else {
-        return Ok(None);
-    };
-    let Some(rule) = rules.get(number as usize) else {
-        return Ok(None);
-    };
-    Ok(Some(firing(alloc, number, rule, ins)?))
+    match first_fitting(alloc, b.rules.as_slice(), order, ins)? {
+        None => Ok(None),
+        Some(number) => firing_at(alloc, core, b, number, ins),
+    }
 }
 
-fn first_fitting(rules: &[RuleC], order: &[u32], ins: &[Option<Value>]) -> Option<u32>
-    ensures { result ≡ find (λ number. rule_fits ins.now (slice_get rules.now number)) order.now }
+fn firing_at(
+    alloc: Global,
+    core: &Core,
+    b: &BoxC,
+    number: u32,
+    ins: &[Option<Value>],
+) -> Result<Option<Firing>, AllocError>
+    ensures { IfOk result (λ at. at ≡ option_map (firing_of core.now b.now number ins.now) (slice_get b.now.rules number)) }
+{
+    match b.rules.get(number as usize) {
+        None => Ok(None),
+        Some(rule) => Ok(Some(firing(alloc, core, b, number, rule, ins)?)),
+    }
+}
+
+fn first_fitting(
+    alloc: Global,
+    rules: &[RuleC],
+    order: &[u32],
+    ins: &[Option<Value>],
+) -> Result<Option<u32>, AllocError>
+    ensures { IfOk result (λ first. first ≡ find (λ number. rule_fits ins.now (slice_get rules.now number)) order.now) }
 {
     for number in order {
-        if is_fitting_rule(rules, *number, ins) {
-            return Some(*number);
+        if is_fitting_rule(alloc, rules, *number, ins)? {
+            return Ok(Some(*number));
         }
     }
-    None
+    Ok(None)
 }
 
-fn is_fitting_rule(rules: &[RuleC], number: u32, ins: &[Option<Value>]) -> bool
-    ensures { result ≡ rule_fits ins.now (slice_get rules.now number) }
+fn is_fitting_rule(
+    alloc: Global,
+    rules: &[RuleC],
+    number: u32,
+    ins: &[Option<Value>],
+) -> Result<bool, AllocError>
+    ensures { IfOk result (λ fitting. fitting ≡ rule_fits ins.now (slice_get rules.now number)) }
 {
     match rules.get(number as usize) {
-        None => false,
-        Some(rule) => is_fitting(rule.pats.as_slice(), ins),
+        None => Ok(false),
+        Some(rule) => is_fitting(alloc, rule.pats.as_slice(), ins),
     }
 }
 
 fn firing(
     alloc: Global,
+    core: &Core,
+    b: &BoxC,
     number: u32,
     rule: &RuleC,
     ins: &[Option<Value>],
 ) -> Result<Firing, AllocError>
-    ensures { IfOk result (λ firing. firing ≡ firing_of number ins.now rule.now) }
+    ensures { IfOk result (λ firing. firing ≡ firing_of core.now b.now number ins.now rule.now) }
 {
     let env = bound_values(alloc, rule.pats.as_slice(), ins)?;
     let taken = taken_inputs(alloc, rule.pats.as_slice(), ins)?;
-    let outs = result_values(alloc, env.as_slice(), &rule.result)?;
+    let outputs = outputs_of(alloc, core, &env, &rule.result)?;
+    let outs = handled_outputs(alloc, core, b.handlers.as_slice(), outputs)?;
     Ok(Firing {
         rule: number,
         taken,
@@ -67,37 +94,61 @@ fn firing(
     })
 }
 
-fn result_values(alloc: Global, env: &[Value], res: &Res) -> Result<List<Option<Value>>, AllocError>
-    ensures { IfOk result (λ outs. outs ≡ outputs_of_result env.now res.now) }
+fn handled_outputs(
+    alloc: Global,
+    core: &Core,
+    handlers: &[HandC],
+    outputs: Outputs,
+) -> Result<List<Option<Value>>, AllocError>
+    ensures { IfOk result (λ outs. outs ≡ handled core.now handlers.now outputs) }
 {
-    match res {
-        Res::Outs(outs) => output_values(alloc, env, outs.as_slice()),
+    match outputs {
+        Outputs::Asserts(outs) => Ok(outs),
+        Outputs::Throws(exn, carried) => match handler_for(handlers, exn) {
+            None => Ok(List::new(alloc)),
+            Some(handler) => handler_outputs(alloc, core, handler, carried),
+        },
     }
 }
 
-fn output_values(
+fn handler_for(handlers: &[HandC], exn: u8) -> Option<&HandC>
+    ensures { MatchOption result (find (λ (handler : HandC). handler.exn == exn) handlers.now ≡ None) (λ found. find (λ (handler : HandC). handler.exn == exn) handlers.now ≡ Some found.now) }
+{
+    for handler in handlers {
+        if handler.exn == exn {
+            return Some(handler);
+        }
+    }
+    None
+}
+
+fn handler_outputs(
     alloc: Global,
-    env: &[Value],
-    outs: &[Option<Expr>],
+    core: &Core,
+    handler: &HandC,
+    carried: Option<Value>,
 ) -> Result<List<Option<Value>>, AllocError>
-    ensures { IfOk result (λ values. values ≡ map (option_map (eval env.now)) outs.now) }
+    ensures { IfOk result (λ outs. outs ≡ handled_by core.now carried (Some handler.now)) }
+{
+    let env = carried_values(alloc, handler.bound, carried)?;
+    match outputs_of(alloc, core, &env, &handler.result)? {
+        Outputs::Asserts(outs) => Ok(outs),
+        Outputs::Throws(_, _) => Ok(List::new(alloc)),
+    }
+}
+
+fn carried_values(
+    alloc: Global,
+    bound: bool,
+    carried: Option<Value>,
+) -> Result<List<Value>, AllocError>
+    ensures { IfOk result (λ env. env ≡ (if bound then option_to_list carried else [])) }
 {
     let mut values = List::new(alloc);
-    for out in outs {
-        values.push(output_value(alloc, env, out)?)?;
+    if let Some(value) = carried {
+        if bound {
+            values.push(value)?;
+        }
     }
     Ok(values)
-}
-
-fn output_value(
-    alloc: Global,
-    env: &[Value],
-    out: &Option<Expr>,
-) -> Result<Option<Value>, AllocError>
-    ensures { IfOk result (λ value. value ≡ option_map (eval env.now) out.now) }
-{
-    match out {
-        None => Ok(None),
-        Some(e) => Ok(Some(evaluate(alloc, env, e)?)),
-    }
 }

@@ -4,7 +4,7 @@ ghost use Rattle.hume_model.specs.Firing.{fire};
 ghost use Rattle.hume_model.specs.HalfSteps.{execute, idle, fired, left, moved_last, present, emptied};
 
 use crate::copying::copy_maybe;
-use crate::core_tree::{BoxC, NodeC};
+use crate::core_tree::{BoxC, Core, NodeC};
 use crate::firing::first_firing;
 use crate::state::{Firing, HalfStep, Part};
 use hume_base::{List, Value, copy_value};
@@ -13,14 +13,15 @@ use std::alloc::{AllocError, Global};
 /// The execute step of a node with this part and these values at its inputs.
 pub fn execute_step(
     alloc: Global,
+    core: &Core,
     node: &NodeC,
     part: Part,
     ins: List<Option<Value>>,
 ) -> Result<HalfStep, AllocError>
-    ensures { IfOk result (λ half. half ≡ execute node.now part ins) }
+    ensures { IfOk result (λ half. half ≡ execute core.now node.now part ins) }
 {
     match node {
-        NodeC::Rules(b) => execute_box(alloc, b, part, ins),
+        NodeC::Rules(b) => execute_box(alloc, core, b, part, ins),
         NodeC::From(_) => Ok(HalfStep { part, side: ins }),
         NodeC::To(_) => take_inputs(alloc, part, ins.as_slice()),
     }
@@ -28,21 +29,17 @@ pub fn execute_step(
 
 fn execute_box(
     alloc: Global,
+    core: &Core,
     b: &BoxC,
     part: Part,
     ins: List<Option<Value>>,
 ) -> Result<HalfStep, AllocError>
-    ensures { IfOk result (λ half. half ≡ (if is_some part.pending then idle part ins else fired b.now part ins (fire b.now.rules part.order ins))) }
+    ensures { IfOk result (λ half. half ≡ (if is_some part.pending then idle part ins else fired b.now part ins (fire core.now b.now part.order ins))) }
 {
     if part.pending.is_some() {
         return Ok(HalfStep { part, side: ins });
     }
-    let firing = first_firing(
-        alloc,
-        b.rules.as_slice(),
-        part.order.as_slice(),
-        ins.as_slice(),
-    )?;
+    let firing = first_firing(alloc, core, b, part.order.as_slice(), ins.as_slice())?;
     match firing {
         None => Ok(HalfStep { part, side: ins }),
         Some(firing) => fire_box(alloc, b, part, ins.as_slice(), firing),

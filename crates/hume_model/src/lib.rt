@@ -1,19 +1,30 @@
 //! The meaning of a checked program, and a plain, slow net that computes just that.
 #![tactic(auto)]
 
+mod arithmetic;
 mod copying;
 mod core_tree;
 mod evaluate;
 mod firing;
 mod half_steps;
+mod laws;
 mod matching;
 mod net;
 mod operations;
+mod outcome;
+mod patterns;
 mod phases;
+mod results;
 mod start;
 mod state;
 mod super_steps;
 
-pub use core_tree::{BoxC, Core, Expr, InPat, NodeC, Op, PatC, PortC, Res, RuleC, StreamC, WireC};
+pub use core_tree::{
+    BoxC, Core, EqC, ExnDef, Expr, FunC, HandC, InPat, NodeC, Op, PatC, PortC, Res, RuleC, StreamC,
+    WireC,
+};
+pub use evaluate::eval_plain;
+pub use laws::{calls_unfold, evaluation_keeps_types, what_is_taken_is_there};
 pub use net::{Net, net_make};
+pub use outcome::{DIV_ZERO, NO_CASE, Outcome, Outputs, RANGE, Several};
 pub use state::{Firing, HalfStep, Part, State};

@@ -1,48 +1,48 @@
 ghost use Rattle.std.specs.Prelude.{◌≡◌, [], IfOk};
 ghost use Rattle.std.specs.Option.{is_some, unwrap_or};
-ghost use Rattle.hume_model.specs.Matching.{matches, fits_at, fits, taken_by, taken_at, bound_by, bound};
+ghost use Rattle.hume_model.specs.Patterns.{matches};
+ghost use Rattle.hume_model.specs.Matching.{fits_at, fits, taken_by, taken_at, bound_by, bound};
 
 use crate::core_tree::{InPat, PatC};
-use hume_base::{List, Value, copy_value};
+use crate::patterns::matched;
+use hume_base::{List, Value};
 use std::alloc::{AllocError, Global};
 
 /// Whether each position of a rule fits the value at its input.
 #[tactic(auto, using(crate::proofs::Positions::position_steps))]
-pub fn is_fitting(pats: &[InPat], ins: &[Option<Value>]) -> bool
-    ensures { result ≡ fits pats.now ins.now }
+pub fn is_fitting(alloc: Global, pats: &[InPat], ins: &[Option<Value>]) -> Result<bool, AllocError>
+    ensures { IfOk result (λ fitting. fitting ≡ fits pats.now ins.now) }
 {
     for (i, pat) in pats.iter().enumerate() {
         let Some(input) = ins.get(i) else {
-            return false;
+            return Ok(false);
         };
-        if !is_fitting_at(pat, input) {
-            return false;
+        if !is_fitting_at(alloc, pat, input)? {
+            return Ok(false);
         }
     }
-    true
+    Ok(true)
 }
 
-fn is_fitting_at(pat: &InPat, input: &Option<Value>) -> bool
-    ensures { result ≡ fits_at pat.now input.now }
+fn is_fitting_at(alloc: Global, pat: &InPat, input: &Option<Value>) -> Result<bool, AllocError>
+    ensures { IfOk result (λ fitting. fitting ≡ fits_at pat.now input.now) }
 {
     match pat {
-        InPat::Star => true,
-        InPat::AnyStar => true,
-        InPat::Any => input.is_some(),
+        InPat::Star => Ok(true),
+        InPat::AnyStar => Ok(true),
+        InPat::Any => Ok(input.is_some()),
         InPat::Built(pattern) => match input {
-            None => false,
-            Some(value) => is_match(pattern, value),
+            None => Ok(false),
+            Some(value) => is_match(alloc, pattern, value),
         },
     }
 }
 
-fn is_match(pattern: &PatC, value: &Value) -> bool
-    ensures { result ≡ is_some (matches pattern.now value.now) }
+fn is_match(alloc: Global, pattern: &PatC, value: &Value) -> Result<bool, AllocError>
+    ensures { IfOk result (λ matched. matched ≡ is_some (matches pattern.now value.now)) }
 {
-    let _value = value;
-    match pattern {
-        PatC::Var => true,
-    }
+    let found = matched(alloc, pattern, value)?;
+    Ok(found.is_some())
 }
 
 /// For each position of a rule whether it takes the value at its input.
@@ -111,11 +111,8 @@ fn bound_at(alloc: Global, pat: &InPat, input: &Option<Value>) -> Result<List<Va
 fn matched_values(alloc: Global, pattern: &PatC, value: &Value) -> Result<List<Value>, AllocError>
     ensures { IfOk result (λ values. values ≡ unwrap_or (matches pattern.now value.now) []) }
 {
-    match pattern {
-        PatC::Var => {
-            let mut values = List::new(alloc);
-            values.push(copy_value(alloc, value)?)?;
-            Ok(values)
-        }
+    match matched(alloc, pattern, value)? {
+        None => Ok(List::new(alloc)),
+        Some(values) => Ok(values),
     }
 }

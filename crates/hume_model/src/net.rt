@@ -1,8 +1,8 @@
 ghost use Rattle.std.specs.Prelude.{◌≡◌, ◌++◌, ◌∷◌, [], IfOk, OnOk, OnErr, slice_set, slice_index_or};
 ghost use Rattle.hume_model.specs.Lockstep.{superstep};
 ghost use Rattle.hume_model.specs.Start.{start, no_values};
+ghost use Rattle.hume_model.specs.WellFormed.{HasSmallBoxes};
 ghost use Rattle.hume_model.specs.Nodes.{HasParts, IsInputOf, IsOutputOf};
-ghost use Rattle.hume_model.specs.WellFormed.{IsWellFormed};
 
 use crate::core_tree::Core;
 use crate::phases::{state_after_execute, state_after_super};
@@ -23,7 +23,7 @@ pub struct Net<'a> {
 /// The net with the initial values on its wires and no values to come.
 #[tactic(auto, using(crate::proofs::Starts::start_steps))]
 pub fn net_make<'a>(alloc: Global, core: &'a Core) -> Result<Net<'a>, AllocError>
-    requires { IsWellFormed core.now }
+    requires { HasSmallBoxes core.now }
     ensures core { IfOk result (λ net. net.core.now ≡ core.now) }
     ensures state { IfOk result (λ net. net.state ≡ start core.now (no_values core.now)) }
 {

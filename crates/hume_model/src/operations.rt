@@ -1,57 +1,121 @@
-ghost use Rattle.std.specs.Prelude.{◌≡◌, ◌≤◌, ◌^◌, pos, ◌≤ℤ◌, ◌<ℤ◌};
-ghost use Rattle.hume_model.specs.Operations.{exact, wrapped, from_low, operated};
+ghost use Rattle.std.specs.Prelude.{◌≡◌, IfOk};
+ghost use Rattle.hume_base.specs.declared.types.Ty.{out-Ty};
+ghost use Rattle.hume_base.specs.declared.types.Value.{out-Value};
+ghost use Rattle.hume_base.specs.Flat.{parts_in};
+ghost use Rattle.hume_model.specs.Operations.{binary, unary, prim, truth, word_of_value, item_of, updated};
 
+use crate::arithmetic::{
+    difference, number_of_word, product, quotient, remainder, sum, wrapped_word,
+};
 use crate::core_tree::Op;
-use hume_base::{Ty, Value, int_of_word, word_of_int};
+use crate::outcome::{DIV_ZERO, Outcome, RANGE};
+use hume_base::{Ty, Value, copy_value, copy_values};
+use std::alloc::{AllocError, Global};
 
 /// The result of an operation at a type.
-pub fn operate(op: Op, ty: Ty, left: &Value, right: &Value) -> Value
-    ensures { result ≡ operated op ty left.now right.now }
+pub fn operate(op: Op, ty: &Ty, operands: &[Value]) -> Outcome
+    ensures { result ≡ prim op ty.now operands.now }
 {
-    let Value::Word(left) = left;
-    let Value::Word(right) = right;
-    let Ty::Int(bits) = ty;
-    let number = exactly(op, int_of_word(*left), int_of_word(*right));
-    Value::Word(word_of_int(wrap(bits.min(64), number)))
+    match operands {
+        [] => Outcome::Gives(Value::Word(0)),
+        [operand] => operate_on_one(op, ty, own_word(operand)),
+        [left, right, ..] => operate_on_two(op, ty, own_word(left), own_word(right)),
+    }
 }
 
-fn exactly(op: Op, left: i64, right: i64) -> i128
-    ensures { result ≡ exact op left right }
+/// A scalar's word.
+pub fn own_word(value: &Value) -> u64
+    ensures { result ≡ word_of_value value.now }
 {
-    let left = i128::from(left);
-    let right = i128::from(right);
+    match value {
+        Value::Word(word) => *word,
+        Value::Con(place, _) => u64::from(*place),
+        Value::Tuple(_) => 0,
+        Value::Vector(_) => 0,
+    }
+}
+
+fn operate_on_one(op: Op, ty: &Ty, word: u64) -> Outcome
+    ensures { result ≡ unary op (out-Ty ty.now) word }
+{
     match op {
-        Op::Add => left + right,
-        Op::Sub => left - right,
-        Op::Mul => left * right,
+        Op::Neg => Outcome::Gives(Value::Word(wrapped_word(ty, -number_of_word(ty, word)))),
+        Op::Not => answer(word == 0),
+        Op::Convert => Outcome::Gives(Value::Word(wrapped_word(ty, i128::from(word)))),
+        _ => Outcome::Gives(Value::Word(0)),
     }
 }
 
-fn wrap(bits: u8, number: i128) -> i64
-    requires { bits ≤ 64 }
-    ensures { result ≡ wrapped bits number }
+fn operate_on_two(op: Op, ty: &Ty, left: u64, right: u64) -> Outcome
+    ensures { result ≡ binary op (out-Ty ty.now) left right }
 {
-    from_low_bits(bits, number.rem_euclid(power(bits)))
-}
-
-#[tactic(auto, using(crate::proofs::Powers::power_steps))]
-fn from_low_bits(bits: u8, low: i128) -> i64
-    requires few { bits ≤ 64 }
-    requires positive { pos 0 ≤ℤ low }
-    requires below { low <ℤ pos (2 ^ bits) }
-    ensures { result ≡ from_low bits low }
-{
-    if low < power(bits.saturating_sub(1)) {
-        return low as i64;
+    match op {
+        Op::Add => Outcome::Gives(Value::Word(sum(ty, left, right))),
+        Op::Sub => Outcome::Gives(Value::Word(difference(ty, left, right))),
+        Op::Mul => Outcome::Gives(Value::Word(product(ty, left, right))),
+        Op::Div if right == 0 => Outcome::Raises(DIV_ZERO, None),
+        Op::Mod if right == 0 => Outcome::Raises(DIV_ZERO, None),
+        Op::Div => Outcome::Gives(Value::Word(quotient(ty, left, right))),
+        Op::Mod => Outcome::Gives(Value::Word(remainder(ty, left, right))),
+        Op::Eq => answer(left == right),
+        Op::Ne => answer(left != right),
+        Op::Lt => answer(number_of_word(ty, left) < number_of_word(ty, right)),
+        Op::Le => answer(number_of_word(ty, left) <= number_of_word(ty, right)),
+        Op::Gt => answer(number_of_word(ty, left) > number_of_word(ty, right)),
+        Op::Ge => answer(number_of_word(ty, left) >= number_of_word(ty, right)),
+        _ => Outcome::Gives(Value::Word(0)),
     }
-    (low - power(bits)) as i64
 }
 
-// 2 to the bits.
-#[tactic(auto, using(crate::proofs::Powers::power_steps))]
-fn power(bits: u8) -> i128
-    requires { bits ≤ 64 }
-    ensures { result ≡ pos (2 ^ bits) }
+fn answer(holds: bool) -> Outcome
+    ensures { result ≡ truth holds }
 {
-    (1u128 << bits) as i128
+    Outcome::Gives(Value::Word(u64::from(holds)))
+}
+
+/// The element at a place of a vector of so many.
+pub fn item(alloc: Global, count: u32, vector: &Value, place: &Value) -> Result<Outcome, AllocError>
+    ensures { IfOk result (λ outcome. outcome ≡ item_of count vector.now place.now) }
+{
+    let place = own_word(place);
+    if place == 0 || place > u64::from(count) {
+        return Ok(Outcome::Raises(RANGE, None));
+    }
+    match parts(vector).get((place - 1) as usize) {
+        None => Ok(Outcome::Raises(RANGE, None)),
+        Some(item) => Ok(Outcome::Gives(copy_value(alloc, item)?)),
+    }
+}
+
+/// The vector of so many with another element at a place.
+pub fn changed(
+    alloc: Global,
+    count: u32,
+    vector: &Value,
+    place: &Value,
+    item: Value,
+) -> Result<Outcome, AllocError>
+    ensures { IfOk result (λ outcome. outcome ≡ updated count vector.now place.now item) }
+{
+    let place = own_word(place);
+    if place == 0 || place > u64::from(count) {
+        return Ok(Outcome::Raises(RANGE, None));
+    }
+    let mut items = copy_values(alloc, parts(vector))?;
+    let at = (place - 1) as usize;
+    if at < items.len() {
+        items.set(at, item);
+    }
+    Ok(Outcome::Gives(Value::Vector(items)))
+}
+
+fn parts(value: &Value) -> &[Value]
+    ensures { result.now ≡ parts_in (out-Value value.now) }
+{
+    match value {
+        Value::Word(_) => &[],
+        Value::Con(_, parts) => parts.as_slice(),
+        Value::Tuple(parts) => parts.as_slice(),
+        Value::Vector(parts) => parts.as_slice(),
+    }
 }

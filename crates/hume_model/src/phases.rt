@@ -3,12 +3,12 @@ ghost use Rattle.std.specs.List.{range_with_len, position};
 ghost use Rattle.std.specs.Option.{option_and_then, option_flatten, unwrap_or};
 ghost use Rattle.hume_model.specs.Lockstep.{on_wire, part_of, leads_to, comes_from, on_found, inputs, outputs, inputs_of, outputs_of, each_node, executed, stepped, left_at, gathered, consumed, produced, mid, up};
 
-use crate::copying::{copy_maybe, copy_numbers, copy_outputs, copy_values};
+use crate::copying::{copy_maybe, copy_numbers, copy_outputs};
 use crate::core_tree::{Core, NodeC};
 use crate::half_steps::execute_step;
 use crate::state::{HalfStep, Part, State};
 use crate::super_steps::assert_step;
-use hume_base::{List, Value};
+use hume_base::{List, Value, copy_values};
 use std::alloc::{AllocError, Global};
 
 /// The state after an execute phase.
@@ -67,7 +67,7 @@ fn executed_node(
         }),
         Some(node) => {
             let ins = input_values(alloc, core, state, number, node)?;
-            execute_step(alloc, node, part, ins)
+            execute_step(alloc, core, node, part, ins)
         }
     }
 }

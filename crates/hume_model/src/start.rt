@@ -2,7 +2,7 @@ ghost use Rattle.std.specs.Prelude.{◌≡◌, ◌≤◌, [], IfOk, None, map};
 ghost use Rattle.std.specs.List.{range_with_len};
 ghost use Rattle.hume_model.specs.Lockstep.{each_node};
 ghost use Rattle.hume_model.specs.Start.{start, no_values, written_order};
-ghost use Rattle.hume_model.specs.WellFormed.{IsWellFormed, HasFewRules};
+ghost use Rattle.hume_model.specs.WellFormed.{HasSmallBoxes, HasFewRules};
 
 use crate::copying::copy_maybe;
 use crate::core_tree::{Core, NodeC};
@@ -12,7 +12,7 @@ use std::alloc::{AllocError, Global};
 
 /// The state before the first superstep, with no values to come.
 pub fn start_state(alloc: Global, core: &Core) -> Result<State, AllocError>
-    requires { IsWellFormed core.now }
+    requires { HasSmallBoxes core.now }
     ensures { IfOk result (λ state. state ≡ start core.now (no_values core.now)) }
 {
     Ok(State {
@@ -60,7 +60,7 @@ fn nothing_yet(alloc: Global, core: &Core) -> Result<List<List<Value>>, AllocErr
 }
 
 fn written_orders(alloc: Global, core: &Core) -> Result<List<List<u32>>, AllocError>
-    requires { IsWellFormed core.now }
+    requires { HasSmallBoxes core.now }
     ensures { IfOk result (λ orders. orders ≡ map written_order core.now.nodes) }
 {
     let mut orders = List::new(alloc);

@@ -14,7 +14,7 @@ use Rattle.std.proofs.lemmas.Slice.Eq.{bytes_eq-Decides}
 use Rattle.hume_base.proofs.Tables.{chosen}
 use Rattle.hume_model.specs.declared.core_tree.Op.{Op}
 use Rattle.hume_model.specs.declared.core_tree.Op.TheVariants.{Add, Sub, Mul}
-use Rattle.hume_run.specs.OneBox.{op_sign}
+use Rattle.hume_run.specs.OneBox.{op_sign, IsSigned}
 use Rattle.hume_run.specs.Pieces.{after, op_of, operator, cut, front}
 
 pub ruleset within = (prefix_len-le-length)
@@ -48,6 +48,24 @@ mapped None rest read h = cc
 mapped (Some op) rest read h =
     let same : (op, rest) ≡ read = same_Some (op, rest) read h in (ap (λ r. Some r.0) same, ap (λ r. r.1) same)
 
+op_of_signed : (sign : ℕ) (op : Op) → op_of sign ≡ Some op → IsSigned op
+op_of_signed sign op h = elim (chosen (sign == 43) _ _ _ h) [
+  | inl a ↦ subst IsSigned (same_Some Add op a.1) tt
+  | inr b ↦ elim (chosen (sign == 45) _ _ _ b.1) [
+    | inl a ↦ subst IsSigned (same_Some Sub op a.1) tt
+    | inr d ↦ (let p = cond_some (sign == 42) Mul op d.1 in subst IsSigned p.1 tt)
+  ]
+]
+
+pub operator_signed : (source : List ℕ) (read : Op × List ℕ) → operator source ≡ Some read → IsSigned read.0
+unfolding operator
+operator_signed [] read h = cc
+operator_signed (sign ∷ []) read h = cc
+operator_signed (sign ∷ (space ∷ rest)) read h = elim (chosen (space == 32) _ _ _ h) [
+  | inl a ↦ (let m = mapped (op_of sign) rest read a.1 in op_of_signed sign read.0 m.0)
+  | inr b ↦ (let none = b.1 in cc)
+]
+
 pub operator_sound : (source : List ℕ) (read : Op × List ℕ) → operator source ≡ Some read → source ≡ op_sign read.0 ∷ (32 ∷ read.1)
 unfolding operator
 operator_sound [] read h = cc
@@ -60,11 +78,12 @@ operator_sound (sign ∷ (space ∷ rest)) read h = elim (chosen (space == 32) _
   | inr b ↦ (let none = b.1 in cc)
 ]
 
-pub operator_sign : (op : Op) (rest : List ℕ) → operator (op_sign op ∷ (32 ∷ rest)) ≡ Some (op, rest)
+pub operator_sign : (op : Op) (rest : List ℕ) → IsSigned op → operator (op_sign op ∷ (32 ∷ rest)) ≡ Some (op, rest)
 unfolding operator
-operator_sign Add rest = refl
-operator_sign Sub rest = refl
-operator_sign Mul rest = refl
+operator_sign Add rest signed = refl
+operator_sign Sub rest signed = refl
+operator_sign Mul rest signed = refl
+operator_sign _ rest signed = absurd signed
 
 -- ---- the bytes at the front that pass a test
 

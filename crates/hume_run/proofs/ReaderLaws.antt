@@ -13,7 +13,7 @@ use Rattle.hume_run.specs.OneBox.{OneBox, IsNameByte, IsPortName, IsOperand, IsO
 use Rattle.hume_run.specs.Pieces.{after, operator, operand, is_name_byte, port_name}
 use Rattle.hume_run.proofs.Reader.{before_op, before_input, before_output, at_end, ended, with_output, with_input, with_stream, with_operand, with_op, with_box, parts_read}
 use Rattle.hume_run.proofs.Digits.{all_digits_is}
-use Rattle.hume_run.proofs.PieceLaws.{after_sound, after_text, operator_sound, operator_sign, IsFront, Stops, front_sound, front_cut}
+use Rattle.hume_run.proofs.PieceLaws.{after_sound, after_text, operator_sound, operator_signed, operator_sign, IsFront, Stops, front_sound, front_cut}
 
 -- ---- names and operands
 
@@ -79,7 +79,7 @@ text_read parts proper =
     rw (
       text_is parts,
       after_text before_op (op_sign parts.op ∷ (32 ∷ t3)),
-      operator_sign parts.op t3,
+      operator_sign parts.op t3 proper.op,
       front_cut is_ascii_digit 9 parts.digits (before_input ++ t4) decimal (input_stops t4) proper.operand.some proper.operand.few,
       after_text before_input t4,
       front_cut is_name_byte 255 parts.input (before_output ++ t5) (name_to parts.input proper.input) (output_stops t5) proper.input.some proper.input.few,
@@ -113,6 +113,7 @@ read_spells source parts h =
     subst (λ (found : OneBox). Spells found source) p.1 (record {
       proper = record {
         input = name_from r3 input.0 input.1 f4;
+        op = operator_signed r0 op e1;
         operand = operand_from op.1 digits.0 digits.1 f2;
         output = name_from r5 output.0 output.1 f6;
       };

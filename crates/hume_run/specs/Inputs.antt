@@ -3,8 +3,7 @@ use Rattle.std.specs.Prelude.{ℕ, ◌+◌, ◌^◌, ◌==◌, Bool, ◌&&◌, �
 use Rattle.std.specs.List.{slice_index}
 use Rattle.std.specs.Str.{all_ascii_digits}
 use Rattle.std.specs.Str.Parse.{digits_value}
-use Rattle.hume_base.specs.declared.types.Value.{Value}
-use Rattle.hume_base.specs.declared.types.Value.TheVariants.{Word}
+use Rattle.hume_base.specs.declared.types.Value.{Value, Word}
 use Rattle.hume_base.specs.Words.{word_of}
 
 -- one more byte in front of the first line

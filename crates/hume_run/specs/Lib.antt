@@ -10,3 +10,4 @@ pub mod Places
 pub mod PartsOf
 pub mod BoxReports
 pub mod Pieces
+pub mod BoxRuns

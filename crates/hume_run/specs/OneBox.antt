@@ -1,9 +1,8 @@
 -- The part of the language that is built: one box between an input and an output stream.
-use Rattle.std.specs.Prelude.{◌≡◌, ◌≢◌, ℕ, ◌<◌, ◌≤◌, List, [], ◌∷◌, ◌++◌, length, All, Option, None, Some, false, codes, IsTrue}
+use Rattle.std.specs.Prelude.{◌≡◌, ◌≢◌, ℕ, ◌<◌, ◌≤◌, List, [], ◌∷◌, ◌++◌, length, All, Option, None, Some, false, codes, IsTrue, ⊤}
 use Rattle.std.specs.Str.{all_ascii_digits}
 use Rattle.std.specs.Str.Parse.{digits_value}
-use Rattle.hume_base.specs.declared.types.Ty.{Ty}
-use Rattle.hume_base.specs.declared.types.Ty.TheVariants.{Int}
+use Rattle.hume_base.specs.declared.types.Ty.{Ty, Int}
 use Rattle.hume_model.specs.declared.core_tree.Op.{Op}
 use Rattle.hume_model.specs.declared.core_tree.Op.TheVariants.{Add, Sub, Mul}
 use Rattle.hume_model.specs.declared.core_tree.Expr.{Expr}
@@ -12,6 +11,7 @@ use Rattle.hume_model.specs.declared.core_tree.PatC.TheVariants.{Var as Variable
 use Rattle.hume_model.specs.declared.core_tree.InPat.TheVariants.{Built}
 use Rattle.hume_model.specs.declared.core_tree.Res.TheVariants.{Outs}
 use Rattle.hume_model.specs.declared.core_tree.RuleC.{RuleC}
+use Rattle.hume_model.specs.declared.core_tree.ExnDef.{ExnDef}
 use Rattle.hume_model.specs.declared.core_tree.BoxC.{BoxC}
 use Rattle.hume_model.specs.declared.core_tree.NodeC.{NodeC}
 use Rattle.hume_model.specs.declared.core_tree.NodeC.TheVariants.{Rules, From, To}
@@ -43,8 +43,16 @@ pub record IsOperand (digits : List ℕ) : Type 0 where
   pub few : length digits ≤ 9
   pub decimal : IsTrue (all_ascii_digits digits)
 
+-- the operations that a one-box source may have
+abbrev pub IsSigned : Op → Type 0
+IsSigned Add = ⊤
+IsSigned Sub = ⊤
+IsSigned Mul = ⊤
+IsSigned _ = ⊥
+
 pub record IsOneBox (parts : OneBox) : Type 0 where
   pub input : IsPortName parts.input
+  pub op : IsSigned parts.op
   pub operand : IsOperand parts.digits
   pub output : IsPortName parts.output
 
@@ -52,6 +60,7 @@ abbrev pub op_sign : Op → ℕ
 op_sign Add = 43
 op_sign Sub = 45
 op_sign Mul = 42
+op_sign _ = 0
 
 -- its six lines
 abbrev pub text_of : OneBox → List ℕ
@@ -79,11 +88,22 @@ one_box parts = record {
   outs = record { name = codes "y"; ty = int_32 } ∷ [];
   fair = false;
   rules = one_rule parts ∷ [];
+  handlers = [];
 }
+
+abbrev pub plain_exception : List ℕ → ExnDef
+plain_exception name = record { name = name; carries = None }
+
+-- the exceptions that every program has
+abbrev pub own_exceptions : List ExnDef
+own_exceptions = plain_exception (codes "DivZero") ∷ plain_exception (codes "Range") ∷ plain_exception (codes "NoCase") ∷ []
 
 -- its core: the box is node 0, the input stream node 1, and the output stream node 2
 abbrev pub core_of : OneBox → Core
 core_of parts = record {
+  types = record { sums = [] };
+  exns = own_exceptions;
+  funs = [];
   nodes =
       Rules (one_box parts)
       ∷ From (record { name = codes "s"; line = 3; port = parts.input })

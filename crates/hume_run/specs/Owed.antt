@@ -7,7 +7,6 @@ use Rattle.std.specs.Str.{bytes_eq}
 use Rattle.hume_base.specs.declared.rule.Refusal.{Refusal}
 use Rattle.hume_base.specs.declared.rule.Rule.TheVariants.{NotBuilt, C55}
 use Rattle.hume_base.specs.declared.types.Value.{Value}
-use Rattle.hume_base.specs.declared.types.Value.TheVariants.{Word}
 use Rattle.hume_base.specs.Rules.{code_of}
 use Rattle.hume_base.specs.Words.{int_of}
 use Rattle.hume_model.specs.declared.core_tree.NodeC.{NodeC}
@@ -15,6 +14,7 @@ use Rattle.hume_model.specs.declared.core_tree.NodeC.TheVariants.{Rules, From, T
 use Rattle.hume_model.specs.declared.core_tree.StreamC.{StreamC}
 use Rattle.hume_model.specs.declared.core_tree.Core.{Core}
 use Rattle.hume_model.specs.declared.state.State.{State}
+use Rattle.hume_model.specs.Operations.{word_of_value}
 use Rattle.hume_model.specs.Lockstep.{lockstep}
 use Rattle.hume_model.specs.Start.{start}
 use Rattle.hume_ports.specs.Ports.{place_of, is_among, other_names}
@@ -121,8 +121,9 @@ first_blocking steps texts (stream ∷ later) = blocked_or (blocks steps texts s
 abbrev pub bad_value_line : List ℕ → ℕ → List ℕ
 bad_value_line name line = codes "bad value " ++ name ++ codes " line " ++ decimal line ++ 10 ∷ []
 
+-- the text of a value of `int 32`, which is a word, and a newline
 abbrev pub value_line : Value → List ℕ
-value_line (Word word) = signed_decimal (int_of word) ++ 10 ∷ []
+value_line value = signed_decimal (int_of (word_of_value value)) ++ 10 ∷ []
 
 -- one write for each value that an output stream has taken
 abbrev pub taken_writes : NodeC → List Value → Pairs

@@ -1,13 +1,13 @@
 // The core of a one-box source.
 ghost use Rattle.std.specs.Prelude.{◌≡◌, [], ◌∷◌, IfOk, None};
-ghost use Rattle.hume_model.specs.WellFormed.{IsWellFormed};
-ghost use Rattle.hume_run.specs.OneBox.{IsOperand, core_of, one_box as core_box, one_rule as core_rule, int_32};
+ghost use Rattle.hume_model.specs.WellFormed.{HasSmallBoxes};
+ghost use Rattle.hume_run.specs.OneBox.{IsOperand, core_of, one_box as core_box, one_rule as core_rule, own_exceptions as core_exceptions, plain_exception as core_exception, int_32};
 ghost use Rattle.hume_run.specs.PartsOf.{parts_of};
 
 use crate::numbers::value;
 use crate::one_box::Parts;
-use hume_base::{List, Text, Ty};
-use hume_model::{BoxC, Core, Expr, InPat, NodeC, Op, PatC, PortC, Res, RuleC, StreamC, WireC};
+use hume_base::{List, Text, Ty, Types};
+use hume_model::{BoxC, Core, ExnDef, Expr, InPat, NodeC, Op, PatC, PortC, Res, RuleC, StreamC, WireC};
 use std::alloc::{AllocError, Global};
 
 /// The core that a source of these parts stands for.
@@ -15,14 +15,41 @@ use std::alloc::{AllocError, Global};
 pub fn build_core(alloc: Global, parts: &Parts) -> Result<Core, AllocError>
     requires { IsOperand parts.now.digits.now }
     ensures core { IfOk result (λ core. core ≡ core_of (parts_of parts.now)) }
-    ensures well_formed { IfOk result (λ core. IsWellFormed core) }
+    ensures small { IfOk result (λ core. HasSmallBoxes core) }
 {
     let mut nodes = one(alloc, NodeC::Rules(one_box(alloc, parts)?))?;
     nodes.push(NodeC::From(stream(alloc, b"s", 3, parts.input)?))?;
     nodes.push(NodeC::To(stream(alloc, b"t", 4, parts.output)?))?;
     let mut wires = one(alloc, wire(5, 1, 0))?;
     wires.push(wire(6, 0, 2))?;
-    Ok(Core { nodes, wires })
+    Ok(Core {
+        types: Types {
+            sums: List::new(alloc),
+        },
+        exns: own_exceptions(alloc)?,
+        funs: List::new(alloc),
+        nodes,
+        wires,
+    })
+}
+
+// The exceptions that every program has.
+fn own_exceptions(alloc: Global) -> Result<List<ExnDef>, AllocError>
+    ensures { IfOk result (λ exns. exns ≡ core_exceptions) }
+{
+    let mut exns = one(alloc, plain_exception(alloc, b"DivZero")?)?;
+    exns.push(plain_exception(alloc, b"Range")?)?;
+    exns.push(plain_exception(alloc, b"NoCase")?)?;
+    Ok(exns)
+}
+
+fn plain_exception(alloc: Global, name: &[u8]) -> Result<ExnDef, AllocError>
+    ensures { IfOk result (λ exn. exn ≡ core_exception name.now) }
+{
+    Ok(ExnDef {
+        name: Text::from_bytes(alloc, name)?,
+        carries: None,
+    })
 }
 
 fn one_box(alloc: Global, parts: &Parts) -> Result<BoxC, AllocError>
@@ -36,6 +63,7 @@ fn one_box(alloc: Global, parts: &Parts) -> Result<BoxC, AllocError>
         outs: one(alloc, port(alloc, b"y")?)?,
         fair: false,
         rules: one(alloc, one_rule(alloc, parts)?)?,
+        handlers: List::new(alloc),
     })
 }
 

@@ -18,12 +18,14 @@ mod order;
 mod reading;
 mod refuse;
 mod report;
+mod run;
 mod settle;
 mod source;
 #[cfg(test)]
 mod source_tests;
 mod status;
 mod streams;
+mod top;
 mod words;
 #[cfg(test)]
 mod words_tests;
@@ -36,4 +38,5 @@ pub use lines::{bad_value_line, refused_line, value_line};
 pub use one_box::{Parts, read_one_box};
 pub use order::Order;
 pub use status::Status;
+pub use top::hume;
 pub use words::read_words;

@@ -2,7 +2,7 @@ ghost use Rattle.std.specs.Prelude.{◌≡◌, ◌++◌, ℕ, List as Items, [],
 ghost use Rattle.hume_model.specs.Lockstep.{lockstep};
 ghost use Rattle.hume_model.specs.Start.{start, no_values};
 ghost use Rattle.hume_model.specs.Nodes.{IsInputOf, IsOutputOf};
-ghost use Rattle.hume_model.specs.WellFormed.{IsWellFormed};
+ghost use Rattle.hume_model.specs.WellFormed.{HasSmallBoxes};
 ghost use Rattle.hume_run.specs.Owed.{value_line};
 ghost use Rattle.hume_run.specs.Reports.{name_at, pairs_of};
 
@@ -23,7 +23,7 @@ pub fn run_net(
     output: u32,
     at: usize,
 ) -> Result<Vec<Line>, AllocError>
-    requires well_formed { IsWellFormed core.now }
+    requires small { HasSmallBoxes core.now }
     requires input { IsInputOf core.now input }
     requires output { IsOutputOf core.now output }
     ensures pairs { IfOk result (λ lines. (names : Items (Items ℕ)) → pairs_of names lines.items
@@ -43,7 +43,7 @@ fn fed_net<'a>(
     input: u32,
     values: List<Value>,
 ) -> Result<Net<'a>, AllocError>
-    requires well_formed { IsWellFormed core.now }
+    requires small { HasSmallBoxes core.now }
     requires input { IsInputOf core.now input }
     ensures core { IfOk result (λ net. net.core.now ≡ core.now) }
     ensures state { IfOk result (λ net. net.state ≡ start core.now (slice_set (no_values core.now) input values)) }

@@ -1,0 +1,32 @@
+//! Laws of the definitions, as contracts of functions that do nothing.
+ghost use Rattle.std.specs.Prelude.{◌≡◌, ℕ, ◌<◌, true, List, Option, Some, length, slice_get};
+ghost use Rattle.std.specs.Option.{is_some, option_flatten};
+ghost use Rattle.hume_base.specs.declared.types.Ty.{Ty};
+ghost use Rattle.hume_base.specs.declared.types.Value.{Value};
+ghost use Rattle.hume_model.specs.declared.core_tree.Expr.{Expr};
+ghost use Rattle.hume_model.specs.declared.core_tree.InPat.{InPat};
+ghost use Rattle.hume_model.specs.declared.core_tree.Core.{Core};
+ghost use Rattle.hume_model.specs.Meaning.{eval, eval_with, call_below, call_of};
+ghost use Rattle.hume_model.specs.Matching.{fits, taken_at};
+ghost use Rattle.hume_model.specs.Typing.{HasType, AreOf, is_outcome};
+ghost use Rattle.hume_model.specs.WellFormed.{HasSoundParts};
+
+/// A call gives what the body of the first equation that the arguments match gives in the whole program.
+pub fn calls_unfold()
+    ensures { (core : Core) → HasSoundParts core → (f : ℕ) (args : List Value) → f < length core.funs
+        → call_below core (length core.funs) f args
+        ≡ call_of (eval_with (call_below core (length core.funs))) (slice_get core.funs f) args }
+{}
+
+/// Evaluation keeps types: an expression that has a type for its environment gives a value of the type, or raises an
+/// exception of the core with a value of what it carries.
+pub fn evaluation_keeps_types()
+    ensures { (core : Core) → HasSoundParts core → (vars : List Ty) (e : Expr) (ty : Ty) → HasType core vars e ty
+        → (env : List Value) → AreOf core.types vars env → is_outcome core ty (eval core env e) ≡ true }
+{}
+
+/// What a rule that fits takes is on the wires.
+pub fn what_is_taken_is_there()
+    ensures { (pats : List InPat) (ins : List (Option Value)) (i : ℕ) → fits pats ins ≡ true
+        → slice_get (taken_at pats ins) i ≡ Some true → is_some (option_flatten (slice_get ins i)) ≡ true }
+{}

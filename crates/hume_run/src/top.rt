@@ -1,0 +1,51 @@
+ghost use Rattle.std.specs.Prelude.{◌≡◌, ◌↔◌, map, string_bytes};
+ghost use Rattle.hume_ports.specs.Ports.{names};
+ghost use Rattle.hume_run.specs.Headline.{Headline, IsUsage, RunsFrom};
+ghost use Rattle.hume_run.specs.Owed.{std_out};
+ghost use Rattle.hume_run.specs.Reports.{IsPlaceOf};
+
+use crate::order::Order;
+use crate::run::run_text;
+use crate::source::{SourceError, read_source};
+use crate::status::Status;
+use crate::words::read_words;
+use hume_ports::{Port, find};
+use std::alloc::Global;
+
+/// Does what the words ask for, over the ports, and says how it ended. Of two ports with one name the first is meant.
+pub fn hume(alloc: Global, words: &[String], ports: &mut [Box<dyn Port>]) -> Status
+    ensures usage { (result ≡ Status.Usage) ↔ IsUsage (map string_bytes words.now) (names (map view ports.old)) }
+    ensures idle { result ≡ Status.Usage → map view ports.new ≡ map view ports.old }
+    ensures run { Headline (map string_bytes words.now) (map view ports.old) (map view ports.new) result }
+{
+    let Some(Order::Run { steps, source }) = read_words(words) else {
+        return Status::Usage;
+    };
+    let Some(out) = find(ports, "std_out") else {
+        return Status::Usage;
+    };
+    let name = words[source as usize].as_str();
+    let Some(at) = find(ports, name) else {
+        return Status::Usage;
+    };
+    run_source(alloc, ports, steps, name, at, out)
+}
+
+fn run_source(
+    alloc: Global,
+    ports: &mut [Box<dyn Port>],
+    steps: u32,
+    name: &str,
+    at: usize,
+    out: usize,
+) -> Status
+    requires source { IsPlaceOf name.now (names (map view ports.old)) at }
+    requires out { IsPlaceOf std_out (names (map view ports.old)) out }
+    ensures { RunsFrom steps name.now (map view ports.old) (map view ports.new) result }
+{
+    match read_source(alloc, ports, at) {
+        Ok(text) => run_text(alloc, ports, steps, name.as_bytes(), &text, out),
+        Err(SourceError::Failed) => Status::Fault,
+        Err(SourceError::NoMemory) => Status::NoMemory,
+    }
+}
