@@ -1,0 +1,2 @@
+//! The parser: from the tokens of a source to the one tree that they spell, or to the place where none goes on.
+#![tactic(auto)]
