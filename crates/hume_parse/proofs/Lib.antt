@@ -1,0 +1,4 @@
+pub mod Local
+pub mod Tokens
+pub mod Forms
+pub mod Types

@@ -79,6 +79,14 @@ made f p ks = p ks >>= λ a. Ok (f a.0, a.1)
 abbrev pub choice : {A : Type 0} → (Kind → Bool) → Reader A → Reader A → Reader A
 choice test p q ks = if next test ks then p ks else q ks
 
+-- the first of these ways whose test the next token passes
+abbrev pub alternatives : {A : Type 0} → List ((Kind → Bool) × Reader A) → Reader A
+alternatives [] = fault
+alternatives (way ∷ ways) = choice way.0 way.1 (alternatives ways)
+
+abbrev pub any_token : Kind → Bool
+any_token k = true
+
 abbrev pub picked : {A : Type 0} → Option A → List Kind → List Kind → Result (A × List Kind) ℕ
 picked None all ks = fault all
 picked (Some a) all ks = Ok (a, ks)
@@ -96,7 +104,7 @@ opens (suc room) p ks = p ks
 -- one more as long as the next token passes the test, with a bound on how many
 abbrev pub turns : {A : Type 0} → (Kind → Bool) → Reader A → ℕ → Reader (List A)
 turns test p zero ks = Ok ([], ks)
-turns test p (suc n) ks = if next test ks then (p ks >>= λ a. turns test p n a.1 >>= λ as. Ok (a.0 ∷ as.0, as.1)) else Ok ([], ks)
+turns test p (suc n) ks = if next test ks then (p ks >>= λ a. turns test p n a.1 >>= λ others. Ok (a.0 ∷ others.0, others.1)) else Ok ([], ks)
 
 -- one more as long as the next token passes the test
 unfoldable pub many : {A : Type 0} → (Kind → Bool) → Reader A → Reader (List A)
@@ -118,3 +126,15 @@ number_of _ = None
 abbrev pub port_name : Kind → Option (List ℕ)
 port_name (Quoted name) = Some name
 port_name _ = None
+
+-- a first one and others
+abbrev pub cons : {A : Type 0} → A × List A → List A
+cons items = items.0 ∷ items.1
+
+-- one or more, with the sign between each two
+abbrev pub listed : {A : Type 0} → Symbol → Reader A → Reader (List A)
+listed sign p = made cons (both p (many (is_sign sign) (led (Sign sign) p)))
+
+-- two or more, with the sign between each two
+abbrev pub several : {A : Type 0} → Symbol → Reader A → Reader (List A)
+several sign p = made cons (both (closed p (Sign sign)) (listed sign p))
