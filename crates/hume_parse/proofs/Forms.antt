@@ -232,3 +232,19 @@ leaf_sound spell Fit token a h same f ks x e =
 
 pub leaf_local : {A : Type 0} (token : Kind) (a : A) → Local (led token (give a))
 leaf_local token a = local_led token (give a) (local_give a)
+
+-- where less may follow
+pub ending : {A : Type 0} {spell : A → List Kind} {Fit : A → Type 0} {Ends : List Kind → Type 0} {p : Reader A} → Reads spell Fit Ends p → (Less : List Kind → Type 0) → ((rest : List Kind) → Less rest → Ends rest) → Reads spell Fit Less p
+ending r Less h = record { sound = r.sound; complete = λ a rest f e. r.complete a rest f (h rest e); local = r.local }
+
+-- what stands between signs, with a token at the end
+pub enclosed : {A : Type 0} (spell : A → List Kind) (sign : Symbol) (token : Kind) (x : A) (xs : List A)
+    → separated sign (map spell (x ∷ xs)) ++ token ∷ [] ≡ spell x ++ (flat_map (λ a. Sign sign ∷ spell a) xs ++ token ∷ [])
+enclosed spell sign token x xs = ap (λ m. (spell x ++ m) ++ token ∷ []) (preceded_map spell sign xs) ∙ append_assoc (spell x) (flat_map (λ a. Sign sign ∷ spell a) xs) (token ∷ [])
+
+pub choice_sound : {A : Type 0} (spell : A → List Kind) (Fit : A → Type 0) (test : Kind → Bool) (p q : Reader A) → Sound spell Fit p → Sound spell Fit q → Sound spell Fit (choice test p q)
+choice_sound spell Fit test p q hp hq ks x e =
+    elim (chosen (next test ks) (p ks) (q ks) (Ok x) e) [
+      | inl w ↦ hp ks x w.1
+      | inr w ↦ hq ks x w.1
+    ]

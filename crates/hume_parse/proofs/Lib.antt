@@ -2,3 +2,4 @@ pub mod Local
 pub mod Tokens
 pub mod Forms
 pub mod Types
+pub mod Patterns
