@@ -13,7 +13,8 @@ use Rattle.hume_ast.specs.declared.tree.Exp.TheOpen.{Exp-F}
 use Rattle.hume_ast.specs.Fits.{op_level}
 use Rattle.hume_ast.specs.Depth.{exp_depth}
 use Rattle.hume_parse.specs.Readers.{Reader, ◌>>=◌, fault, next, behind, is_word, is_sign, led, closed, give, both, made, choice, alternatives, any_token, pick, opens, many, turns, listed, number_of, lower_name, upper_name}
-use Rattle.hume_parse.specs.Patterns.{is_upper}
+use Rattle.hume_parse.specs.Types.{types}
+use Rattle.hume_parse.specs.Patterns.{is_upper, patterns}
 
 -- an expression of one token, if the token says all of it
 abbrev pub exp_leaf : Kind → Option (Exp-F Exp)
@@ -211,3 +212,63 @@ exp_ways room pattern child atom or =
     ∷ (is_word word.Raise, raise_exp atom)
     ∷ (any_token, or)
     ∷ []
+
+-- the readers of the levels
+pub record ExpReaders : Type 0 where
+  pub whole : Reader Exp
+  pub conjunction : Reader Exp
+  pub comparison : Reader Exp
+  pub sum : Reader Exp
+  pub term : Reader Exp
+  pub unary : Reader Exp
+  pub app : Reader Exp
+  pub atom : Reader Exp
+
+-- one level of an expression, at each level of the grammar, from the readers of the parts
+abbrev pub atom_layer : ℕ → Reader TyExp → ExpReaders → Reader (Exp-F Exp)
+atom_layer room type below = alternatives (atom_ways room type below.whole)
+
+abbrev pub app_layer : ℕ → Reader TyExp → ExpReaders → Reader (Exp-F Exp)
+app_layer room type below = alternatives (app_ways room type below.whole below.atom)
+
+abbrev pub index_layer : ℕ → Reader TyExp → ExpReaders → Reader (Exp-F Exp)
+index_layer room type below = chain 8 room below.app (app_layer room type below)
+
+abbrev pub unary_layer : ℕ → Reader TyExp → ExpReaders → Reader (Exp-F Exp)
+unary_layer room type below = alternatives (unary_ways room below.unary (index_layer room type below))
+
+abbrev pub term_layer : ℕ → Reader TyExp → ExpReaders → Reader (Exp-F Exp)
+term_layer room type below = chain 6 room below.unary (unary_layer room type below)
+
+abbrev pub sum_layer : ℕ → Reader TyExp → ExpReaders → Reader (Exp-F Exp)
+sum_layer room type below = chain 5 room below.term (term_layer room type below)
+
+abbrev pub comparison_layer : ℕ → Reader TyExp → ExpReaders → Reader (Exp-F Exp)
+comparison_layer room type below = comparison 4 room below.sum (sum_layer room type below)
+
+abbrev pub conjunction_layer : ℕ → Reader TyExp → ExpReaders → Reader (Exp-F Exp)
+conjunction_layer room type below = chain 3 room below.comparison (comparison_layer room type below)
+
+abbrev pub disjunction_layer : ℕ → Reader TyExp → ExpReaders → Reader (Exp-F Exp)
+disjunction_layer room type below = chain 2 room below.conjunction (conjunction_layer room type below)
+
+abbrev pub whole_layer : ℕ → Reader TyExp → Reader Pat → ExpReaders → Reader (Exp-F Exp)
+whole_layer room type pattern below = alternatives (exp_ways room pattern below.whole below.atom (disjunction_layer room type below))
+
+-- expressions at most so deep, whose types and patterns are read by these
+unfoldable pub expressions_with : Reader TyExp → Reader Pat → ℕ → ExpReaders
+expressions_with type pattern zero = record { whole = fault; conjunction = fault; comparison = fault; sum = fault; term = fault; unary = fault; app = fault; atom = fault }
+expressions_with type pattern (suc room) = let below = expressions_with type pattern room in record {
+  whole = made roll-Exp (whole_layer room type pattern below);
+  conjunction = made roll-Exp (conjunction_layer room type below);
+  comparison = made roll-Exp (comparison_layer room type below);
+  sum = made roll-Exp (sum_layer room type below);
+  term = made roll-Exp (term_layer room type below);
+  unary = made roll-Exp (unary_layer room type below);
+  app = made roll-Exp (app_layer room type below);
+  atom = made roll-Exp (atom_layer room type below);
+}
+
+-- expressions at most so deep, and types and patterns in them at most as deep as the first number says
+abbrev pub expressions : ℕ → ℕ → ExpReaders
+expressions bound room = expressions_with (types bound) (patterns bound).whole room
