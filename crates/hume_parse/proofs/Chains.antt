@@ -54,7 +54,7 @@ module _ (bound room l lo : ℕ) (child : Reader Exp) (reads : Reads spelled_exp
   )
 
   -- what an operand gives, sound
-  operand_sound : (start ks : List Kind) (x : Exp-F Exp) (y : Exp-F Exp × List Kind) → LayerFit bound room lo x → start ≡ exp_spell x ++ ks → one_operand l room child x ks ≡ Ok y → LayerFit bound room l y.0 × (start ≡ exp_spell y.0 ++ y.1)
+  pub operand_sound : (start ks : List Kind) (x : Exp-F Exp) (y : Exp-F Exp × List Kind) → LayerFit bound room lo x → start ≡ exp_spell x ++ ks → one_operand l room child x ks ≡ Ok y → LayerFit bound room l y.0 × (start ≡ exp_spell y.0 ++ y.1)
   operand_sound start ks x y f h e =
       let p = operand_at (next_operator l ks) x ks y refl e in
       subst (λ z. LayerFit bound room l z × (start ≡ exp_spell z ++ y.1)) (sym p.2) (
@@ -63,7 +63,7 @@ module _ (bound room l lo : ℕ) (child : Reader Exp) (reads : Reads spelled_exp
       )
 
   -- an operand, over what is spelled
-  operand_complete : (o : BinOp) (x : Exp-F Exp) (right : Exp) (rest : List Kind) → op_level o ≡ l → exp_depth (roll-Exp x) ≤ room → ExpFits bound room (suc l) right → Stops (suc l) rest
+  pub operand_complete : (o : BinOp) (x : Exp-F Exp) (right : Exp) (rest : List Kind) → op_level o ≡ l → exp_depth (roll-Exp x) ≤ room → ExpFits bound room (suc l) right → Stops (suc l) rest
       → one_operand l room child x (operator_token o ∷ (spelled_exp right ++ rest)) ≡ Ok (Exp-F.Binary o (roll-Exp x) right, rest)
   operand_complete o x right rest e d f s = rw (is_next l o (spelled_exp right ++ rest) e, le-leb (exp_depth (roll-Exp x)) room d, reads.complete right rest f s)
 

@@ -7,9 +7,9 @@ use Rattle.std.proofs.lemmas.Bool.{cases_Bool}
 use Rattle.hume_base.specs.declared.token.Kind.{Kind}
 use Rattle.hume_base.specs.declared.token.Kind.TheVariants.{Sign}
 use Rattle.hume_base.specs.declared.symbol.Symbol.{Symbol}
-use Rattle.hume_ast.specs.Fits.{Each, OneOrMore}
+use Rattle.hume_ast.specs.Fits.{Each, OneOrMore, IfThere}
 use Rattle.hume_ast.specs.Spelling.{preceded, separated, beside}
-use Rattle.hume_parse.specs.Readers.{Reader, ◌>>=◌, fault, next, behind, is_token, after, led, closed, give, both, made, choice, alternatives, picked, pick, opens, turns, many, cons, listed, several, is_sign}
+use Rattle.hume_parse.specs.Readers.{Reader, ◌>>=◌, fault, next, behind, is_token, after, led, closed, give, both, made, choice, alternatives, picked, pick, opens, turns, many, cons, listed, several, maybe, is_sign}
 use Rattle.hume_parse.proofs.Local.{Local, Splits, bind_ok, chosen, local_fault, local_led, local_closed, local_give, local_both, local_made, local_choice, local_opens, local_pick, local_many, many_stop, many_turn}
 use Rattle.hume_parse.proofs.Tokens.{IsFixed, after_ok, after_is, same_symbol-refl}
 
@@ -248,3 +248,28 @@ choice_sound spell Fit test p q hp hq ks x e =
       | inl w ↦ hp ks x w.1
       | inr w ↦ hq ks x w.1
     ]
+
+-- spelled in another way
+pub respelled : {A : Type 0} {spell : A → List Kind} {Fit : A → Type 0} {Ends : List Kind → Type 0} {p : Reader A} → Reads spell Fit Ends p → (other : A → List Kind) → ((a : A) → other a ≡ spell a) → Reads other Fit Ends p
+respelled {p = p} r other same = record {
+  sound = λ ks x e. (let s = r.sound ks x e in (s.0, s.1 ∙ ap (λ m. m ++ x.1) (sym (same x.0))));
+  complete = λ a rest f e. ap (λ m. p (m ++ rest)) (same a) ∙ r.complete a rest f e;
+  local = r.local;
+}
+
+abbrev pub maybe_spell : {A : Type 0} → (A → List Kind) → Option A → List Kind
+maybe_spell spell None = []
+maybe_spell spell (Some a) = spell a
+
+module _ {A : Type 0} {spell : A → List Kind} {Fit : A → Type 0} {Ends : List Kind → Type 0} {p : Reader A} (reads : Reads spell Fit Ends p) (test : Kind → Bool) (begins : (a : A) (rest : List Kind) → Fit a → next test (spell a ++ rest) ≡ true) where
+  maybe_sound : Sound (maybe_spell spell) (IfThere Fit) (maybe test p)
+  maybe_sound = choice_sound (maybe_spell spell) (IfThere Fit) test (made Some p) (give None)
+      (made_sound reads Some (maybe_spell spell) (IfThere Fit) (λ a f. f) (λ a f. refl))
+      (λ ks x e. along (maybe_spell spell) (IfThere Fit) ks (None, ks) x (cc) (tt, refl))
+
+  maybe_complete : (o : Option A) (rest : List Kind) → IfThere Fit o → (next test rest ≡ false) × Ends rest → maybe test p (maybe_spell spell o ++ rest) ≡ Ok (o, rest)
+  maybe_complete None rest f e = rw e.0
+  maybe_complete (Some a) rest f e = rw (begins a rest f, reads.complete a rest f e.1)
+
+  pub maybe_reads : Reads (maybe_spell spell) (IfThere Fit) (λ rest. (next test rest ≡ false) × Ends rest) (maybe test p)
+  maybe_reads = record { sound = maybe_sound; complete = maybe_complete; local = local_choice test (made Some p) (give None) (local_made Some p reads.local) (local_give None) }

@@ -6,3 +6,4 @@ pub mod Patterns
 pub mod Levels
 pub mod Chains
 pub mod Atoms
+pub mod Expressions

@@ -12,7 +12,7 @@ use Rattle.hume_ast.specs.declared.tree.Exp.{Exp, roll-Exp}
 use Rattle.hume_ast.specs.declared.tree.Exp.TheOpen.{Exp-F}
 use Rattle.hume_ast.specs.Fits.{op_level}
 use Rattle.hume_ast.specs.Depth.{exp_depth}
-use Rattle.hume_parse.specs.Readers.{Reader, ◌>>=◌, fault, next, behind, is_word, is_sign, led, closed, give, both, made, choice, alternatives, any_token, pick, opens, many, turns, listed, number_of, lower_name, upper_name}
+use Rattle.hume_parse.specs.Readers.{Reader, ◌>>=◌, fault, next, behind, is_word, is_sign, led, closed, give, both, made, choice, alternatives, any_token, pick, opens, many, listed, maybe, number_of, lower_name, upper_name}
 use Rattle.hume_parse.specs.Types.{types}
 use Rattle.hume_parse.specs.Patterns.{is_upper, patterns}
 
@@ -196,10 +196,6 @@ case_exp pattern child = made case_of (led (Word word.Case) (both (closed child 
 
 abbrev pub raise_of : List ℕ × Option Exp → Exp-F Exp
 raise_of parts = Exp-F.Raise parts.0 parts.1
-
--- what may be there, by the next token
-abbrev pub maybe : {A : Type 0} → (Kind → Bool) → Reader A → Reader (Option A)
-maybe test p = choice test (made Some p) (give None)
 
 abbrev pub raise_exp : Reader Exp → Reader (Exp-F Exp)
 raise_exp atom = made raise_of (led (Word word.Raise) (both (pick upper_name) (maybe starts_atom atom)))

@@ -138,3 +138,7 @@ listed sign p = made cons (both p (many (is_sign sign) (led (Sign sign) p)))
 -- two or more, with the sign between each two
 abbrev pub several : {A : Type 0} → Symbol → Reader A → Reader (List A)
 several sign p = made cons (both (closed p (Sign sign)) (listed sign p))
+
+-- what may be there, by the next token
+abbrev pub maybe : {A : Type 0} → (Kind → Bool) → Reader A → Reader (Option A)
+maybe test p = choice test (made Some p) (give None)
