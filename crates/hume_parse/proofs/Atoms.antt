@@ -15,8 +15,8 @@ use Rattle.hume_parse.specs.Readers.{Reader, fault, led, give, made, both, close
 use Rattle.hume_parse.specs.Patterns.{is_upper}
 use Rattle.hume_parse.specs.Expressions.{exp_leaf, starts_atom, is_lower, Tail, cast_tail, parts_tail, exp_in_parens, tail_ways, parens_exp, vect_exp, atom_ways, app_of, con_exp_of, app_exp, con_exp, update_of, update_exp, app_ways}
 use Rattle.hume_parse.proofs.Local.{Local, local_made, local_opens, local_pick}
-use Rattle.hume_parse.proofs.Tokens.{some_same}
-use Rattle.hume_parse.proofs.Types.{upper_reads, lower_reads}
+use Rattle.hume_parse.proofs.TokensApart.{some_same}
+use Rattle.hume_parse.proofs.TypesRead.{upper_reads, lower_reads}
 use Rattle.hume_parse.proofs.Forms.{Reads, Anything, Sound, led_reads, closed_reads, both_reads, many_reads, listed_reads, made_reads, made_sound, made_complete, opens_sound, opened, leaf_sound, leaf_local, ending, enclosed, beside_map, alternatives_sound, alternatives_local, choice_sound}
 use Rattle.hume_parse.proofs.Levels.{LayerFit, exp_spell, exp_spelled, Stops, stops_above, all_stop, no_atom_next, opens_at, atom_next, op_low}
 

@@ -11,7 +11,7 @@ use Rattle.hume_ast.specs.Fits.{Each, OneOrMore, IfThere}
 use Rattle.hume_ast.specs.Spelling.{preceded, separated, beside}
 use Rattle.hume_parse.specs.Readers.{Reader, ◌>>=◌, fault, next, behind, is_token, after, led, closed, give, both, made, choice, alternatives, picked, pick, opens, turns, many, cons, listed, several, maybe, is_sign}
 use Rattle.hume_parse.proofs.Local.{Local, Splits, bind_ok, chosen, local_fault, local_led, local_closed, local_give, local_both, local_made, local_choice, local_opens, local_pick, local_many, many_stop, many_turn}
-use Rattle.hume_parse.proofs.Tokens.{IsFixed, after_ok, after_is, same_symbol-refl}
+use Rattle.hume_parse.proofs.TokensApart.{IsFixed, after_ok, after_is, same_symbol-refl}
 
 -- The reader gives the fit thing that is spelled at the front, wherever what follows ends it.
 pub record Reads {A : Type 0} (spell : A → List Kind) (Fit : A → Type 0) (Ends : List Kind → Type 0) (p : Reader A) : Type 0 where

@@ -16,7 +16,7 @@ use Rattle.hume_ast.specs.Spelling.{spell_exp, spelled_exp, operator_token}
 use Rattle.hume_ast.specs.Fits.{Each, ExpFits, ExpParts, TypeFits, PatFits, exp_level, op_level, left_level, NoNumberFirst}
 use Rattle.hume_parse.specs.Readers.{next, is_token, is_sign, is_word}
 use Rattle.hume_parse.specs.Expressions.{starts_atom, operator_of, if_level, operator_at, next_operator}
-use Rattle.hume_parse.proofs.Tokens.{some_same, is_token-true}
+use Rattle.hume_parse.proofs.TokensApart.{some_same, is_token-true}
 
 pub operator_is : (k : Kind) (o : BinOp) → operator_of k ≡ Some o → k ≡ operator_token o
 operator_is (Word word.Or) o e = ap operator_token (some_same op.Or o e)

@@ -1,9 +1,11 @@
 pub mod Local
-pub mod Tokens
+pub mod TokensApart
 pub mod Forms
-pub mod Types
-pub mod Patterns
+pub mod TypesRead
+pub mod PatternsRead
 pub mod Levels
 pub mod Chains
 pub mod Atoms
-pub mod Expressions
+pub mod ExpressionsRead
+pub mod Loops
+pub mod TypeSteps

@@ -1,4 +1,6 @@
+pub mod Gives
 pub mod Readers
 pub mod Types
 pub mod Patterns
 pub mod Expressions
+pub mod Declarations

@@ -1,2 +1,6 @@
 //! The parser: from the tokens of a source to the one tree that they spell, or to the place where none goes on.
 #![tactic(auto)]
+
+mod fault;
+mod tokens;
+mod types;

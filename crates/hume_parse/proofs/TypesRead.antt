@@ -12,7 +12,7 @@ use Rattle.hume_ast.specs.Fits.{Each, TypeFits, TypeParts}
 use Rattle.hume_parse.specs.Readers.{Reader, fault, led, give, made, both, closed, several, alternatives, pick, opens, number_of, upper_name, lower_name, port_name}
 use Rattle.hume_parse.specs.Types.{vector_of, vector_type, tuple_type, type_ways, types}
 use Rattle.hume_parse.proofs.Local.{Local, local_made, local_opens, local_fault, local_give, local_led}
-use Rattle.hume_parse.proofs.Tokens.{some_same, IsFixed}
+use Rattle.hume_parse.proofs.TokensApart.{some_same, IsFixed}
 use Rattle.hume_parse.proofs.Forms.{Reads, Anything, All, Sound, pick_reads, give_reads, led_reads, closed_reads, both_reads, made_reads, made_sound, made_complete, opens_sound, opened, leaf_sound, leaf_local, several_reads, alternatives_sound, alternatives_local}
 
 number_is : (k : Kind) (n : ℕ) → number_of k ≡ Some n → (k ≡ Number n) × Unit {0}

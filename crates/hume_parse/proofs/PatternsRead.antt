@@ -13,8 +13,8 @@ use Rattle.hume_ast.specs.Fits.{Each, PatFits, PatParts, pat_level}
 use Rattle.hume_parse.specs.Readers.{Reader, fault, led, give, made, both, closed, many, alternatives, pick, opens, next, is_sign, number_of, upper_name}
 use Rattle.hume_parse.specs.Patterns.{pat_leaf, starts_pat, is_upper, pat_in_parens, parens_pat, pat_ways, con_of, con_pat, PatReaders, whole_ways, patterns, input_ways, input_pattern}
 use Rattle.hume_parse.proofs.Local.{Local, local_made, local_opens, local_fault, local_give, local_led, local_pick}
-use Rattle.hume_parse.proofs.Tokens.{some_same, IsFixed}
-use Rattle.hume_parse.proofs.Types.{number_reads, upper_reads}
+use Rattle.hume_parse.proofs.TokensApart.{some_same, IsFixed}
+use Rattle.hume_parse.proofs.TypesRead.{number_reads, upper_reads}
 use Rattle.hume_parse.proofs.Forms.{Reads, Anything, All, Sound, pick_reads, give_reads, led_reads, closed_reads, both_reads, many_reads, made_reads, made_sound, made_complete, opens_sound, opened, leaf_sound, leaf_local, ending, enclosed, beside_map, alternatives_sound, alternatives_local, choice_sound}
 
 -- a pattern's tokens, seen at its first level

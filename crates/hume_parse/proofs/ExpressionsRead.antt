@@ -22,9 +22,9 @@ use Rattle.hume_parse.specs.Types.{types}
 use Rattle.hume_parse.specs.Patterns.{patterns}
 use Rattle.hume_parse.specs.Expressions.{starts_atom, is_number, minus_ways, unary_ways, next_operator, one_operand, comparison, let_of, let_exp, if_of, if_exp, case_of, case_exp, alternative, raise_of, raise_exp, exp_ways, ExpReaders, atom_layer, app_layer, index_layer, unary_layer, term_layer, sum_layer, comparison_layer, conjunction_layer, disjunction_layer, whole_layer, expressions_with, expressions}
 use Rattle.hume_parse.proofs.Local.{Local, Splits, bind_ok, chosen, local_made, local_opens, local_led, local_bind, local_choice, local_give, local_fault, local_as, splits_as, give_empty, local_as_empty}
-use Rattle.hume_parse.proofs.Tokens.{after_ok}
-use Rattle.hume_parse.proofs.Types.{number_reads, upper_reads, lower_reads, types_read}
-use Rattle.hume_parse.proofs.Patterns.{PatEnds, patterns_read}
+use Rattle.hume_parse.proofs.TokensApart.{after_ok}
+use Rattle.hume_parse.proofs.TypesRead.{number_reads, upper_reads, lower_reads, types_read}
+use Rattle.hume_parse.proofs.PatternsRead.{PatEnds, patterns_read}
 use Rattle.hume_parse.proofs.Forms.{Reads, Anything, Sound, along, led_reads, closed_reads, both_reads, listed_reads, maybe_reads, maybe_spell, made_reads, made_sound, made_complete, opens_sound, opened, choice_sound, alternatives_sound, respelled, ending, alternatives_local}
 use Rattle.hume_parse.proofs.Levels.{LayerFit, exp_spell, exp_spelled, spelled_out, Stops, stops_above, all_stop, no_atom_next, opens_at, layer_opens, opening, atom_next, not_next, op_low, op_high, is_next, operator_stops, no_operator}
 use Rattle.hume_parse.proofs.Atoms.{atom_reads, app_layer_reads, has_room}
