@@ -9,3 +9,4 @@ pub mod Atoms
 pub mod ExpressionsRead
 pub mod Loops
 pub mod TypeSteps
+pub mod PatternSteps

@@ -15,7 +15,7 @@ use Rattle.hume_parse.specs.Patterns.{pat_leaf, starts_pat, is_upper, pat_in_par
 use Rattle.hume_parse.proofs.Local.{Local, local_made, local_opens, local_fault, local_give, local_led, local_pick}
 use Rattle.hume_parse.proofs.TokensApart.{some_same, IsFixed}
 use Rattle.hume_parse.proofs.TypesRead.{number_reads, upper_reads}
-use Rattle.hume_parse.proofs.Forms.{Reads, Anything, All, Sound, pick_reads, give_reads, led_reads, closed_reads, both_reads, many_reads, made_reads, made_sound, made_complete, opens_sound, opened, leaf_sound, leaf_local, ending, enclosed, beside_map, alternatives_sound, alternatives_local, choice_sound}
+use Rattle.hume_parse.proofs.Forms.{Reads, Anything, All, Sound, pick_reads, give_reads, led_reads, closed_reads, both_reads, many_reads, made_reads, made_sound, made_complete, opens_sound, opened, leaf_sound, leaf_local, ending, enclosed, beside_map, alternatives_sound, alternatives_local, choice_sound, shrinks}
 
 -- a pattern's tokens, seen at its first level
 abbrev pat_spell : Pat-F Pat → List Kind
@@ -259,3 +259,6 @@ module _ (room : ℕ) where
 pub inputs_read : (room : ℕ) → Reads spelled_pat (PatFits room 0) PatEnds (input_pattern room)
 inputs_read zero = nothing 0 PatEnds
 inputs_read (suc room) = input_now room
+
+pub atoms_shrink : (room : ℕ) (ks : List Kind) (x : Pat × List Kind) → (patterns room).atom ks ≡ Ok x → length x.1 < length ks
+atoms_shrink room = shrinks (patterns_read room).atom starts_pat (λ p rest f. first_pat room p rest f) (λ p rest f. tt)

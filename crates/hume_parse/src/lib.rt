@@ -4,3 +4,4 @@
 mod fault;
 mod tokens;
 mod types;
+mod patterns;
