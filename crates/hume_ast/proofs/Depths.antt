@@ -1,11 +1,11 @@
 -- An expression fits exactly the depths that are not less than its own.
-use Rattle.std.proofs.Common.{◌≡◌, ℕ, zero, suc, ◌+◌, ◌<◌, ◌≤◌, max, List, [], ◌∷◌, map, length, Bool, true, false, refl, sym, ap, ◌∙◌, subst, arith}
-use Rattle.std.specs.Prelude.{Option, Some, None}
+use Rattle.std.proofs.Common.{◌≡◌, ℕ, zero, suc, ◌≤◌, List, [], ◌∷◌, map, sym, ap, ◌∙◌, arith}
+use Rattle.std.specs.Prelude.{Some, None}
 use Rattle.hume_ast.specs.declared.tree.TyExp.{TyExp}
 use Rattle.hume_ast.specs.declared.tree.Pat.{Pat}
-use Rattle.hume_ast.specs.declared.tree.Exp.{Exp, roll-Exp, out-Exp, map-Exp, fold-roll-Exp, roll-out-Exp}
+use Rattle.hume_ast.specs.declared.tree.Exp.{Exp, out-Exp, map-Exp, fold-roll-Exp, roll-out-Exp}
 use Rattle.hume_ast.specs.declared.tree.Exp.TheOpen.{Exp-F}
-use Rattle.hume_ast.specs.Fits.{Each, TypeFits, PatFits, ExpFits, ExpParts, exp_level}
+use Rattle.hume_ast.specs.Fits.{Each, TypeFits, PatFits, ExpFits, ExpParts}
 use Rattle.hume_ast.specs.Depth.{deepest, deepest_alternative, depth_step, exp_depth}
 
 pub depth_out : (e : Exp) → exp_depth e ≡ depth_step (map-Exp Exp ℕ exp_depth (out-Exp e))

@@ -1,5 +1,5 @@
 -- How deep an expression is.
-use Rattle.std.specs.Prelude.{ℕ, ◌+◌, max, List, [], ◌∷◌, Option, Some, None}
+use Rattle.std.specs.Prelude.{ℕ, ◌+◌, max, List, [], ◌∷◌, Some, None}
 use Rattle.hume_ast.specs.declared.tree.Pat.{Pat}
 use Rattle.hume_ast.specs.declared.tree.Exp.{Exp, fold-Exp}
 use Rattle.hume_ast.specs.declared.tree.Exp.TheOpen.{Exp-F}

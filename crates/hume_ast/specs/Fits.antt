@@ -1,14 +1,14 @@
 -- Which trees the grammar has: where each part stands without further parentheses, and how deep it may go.
-use Rattle.std.specs.Prelude.{◌≡◌, ℕ, zero, suc, ◌+◌, ◌≤◌, max, List, [], ◌∷◌, map, length, Bool, true, false, Option, Some, None}
+use Rattle.std.specs.Prelude.{ℕ, zero, suc, ◌+◌, ◌≤◌, List, [], ◌∷◌, length, true, false, Option, Some, None}
 use Rattle.hume_base.specs.declared.token.Kind.{Kind}
 use Rattle.hume_base.specs.declared.token.Kind.TheVariants.{Number}
-use Rattle.hume_ast.specs.declared.tree.TyExp.{TyExp, out-TyExp, fold-TyExp}
+use Rattle.hume_ast.specs.declared.tree.TyExp.{TyExp, out-TyExp}
 use Rattle.hume_ast.specs.declared.tree.TyExp.TheOpen.{TyExp-F}
-use Rattle.hume_ast.specs.declared.tree.Pat.{Pat, out-Pat, fold-Pat}
+use Rattle.hume_ast.specs.declared.tree.Pat.{Pat, out-Pat}
 use Rattle.hume_ast.specs.declared.tree.Pat.TheOpen.{Pat-F}
 use Rattle.hume_ast.specs.declared.tree.BinOp.{BinOp}
 use Rattle.hume_ast.specs.declared.tree.BinOp.TheVariants as op
-use Rattle.hume_ast.specs.declared.tree.Exp.{Exp, out-Exp, fold-Exp}
+use Rattle.hume_ast.specs.declared.tree.Exp.{Exp, out-Exp}
 use Rattle.hume_ast.specs.declared.tree.Exp.TheOpen.{Exp-F}
 use Rattle.hume_ast.specs.declared.tree.Decl.{Decl}
 use Rattle.hume_ast.specs.declared.tree.Decl.TheVariants.{Sum, Exn, Fun, BoxD, Stream, Wire}

@@ -2,6 +2,8 @@
 //! and `specs/Fits.antt` which trees the grammar has.
 #![tactic(auto)]
 
+mod laws;
 mod tree;
 
+pub use laws::depth_decides;
 pub use tree::{BinOp, Decl, Exp, Pat, Program, TyExp};

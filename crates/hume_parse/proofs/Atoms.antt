@@ -64,13 +64,21 @@ module _ (bound room : ℕ) (type : Reader TyExp) (child atom : Reader Exp) (typ
   tail_reads : Reads tail_spell TailFit Anything (alternatives (tail_ways type child))
   unfolding tail_spell TailFit
   tail_reads = record {
-    sound = alternatives_sound tail_spell TailFit (tail_ways type child) (made_sound cast_reads cast_tail tail_spell TailFit (λ t f. f) (λ t f. refl),
-        (made_sound parts_read parts_tail tail_spell TailFit (λ es f. f) (λ es f. refl),
-        tt));
+    sound = alternatives_sound tail_spell TailFit (tail_ways type child) (
+      made_sound cast_reads cast_tail tail_spell TailFit (λ t f. f) (λ t f. refl),
+      (
+        made_sound parts_read parts_tail tail_spell TailFit (λ es f. f) (λ es f. refl),
+        tt,
+      ),
+    );
     complete = tail_complete;
-    local = alternatives_local (tail_ways type child) (local_made cast_tail _ cast_reads.local,
-        (local_made parts_tail _ parts_read.local,
-        tt));
+    local = alternatives_local (tail_ways type child) (
+      local_made cast_tail _ cast_reads.local,
+      (
+        local_made parts_tail _ parts_read.local,
+        tt,
+      ),
+    );
   }
 
   tail_stops : (t : Tail) (rest : List Kind) → TailFit t → Unit {0} → Stops 1 (tail_spell t ++ rest)
@@ -113,20 +121,40 @@ module _ (bound room : ℕ) (type : Reader TyExp) (child atom : Reader Exp) (typ
   leaf_pick (k ∷ ks) x e = leaf_by (exp_leaf k) k ks x refl e
 
   atom_sound : Sound exp_spell Atomic (alternatives (atom_ways room type child))
-  atom_sound = alternatives_sound exp_spell Atomic (atom_ways room type child) (leaf_sound exp_spell Atomic (Word word.True) (Exp-F.Truth true) tt refl (omega arith, tt),
-      (leaf_sound exp_spell Atomic (Word word.False) (Exp-F.Truth false) tt refl (omega arith, tt),
-      (opens_sound exp_spell Atomic (parens_exp type child) room (made_sound parens_reads exp_in_parens exp_spell Atomic parens_fit (λ a f. parens_same a)),
-      (opens_sound exp_spell Atomic (vect_exp child) room (made_sound vect_reads Exp-F.Vect exp_spell Atomic (λ es f. (omega arith, f)) (λ es f. refl)),
-      (leaf_pick,
-      tt)))))
+  atom_sound = alternatives_sound exp_spell Atomic (atom_ways room type child) (
+    leaf_sound exp_spell Atomic (Word word.True) (Exp-F.Truth true) tt refl (omega arith, tt),
+    (
+      leaf_sound exp_spell Atomic (Word word.False) (Exp-F.Truth false) tt refl (omega arith, tt),
+      (
+        opens_sound exp_spell Atomic (parens_exp type child) room (made_sound parens_reads exp_in_parens exp_spell Atomic parens_fit (λ a f. parens_same a)),
+        (
+          opens_sound exp_spell Atomic (vect_exp child) room (made_sound vect_reads Exp-F.Vect exp_spell Atomic (λ es f. (omega arith, f)) (λ es f. refl)),
+          (
+            leaf_pick,
+            tt,
+          ),
+        ),
+      ),
+    ),
+  )
 
   atom_local : Each (λ (way : (Kind → Bool) × Reader (Exp-F Exp)). Local way.1) (atom_ways room type child)
-  atom_local = (leaf_local (Word word.True) (Exp-F.Truth true),
-      (leaf_local (Word word.False) (Exp-F.Truth false),
-      (local_opens room (parens_exp type child) (local_made exp_in_parens _ parens_reads.local),
-      (local_opens room (vect_exp child) (local_made Exp-F.Vect _ vect_reads.local),
-      (local_pick exp_leaf,
-      tt)))))
+  atom_local = (
+    leaf_local (Word word.True) (Exp-F.Truth true),
+    (
+      leaf_local (Word word.False) (Exp-F.Truth false),
+      (
+        local_opens room (parens_exp type child) (local_made exp_in_parens _ parens_reads.local),
+        (
+          local_opens room (vect_exp child) (local_made Exp-F.Vect _ vect_reads.local),
+          (
+            local_pick exp_leaf,
+            tt,
+          ),
+        ),
+      ),
+    ),
+  )
 
   paren_complete : (a : Exp × Tail) (rest : List Kind) → ExpFits bound room 1 a.0 × TailFit a.1 → alternatives (atom_ways room type child) (exp_spell (exp_in_parens a) ++ rest) ≡ Ok (exp_in_parens a, rest)
   paren_complete a rest f = ap (λ m. alternatives (atom_ways room type child) (m ++ rest)) (parens_same a) ∙ opened room (parens_exp type child) _ (has_room bound room 1 a.0 f.0) ∙ made_complete parens_reads exp_in_parens a rest f tt
@@ -228,9 +256,17 @@ module _ (bound room : ℕ) (type : Reader TyExp) (child atom : Reader Exp) (typ
   app_layer_reads = record {
     sound = app_sound;
     complete = app_complete;
-    local = alternatives_local (app_ways room type child atom) (local_made app_of _ app_reads.local,
-        (local_made con_exp_of _ con_reads.local,
-        (local_opens room (update_exp atom) (local_made update_of _ update_reads.local),
-        (leaf_local (Sign symbol.Star) Exp-F.Star,
-        atom_local))));
+    local = alternatives_local (app_ways room type child atom) (
+      local_made app_of _ app_reads.local,
+      (
+        local_made con_exp_of _ con_reads.local,
+        (
+          local_opens room (update_exp atom) (local_made update_of _ update_reads.local),
+          (
+            leaf_local (Sign symbol.Star) Exp-F.Star,
+            atom_local,
+          ),
+        ),
+      ),
+    );
   }

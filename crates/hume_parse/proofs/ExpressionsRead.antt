@@ -136,10 +136,16 @@ module _ (bound room : ℕ) (child : Reader Exp) (index : Reader (Exp-F Exp)) (r
   unary_reads = record {
     sound = unary_sound;
     complete = unary_complete;
-    local = alternatives_local (unary_ways room child index) (local_led (Sign symbol.Minus) minuses minus_local,
-        (local_opens room (made Exp-F.Not (led (Word word.Not) child)) (local_made Exp-F.Not _ not_reads.local),
-        (indices.local,
-        tt)));
+    local = alternatives_local (unary_ways room child index) (
+      local_led (Sign symbol.Minus) minuses minus_local,
+      (
+        local_opens room (made Exp-F.Not (led (Word word.Not) child)) (local_made Exp-F.Not _ not_reads.local),
+        (
+          indices.local,
+          tt,
+        ),
+      ),
+    );
   }
 
 compares : (o : BinOp) → op_level o ≡ 4 → left_level o ≡ 5
@@ -279,12 +285,22 @@ module _ (bound room : ℕ) (pattern : Reader Pat) (child atom : Reader Exp) (or
   raise_same (x, Some e) = refl
 
   whole_sound : Sound exp_spell Whole (alternatives (exp_ways room pattern child atom or))
-  whole_sound = alternatives_sound exp_spell Whole (exp_ways room pattern child atom or) (opens_sound exp_spell Whole (let_exp child) room (made_sound let_reads let_of exp_spell Whole (λ a f. (omega arith, f.1)) (λ a f. let_same a)),
-      (opens_sound exp_spell Whole (if_exp child) room (made_sound if_reads if_of exp_spell Whole (λ a f. (omega arith, (f.0, f.1.0, f.1.1))) (λ a f. if_same a)),
-      (opens_sound exp_spell Whole (case_exp pattern child) room (made_sound case_reads case_of exp_spell Whole (λ a f. (omega arith, (f.0, f.1.0, f.1.1))) (λ a f. case_same a)),
-      (made_sound raise_reads raise_of exp_spell Whole raise_fit (λ a f. raise_same a),
-      (λ ks x e. (let s = ors.sound ks x e in ((omega (arith, s.0.0), s.0.1), s.1)),
-      tt)))))
+  whole_sound = alternatives_sound exp_spell Whole (exp_ways room pattern child atom or) (
+    opens_sound exp_spell Whole (let_exp child) room (made_sound let_reads let_of exp_spell Whole (λ a f. (omega arith, f.1)) (λ a f. let_same a)),
+    (
+      opens_sound exp_spell Whole (if_exp child) room (made_sound if_reads if_of exp_spell Whole (λ a f. (omega arith, (f.0, f.1.0, f.1.1))) (λ a f. if_same a)),
+      (
+        opens_sound exp_spell Whole (case_exp pattern child) room (made_sound case_reads case_of exp_spell Whole (λ a f. (omega arith, (f.0, f.1.0, f.1.1))) (λ a f. case_same a)),
+        (
+          made_sound raise_reads raise_of exp_spell Whole raise_fit (λ a f. raise_same a),
+          (
+            λ ks x e. (let s = ors.sound ks x e in ((omega (arith, s.0.0), s.0.1), s.1)),
+            tt,
+          ),
+        ),
+      ),
+    ),
+  )
 
   some_or : (ks ls : List Kind) → 1 ≤ opening ks → choice (λ k. true) or fault (ks ++ ls) ≡ or (ks ++ ls)
   some_or [] ls h = absurd (omega arith)
@@ -335,12 +351,22 @@ module _ (bound room : ℕ) (pattern : Reader Pat) (child atom : Reader Exp) (or
   whole_reads = record {
     sound = whole_sound;
     complete = whole_complete;
-    local = alternatives_local (exp_ways room pattern child atom or) (local_opens room (let_exp child) (local_made let_of _ let_reads.local),
-        (local_opens room (if_exp child) (local_made if_of _ if_reads.local),
-        (local_opens room (case_exp pattern child) (local_made case_of _ case_reads.local),
-        (local_made raise_of _ raise_reads.local,
-        (ors.local,
-        tt)))));
+    local = alternatives_local (exp_ways room pattern child atom or) (
+      local_opens room (let_exp child) (local_made let_of _ let_reads.local),
+      (
+        local_opens room (if_exp child) (local_made if_of _ if_reads.local),
+        (
+          local_opens room (case_exp pattern child) (local_made case_of _ case_reads.local),
+          (
+            local_made raise_of _ raise_reads.local,
+            (
+              ors.local,
+              tt,
+            ),
+          ),
+        ),
+      ),
+    );
   }
 
 -- a level is read, once one level of it is

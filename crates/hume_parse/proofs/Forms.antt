@@ -208,21 +208,22 @@ module _ {A : Type 0} {spell : A → List Kind} {Fit : A → Type 0} {Ends : Lis
   pub listed_reads : Reads (λ xs. separated sign (map spell xs)) (OneOrMore Fit) EndsList (listed sign p)
   listed_reads = made_reads (both_reads reads others_read follow_first) cons (λ xs. separated sign (map spell xs)) (OneOrMore Fit)
       (λ a f. (omega arith, f)) (λ a f. ap (λ m. spell a.0 ++ m) (preceded_map spell sign a.1)) unlisted where
-    unlisted : (xs : List A) → OneOrMore Fit xs → (a : A × List A) × (cons a ≡ xs) × (Fit a.0 × Each Fit a.1)
-    unlisted [] f = absurd (omega (arith, f.0))
-    unlisted (x ∷ xs) f = ((x, xs), refl, f.1)
+        unlisted : (xs : List A) → OneOrMore Fit xs → (a : A × List A) × (cons a ≡ xs) × (Fit a.0 × Each Fit a.1)
+        unlisted [] f = absurd (omega (arith, f.0))
+        unlisted (x ∷ xs) f = ((x, xs), refl, f.1)
 
 module _ {A : Type 0} {spell : A → List Kind} {Fit : A → Type 0} {Ends : List Kind → Type 0} {p : Reader A} (reads : Reads spell Fit Ends p) (sign : Symbol) (stops : (rest : List Kind) → Ends (Sign sign ∷ rest)) where
   pub several_reads : Reads (λ xs. separated sign (map spell xs)) (λ xs. (2 ≤ length xs) × Each Fit xs) (EndsList reads sign stops) (several sign p)
   several_reads = made_reads (both_reads (closed_reads reads (Sign sign) tt stops) (listed_reads reads sign stops) (λ b rest f e. tt)) cons (λ xs. separated sign (map spell xs)) (λ xs. (2 ≤ length xs) × Each Fit xs)
       (λ a f. (omega (arith, f.1.0), (f.0, f.1.1))) same unlisted where
-    same : (a : A × List A) → Fit a.0 × OneOrMore Fit a.1 → separated sign (map spell (cons a)) ≡ (spell a.0 ++ Sign sign ∷ []) ++ separated sign (map spell a.1)
-    same (x, []) f = absurd (omega (arith, f.1.0))
-    same (x, y ∷ ys) f = sym (append_assoc (spell x) (Sign sign ∷ []) (separated sign (map spell (y ∷ ys))))
-    unlisted : (xs : List A) → (2 ≤ length xs) × Each Fit xs → (a : A × List A) × (cons a ≡ xs) × (Fit a.0 × OneOrMore Fit a.1)
-    unlisted [] f = absurd (omega (arith, f.0))
-    unlisted (x ∷ []) f = absurd (omega (arith, f.0))
-    unlisted (x ∷ y ∷ ys) f = ((x, y ∷ ys), refl, (f.1.0, (omega arith, f.1.1)))
+        same : (a : A × List A) → Fit a.0 × OneOrMore Fit a.1 → separated sign (map spell (cons a)) ≡ (spell a.0 ++ Sign sign ∷ []) ++ separated sign (map spell a.1)
+        same (x, []) f = absurd (omega (arith, f.1.0))
+        same (x, y ∷ ys) f = sym (append_assoc (spell x) (Sign sign ∷ []) (separated sign (map spell (y ∷ ys))))
+
+        unlisted : (xs : List A) → (2 ≤ length xs) × Each Fit xs → (a : A × List A) × (cons a ≡ xs) × (Fit a.0 × OneOrMore Fit a.1)
+        unlisted [] f = absurd (omega (arith, f.0))
+        unlisted (x ∷ []) f = absurd (omega (arith, f.0))
+        unlisted (x ∷ y ∷ ys) f = ((x, y ∷ ys), refl, (f.1.0, (omega arith, f.1.1)))
 
 -- a token that says all
 pub leaf_sound : {A : Type 0} (spell : A → List Kind) (Fit : A → Type 0) (token : Kind) (a : A) → IsFixed token → spell a ≡ token ∷ [] → Fit a → Sound spell Fit (led token (give a))

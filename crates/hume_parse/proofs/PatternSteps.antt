@@ -110,8 +110,11 @@ abbrev pub con_from : List ℕ → Result (List Pat × List Kind) ℕ → Result
 con_from name r = made (tree.Con name) (λ ks. r) []
 
 pub ruleset pattern_steps = (pat_zero, whole_con, whole_atom, atom_any, atom_minus, atom_true, atom_false, atom_open, atom_open_one, atom_leaf, rolls-Con)
+
 pub ruleset input_steps = (input_star, input_any, input_plain)
+
 pub ruleset leaf_steps = (rolls-Name, rolls-Con, rolls-Num, rolls-Letter, kinds_length)
+
 pub ruleset parens_steps = (parens_one, parens_more)
 
 pub con_stop : (name other : List ℕ) (whole : Result (Pat × List Kind) ℕ) (parts : List Pat) (ks : List Kind) → name ≡ other → whole ≡ con_from name (Ok (parts, ks)) → whole ≡ Ok (tree.Con other parts, ks)

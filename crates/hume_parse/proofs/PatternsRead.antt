@@ -105,22 +105,46 @@ module _ (room : ℕ) (child atom : Reader Pat) (reads : Reads spelled_pat (PatF
   leaf_pick_sound (k ∷ ks) x e = leaf_sound_by (pat_leaf k) k ks x refl e
 
   ways_sound : Sound pat_spell (FitAt room 2) (alternatives (pat_ways room child))
-  ways_sound = alternatives_sound pat_spell (FitAt room 2) (pat_ways room child) (leaf_sound pat_spell (FitAt room 2) (Sign symbol.Underscore) Pat-F.Any tt refl (omega arith, tt),
-      (made_sound minus_reads (Pat-F.Num true) pat_spell (FitAt room 2) (λ n f. (omega arith, tt)) (λ n f. refl),
-      (leaf_sound pat_spell (FitAt room 2) (Word word.True) (Pat-F.Truth true) tt refl (omega arith, tt),
-      (leaf_sound pat_spell (FitAt room 2) (Word word.False) (Pat-F.Truth false) tt refl (omega arith, tt),
-      (opens_sound pat_spell (FitAt room 2) (parens_pat child) room (made_sound parens_reads pat_in_parens pat_spell (FitAt room 2) parens_fit (λ a f. parens_same a)),
-      (leaf_pick_sound,
-      tt))))))
+  ways_sound = alternatives_sound pat_spell (FitAt room 2) (pat_ways room child) (
+    leaf_sound pat_spell (FitAt room 2) (Sign symbol.Underscore) Pat-F.Any tt refl (omega arith, tt),
+    (
+      made_sound minus_reads (Pat-F.Num true) pat_spell (FitAt room 2) (λ n f. (omega arith, tt)) (λ n f. refl),
+      (
+        leaf_sound pat_spell (FitAt room 2) (Word word.True) (Pat-F.Truth true) tt refl (omega arith, tt),
+        (
+          leaf_sound pat_spell (FitAt room 2) (Word word.False) (Pat-F.Truth false) tt refl (omega arith, tt),
+          (
+            opens_sound pat_spell (FitAt room 2) (parens_pat child) room (made_sound parens_reads pat_in_parens pat_spell (FitAt room 2) parens_fit (λ a f. parens_same a)),
+            (
+              leaf_pick_sound,
+              tt,
+            ),
+          ),
+        ),
+      ),
+    ),
+  )
 
   ways_local : Each (λ (way : (Kind → Bool) × Reader (Pat-F Pat)). Local way.1) (pat_ways room child)
-  ways_local = (leaf_local (Sign symbol.Underscore) Pat-F.Any,
-      (local_made (Pat-F.Num true) _ minus_reads.local,
-      (leaf_local (Word word.True) (Pat-F.Truth true),
-      (leaf_local (Word word.False) (Pat-F.Truth false),
-      (local_opens room (parens_pat child) (local_made pat_in_parens _ parens_reads.local),
-      (local_pick pat_leaf,
-      tt))))))
+  ways_local = (
+    leaf_local (Sign symbol.Underscore) Pat-F.Any,
+    (
+      local_made (Pat-F.Num true) _ minus_reads.local,
+      (
+        leaf_local (Word word.True) (Pat-F.Truth true),
+        (
+          leaf_local (Word word.False) (Pat-F.Truth false),
+          (
+            local_opens room (parens_pat child) (local_made pat_in_parens _ parens_reads.local),
+            (
+              local_pick pat_leaf,
+              tt,
+            ),
+          ),
+        ),
+      ),
+    ),
+  )
 
   paren_complete : (a : Pat × List Pat) (rest : List Kind) → PatFits room 1 a.0 × Each (PatFits room 1) a.1 → alternatives (pat_ways room child) (pat_spell (pat_in_parens a) ++ rest) ≡ Ok (pat_in_parens a, rest)
   paren_complete a rest f = ap (λ m. alternatives (pat_ways room child) (m ++ rest)) (parens_same a) ∙ opened room (parens_pat child) _ (has_room room 1 a.0 f.0) ∙ made_complete parens_reads pat_in_parens a rest f tt
@@ -220,10 +244,16 @@ module _ (room : ℕ) where
   wholes = (patterns_read (suc room)).whole
 
   input_sound : Sound spelled_pat (PatFits (suc room) 0) inputs
-  input_sound = alternatives_sound spelled_pat (PatFits (suc room) 0) (input_ways (patterns (suc room))) (leaf_sound spelled_pat (PatFits (suc room) 0) (Sign symbol.Star) (roll-Pat Pat-F.Star) tt (pat_spelled Pat-F.Star) (rolled_fit room 0 Pat-F.Star (omega arith, tt)),
-      (leaf_sound spelled_pat (PatFits (suc room) 0) (Sign symbol.UnderscoreStar) (roll-Pat Pat-F.AnyStar) tt (pat_spelled Pat-F.AnyStar) (rolled_fit room 0 Pat-F.AnyStar (omega arith, tt)),
-      (λ ks x e. (let s = wholes.sound ks x e in ((omega arith, s.0.1), s.1)),
-      tt)))
+  input_sound = alternatives_sound spelled_pat (PatFits (suc room) 0) (input_ways (patterns (suc room))) (
+    leaf_sound spelled_pat (PatFits (suc room) 0) (Sign symbol.Star) (roll-Pat Pat-F.Star) tt (pat_spelled Pat-F.Star) (rolled_fit room 0 Pat-F.Star (omega arith, tt)),
+    (
+      leaf_sound spelled_pat (PatFits (suc room) 0) (Sign symbol.UnderscoreStar) (roll-Pat Pat-F.AnyStar) tt (pat_spelled Pat-F.AnyStar) (rolled_fit room 0 Pat-F.AnyStar (omega arith, tt)),
+      (
+        λ ks x e. (let s = wholes.sound ks x e in ((omega arith, s.0.1), s.1)),
+        tt,
+      ),
+    ),
+  )
 
   plain : (x : Pat-F Pat) (rest : List Kind) → 1 ≤ pat_level x → PatParts (PatFits room) x → PatEnds rest → whole (pat_spell x ++ rest) ≡ Ok (roll-Pat x, rest)
   plain x rest h f e = ap (λ m. whole (m ++ rest)) (sym (pat_spelled x)) ∙ wholes.complete (roll-Pat x) rest (rolled_fit room 1 x (h, f)) e
@@ -251,10 +281,20 @@ module _ (room : ℕ) where
       ∙ ap (λ q. Ok (q, rest)) (roll-out-Pat p)
 
   input_now : Reads spelled_pat (PatFits (suc room) 0) PatEnds inputs
-  input_now = record { sound = input_sound; complete = input_complete; local = alternatives_local (input_ways (patterns (suc room))) (leaf_local (Sign symbol.Star) (roll-Pat Pat-F.Star),
-      (leaf_local (Sign symbol.UnderscoreStar) (roll-Pat Pat-F.AnyStar),
-      (wholes.local,
-      tt))) }
+  input_now = record {
+    sound = input_sound;
+    complete = input_complete;
+    local = alternatives_local (input_ways (patterns (suc room))) (
+      leaf_local (Sign symbol.Star) (roll-Pat Pat-F.Star),
+      (
+        leaf_local (Sign symbol.UnderscoreStar) (roll-Pat Pat-F.AnyStar),
+        (
+          wholes.local,
+          tt,
+        ),
+      ),
+    );
+  }
 
 pub inputs_read : (room : ℕ) → Reads spelled_pat (PatFits room 0) PatEnds (input_pattern room)
 inputs_read zero = nothing 0 PatEnds

@@ -62,24 +62,52 @@ module _ (room : ℕ) (child : Reader TyExp) (reads : Reads spelled_ty (TypeFits
   sized_reads token h = led_reads number_reads token h
 
   ways_sound : Sound ty_spell Parts (alternatives (type_ways room child))
-  ways_sound = alternatives_sound ty_spell Parts (type_ways room child) (leaf_sound ty_spell Parts (Word word.Bool) TyExp-F.Bool tt refl tt,
-      (leaf_sound ty_spell Parts (Word word.Char) TyExp-F.Char tt refl tt,
-      (made_sound (sized_reads (Word word.Int) tt) TyExp-F.Int ty_spell Parts (λ n f. tt) (λ n f. refl),
-      (made_sound (sized_reads (Word word.Nat) tt) TyExp-F.Nat ty_spell Parts (λ n f. tt) (λ n f. refl),
-      (opens_sound ty_spell Parts (vector_type child) room (made_sound vector_reads vector_of ty_spell Parts (λ a f. f.1) (λ a f. refl)),
-      (opens_sound ty_spell Parts (tuple_type child) room (made_sound tuple_reads TyExp-F.Tuple ty_spell Parts (λ ts f. f) (λ ts f. refl)),
-      (made_sound upper_reads TyExp-F.Named ty_spell Parts (λ x f. tt) (λ x f. refl),
-      tt)))))))
+  ways_sound = alternatives_sound ty_spell Parts (type_ways room child) (
+    leaf_sound ty_spell Parts (Word word.Bool) TyExp-F.Bool tt refl tt,
+    (
+      leaf_sound ty_spell Parts (Word word.Char) TyExp-F.Char tt refl tt,
+      (
+        made_sound (sized_reads (Word word.Int) tt) TyExp-F.Int ty_spell Parts (λ n f. tt) (λ n f. refl),
+        (
+          made_sound (sized_reads (Word word.Nat) tt) TyExp-F.Nat ty_spell Parts (λ n f. tt) (λ n f. refl),
+          (
+            opens_sound ty_spell Parts (vector_type child) room (made_sound vector_reads vector_of ty_spell Parts (λ a f. f.1) (λ a f. refl)),
+            (
+              opens_sound ty_spell Parts (tuple_type child) room (made_sound tuple_reads TyExp-F.Tuple ty_spell Parts (λ ts f. f) (λ ts f. refl)),
+              (
+                made_sound upper_reads TyExp-F.Named ty_spell Parts (λ x f. tt) (λ x f. refl),
+                tt,
+              ),
+            ),
+          ),
+        ),
+      ),
+    ),
+  )
 
   ways_local : Local (alternatives (type_ways room child))
-  ways_local = alternatives_local (type_ways room child) (leaf_local (Word word.Bool) TyExp-F.Bool,
-      (leaf_local (Word word.Char) TyExp-F.Char,
-      (local_made TyExp-F.Int _ (sized_reads (Word word.Int) tt).local,
-      (local_made TyExp-F.Nat _ (sized_reads (Word word.Nat) tt).local,
-      (local_opens room (vector_type child) (local_made vector_of _ vector_reads.local),
-      (local_opens room (tuple_type child) (local_made TyExp-F.Tuple _ tuple_reads.local),
-      (local_made TyExp-F.Named _ upper_reads.local,
-      tt)))))))
+  ways_local = alternatives_local (type_ways room child) (
+    leaf_local (Word word.Bool) TyExp-F.Bool,
+    (
+      leaf_local (Word word.Char) TyExp-F.Char,
+      (
+        local_made TyExp-F.Int _ (sized_reads (Word word.Int) tt).local,
+        (
+          local_made TyExp-F.Nat _ (sized_reads (Word word.Nat) tt).local,
+          (
+            local_opens room (vector_type child) (local_made vector_of _ vector_reads.local),
+            (
+              local_opens room (tuple_type child) (local_made TyExp-F.Tuple _ tuple_reads.local),
+              (
+                local_made TyExp-F.Named _ upper_reads.local,
+                tt,
+              ),
+            ),
+          ),
+        ),
+      ),
+    ),
+  )
 
   some_room : (t : TyExp) → TypeFits room t → 0 < room
   some_room t f = has_room room f where

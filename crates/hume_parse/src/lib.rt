@@ -2,6 +2,6 @@
 #![tactic(auto)]
 
 mod fault;
+mod patterns;
 mod tokens;
 mod types;
-mod patterns;

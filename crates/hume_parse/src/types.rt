@@ -85,7 +85,12 @@ fn tuple(alloc: Global, rest: &[Token], room: u32) -> Result<(TyExp, &[Token]), 
 /// One or more types, with the sign between each two.
 #[cycle(types)]
 #[tactic(auto, using(crate::proofs::TypeSteps::type_steps))]
-pub fn type_list(alloc: Global, tokens: &[Token], symbol: Symbol, room: u32) -> Result<(List<TyExp>, &[Token]), Fault>
+pub fn type_list(
+    alloc: Global,
+    tokens: &[Token],
+    symbol: Symbol,
+    room: u32,
+) -> Result<(List<TyExp>, &[Token]), Fault>
     requires { 0 < room }
     ensures reads { Gives (λ x. (x.0, kinds x.1.now)) result (listed symbol (types room) (kinds tokens.now)) }
     ensures shorter { IfOk result (λ x. length x.1.now < length tokens.now) }
