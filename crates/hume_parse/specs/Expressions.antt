@@ -36,6 +36,22 @@ starts_atom (Sign symbol.OpenParen) = true
 starts_atom (Sign symbol.OpenAngles) = true
 starts_atom _ = false
 
+-- whether a part behind a sign begins so
+abbrev pub begins_part : Kind → Bool
+begins_part (Word word.True) = true
+begins_part (Word word.False) = true
+begins_part (Word word.Not) = true
+begins_part (Word word.Update) = true
+begins_part (Sign symbol.OpenParen) = true
+begins_part (Sign symbol.OpenAngles) = true
+begins_part (Sign symbol.Minus) = true
+begins_part (Sign symbol.Star) = true
+begins_part (Lower name) = true
+begins_part (Upper name) = true
+begins_part (Number amount) = true
+begins_part (Letter byte) = true
+begins_part _ = false
+
 abbrev pub is_lower : Kind → Bool
 is_lower (Lower name) = true
 is_lower _ = false

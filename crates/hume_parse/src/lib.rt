@@ -5,3 +5,4 @@ mod fault;
 mod tokens;
 mod types;
 mod patterns;
+mod operators;
