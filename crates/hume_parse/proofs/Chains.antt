@@ -79,15 +79,12 @@ module _ (bound room l lo : ℕ) (child : Reader Exp) (reads : Reads spelled_exp
   pub local_operand : (x : Exp-F Exp) → Local (one_operand l room child x)
   local_operand x = record { at = operand_split x }
 
-module _ (bound room l : ℕ) (child : Reader Exp) (reads : Reads spelled_exp (ExpFits bound room (suc l)) (Stops (suc l)) child) (groups : (o : BinOp) → op_level o ≡ l → left_level o ≡ l) where
-  abbrev goes : List Kind → Bool
-  goes ks = is_some (next_operator l ks)
+module _ (room l : ℕ) (child : Reader Exp) (shrinks : (x : Exp-F Exp) (ks : List Kind) (y : Exp-F Exp × List Kind) → one_operand l room child x ks ≡ Ok y → length y.1 < length ks) where
+  abbrev goes_on : List Kind → Bool
+  goes_on ks = is_some (next_operator l ks)
 
-  abbrev step : Exp-F Exp → Reader (Exp-F Exp)
-  step = one_operand l room child
-
-  shrinks : (x : Exp-F Exp) (ks : List Kind) (y : Exp-F Exp × List Kind) → step x ks ≡ Ok y → length y.1 < length ks
-  shrinks = operand_shrinks bound room l l child reads groups
+  abbrev one_step : Exp-F Exp → Reader (Exp-F Exp)
+  one_step = one_operand l room child
 
   at_end : (n : ℕ) (x : Exp-F Exp) → operands_by n l room child x [] ≡ Ok (x, [])
   at_end zero x = refl
@@ -98,22 +95,38 @@ module _ (bound room l : ℕ) (child : Reader Exp) (reads : Reads spelled_exp (E
   enough zero m x (j ∷ ks) h k = absurd (omega arith)
   enough (suc n) zero x (j ∷ ks) h k = absurd (omega arith)
   enough (suc n) (suc m) x (j ∷ ks) h k =
-      ap (λ r. cond (goes (j ∷ ks)) r (Ok (x, j ∷ ks)))
-      (bind_same (step x (j ∷ ks)) (λ y. operands_by n l room child y.0 y.1) (λ y. operands_by m l room child y.0 y.1)
+      ap (λ r. cond (goes_on (j ∷ ks)) r (Ok (x, j ∷ ks)))
+      (bind_same (one_step x (j ∷ ks)) (λ y. operands_by n l room child y.0 y.1) (λ y. operands_by m l room child y.0 y.1)
       (λ y e. let less = shrinks x (j ∷ ks) y e in enough n m y.0 y.1 (omega arith) (omega arith)))
 
-  pub operands_stop : (x : Exp-F Exp) (ks : List Kind) → next_operator l ks ≡ None → operands l room child x ks ≡ Ok (x, ks)
+  pub stop_at : (x : Exp-F Exp) (ks : List Kind) → next_operator l ks ≡ None → operands l room child x ks ≡ Ok (x, ks)
   unfolding operands
-  operands_stop x [] e = refl
-  operands_stop x (k ∷ ks) e = rw e
+  stop_at x [] e = refl
+  stop_at x (k ∷ ks) e = rw e
 
-  pub operands_turn : (x : Exp-F Exp) (ks : List Kind) (o : BinOp) → next_operator l ks ≡ Some o → operands l room child x ks ≡ (step x ks >>= λ y. operands l room child y.0 y.1)
+  pub turn_at : (x : Exp-F Exp) (ks : List Kind) (o : BinOp) → next_operator l ks ≡ Some o → operands l room child x ks ≡ (one_step x ks >>= λ y. operands l room child y.0 y.1)
   unfolding operands
-  operands_turn x [] o e = cc
-  operands_turn x (k ∷ ks) o e =
-      ap (λ (n : Option BinOp). cond (is_some n) (step x (k ∷ ks) >>= λ y. operands_by (length ks) l room child y.0 y.1) (Ok (x, k ∷ ks))) e
-      ∙ bind_same (step x (k ∷ ks)) (λ y. operands_by (length ks) l room child y.0 y.1) (λ y. operands_by (length y.1) l room child y.0 y.1)
+  turn_at x [] o e = cc
+  turn_at x (k ∷ ks) o e =
+      ap (λ (n : Option BinOp). cond (is_some n) (one_step x (k ∷ ks) >>= λ y. operands_by (length ks) l room child y.0 y.1) (Ok (x, k ∷ ks))) e
+      ∙ bind_same (one_step x (k ∷ ks)) (λ y. operands_by (length ks) l room child y.0 y.1) (λ y. operands_by (length y.1) l room child y.0 y.1)
       (λ y is. let less = shrinks x (k ∷ ks) y is in enough (length ks) (length y.1) y.0 y.1 (omega arith) (omega arith))
+
+module _ (bound room l : ℕ) (child : Reader Exp) (reads : Reads spelled_exp (ExpFits bound room (suc l)) (Stops (suc l)) child) (groups : (o : BinOp) → op_level o ≡ l → left_level o ≡ l) where
+  shrinks : (x : Exp-F Exp) (ks : List Kind) (y : Exp-F Exp × List Kind) → one_operand l room child x ks ≡ Ok y → length y.1 < length ks
+  shrinks = operand_shrinks bound room l l child reads groups
+
+  abbrev goes : List Kind → Bool
+  goes ks = is_some (next_operator l ks)
+
+  abbrev step : Exp-F Exp → Reader (Exp-F Exp)
+  step = one_operand l room child
+
+  operands_stop : (x : Exp-F Exp) (ks : List Kind) → next_operator l ks ≡ None → operands l room child x ks ≡ Ok (x, ks)
+  operands_stop = stop_at room l child shrinks
+
+  operands_turn : (x : Exp-F Exp) (ks : List Kind) (o : BinOp) → next_operator l ks ≡ Some o → operands l room child x ks ≡ (step x ks >>= λ y. operands l room child y.0 y.1)
+  operands_turn = turn_at room l child shrinks
 
   -- what each turn keeps, all turns keep
   keep : (start : List Kind) (n : ℕ) (x : Exp-F Exp) (ks : List Kind) (y : Exp-F Exp × List Kind) → LayerFit bound room l x → start ≡ exp_spell x ++ ks → operands_by n l room child x ks ≡ Ok y → LayerFit bound room l y.0 × (start ≡ exp_spell y.0 ++ y.1)

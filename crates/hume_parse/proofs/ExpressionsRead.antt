@@ -1,5 +1,5 @@
 -- Signs, comparisons and the forms that begin with a word; and the expressions of all depths.
-use Rattle.std.proofs.Common.{◌≡◌, ℕ, zero, suc, ◌+◌, ◌<◌, ◌≤◌, List, [], ◌∷◌, ◌++◌, map, length, Bool, true, false, cond, refl, sym, ap, ◌∙◌, subst, ◌⊎◌, inl, inr, arith, append_assoc}
+use Rattle.std.proofs.Common.{◌≡◌, ℕ, zero, suc, ◌+◌, ◌<◌, ◌≤◌, List, [], ◌∷◌, ◌++◌, map, length, Bool, true, false, cond, refl, sym, ap, ◌∙◌, subst, ◌⊎◌, inl, inr, arith, length-append, append_assoc, ◌==◌}
 use Rattle.std.specs.Prelude.{Result, Ok, Err, Option, Some, None, is_some}
 use Rattle.std.specs.List.{flat_map}
 use Rattle.std.proofs.lemmas.Bool.{cases_eq, cases_Bool}
@@ -20,7 +20,7 @@ use Rattle.hume_ast.proofs.Depths.{fits_depth, refit}
 use Rattle.hume_parse.specs.Readers.{Reader, ◌>>=◌, fault, after, led, give, made, both, closed, choice, listed, maybe, alternatives, pick, opens, next, is_sign, lower_name, upper_name, number_of}
 use Rattle.hume_parse.specs.Types.{types}
 use Rattle.hume_parse.specs.Patterns.{patterns}
-use Rattle.hume_parse.specs.Expressions.{starts_atom, is_number, minus_ways, unary_ways, next_operator, one_operand, comparison, let_of, let_exp, if_of, if_exp, case_of, case_exp, alternative, raise_of, raise_exp, exp_ways, ExpReaders, atom_layer, app_layer, index_layer, unary_layer, term_layer, sum_layer, comparison_layer, conjunction_layer, disjunction_layer, whole_layer, expressions_with, expressions}
+use Rattle.hume_parse.specs.Expressions.{starts_atom, is_number, minus_ways, unary_ways, next_operator, one_operand, comparison, let_of, let_exp, if_of, if_exp, case_of, case_exp, alternative, raise_of, raise_exp, exp_ways, ExpReaders, atom_layer, app_layer, index_layer, unary_layer, term_layer, sum_layer, comparison_layer, conjunction_layer, disjunction_layer, whole_layer, expressions_with, expressions, at_level}
 use Rattle.hume_parse.proofs.Local.{Local, Splits, bind_ok, chosen, local_made, local_opens, local_led, local_bind, local_choice, local_give, local_fault, local_as, splits_as, give_empty, local_as_empty}
 use Rattle.hume_parse.proofs.TokensApart.{after_ok}
 use Rattle.hume_parse.proofs.TypesRead.{number_reads, upper_reads, lower_reads, types_read}
@@ -379,11 +379,13 @@ nothing bound level = record { sound = λ ks x e. (cc); complete = λ a rest f e
 -- what is read at each level, in a room
 pub record ExpsRead (bound room : ℕ) (p : ExpReaders) : Type 0 where
   pub whole : Reads spelled_exp (ExpFits bound room 1) (Stops 1) p.whole
+  pub disjunction : Reads spelled_exp (ExpFits bound room 2) (Stops 2) p.disjunction
   pub conjunction : Reads spelled_exp (ExpFits bound room 3) (Stops 3) p.conjunction
   pub comparison : Reads spelled_exp (ExpFits bound room 4) (Stops 4) p.comparison
   pub sum : Reads spelled_exp (ExpFits bound room 5) (Stops 5) p.sum
   pub term : Reads spelled_exp (ExpFits bound room 6) (Stops 6) p.term
   pub unary : Reads spelled_exp (ExpFits bound room 7) (Stops 7) p.unary
+  pub index : Reads spelled_exp (ExpFits bound room 8) (Stops 8) p.index
   pub app : Reads spelled_exp (ExpFits bound room 9) (Stops 9) p.app
   pub atom : Reads spelled_exp (ExpFits bound room 10) (Stops 10) p.atom
 
@@ -446,17 +448,47 @@ module _ (bound room : ℕ) (type : Reader TyExp) (pattern : Reader Pat) (tys : 
 module _ (bound : ℕ) (type : Reader TyExp) (pattern : Reader Pat) (tys : Reads spelled_ty (TypeFits bound) Anything type) (pats : Reads spelled_pat (PatFits bound 1) PatEnds pattern) where
   pub all_read : (room : ℕ) → ExpsRead bound room (expressions_with type pattern room)
   unfolding expressions_with
-  all_read zero = record { whole = nothing bound 1; conjunction = nothing bound 3; comparison = nothing bound 4; sum = nothing bound 5; term = nothing bound 6; unary = nothing bound 7; app = nothing bound 9; atom = nothing bound 10 }
+  all_read zero = record { whole = nothing bound 1; disjunction = nothing bound 2; conjunction = nothing bound 3; comparison = nothing bound 4; sum = nothing bound 5; term = nothing bound 6; unary = nothing bound 7; index = nothing bound 8; app = nothing bound 9; atom = nothing bound 10 }
   all_read (suc room) = let below = expressions_with type pattern room in let h = all_read room in record {
     whole = rolled bound room 1 (whole_layer room type pattern below) (whole_now bound room type pattern tys pats below h);
+    disjunction = rolled bound room 2 (disjunction_layer room type below) (disjunction_now bound room type pattern tys pats below h);
     conjunction = rolled bound room 3 (conjunction_layer room type below) (conjunction_now bound room type pattern tys pats below h);
     comparison = rolled bound room 4 (comparison_layer room type below) (comparison_now bound room type pattern tys pats below h);
     sum = rolled bound room 5 (sum_layer room type below) (sum_now bound room type pattern tys pats below h);
     term = rolled bound room 6 (term_layer room type below) (term_now bound room type pattern tys pats below h);
     unary = rolled bound room 7 (unary_layer room type below) (unary_now bound room type pattern tys pats below h);
+    index = rolled bound room 8 (index_layer room type below) (index_now bound room type pattern tys pats below h);
     app = rolled bound room 9 (app_layer room type below) (app_now bound room type pattern tys pats below h);
     atom = rolled bound room 10 (atom_layer room type below) (atom_now bound room type pattern tys pats below h);
   }
 
 pub expressions_read : (bound room : ℕ) → ExpsRead bound room (expressions bound room)
 expressions_read bound room = all_read bound (types bound) (patterns bound).whole (types_read bound) (patterns_read bound).whole room
+
+some_spelled : (bound room level : ℕ) (e : Exp) → 1 ≤ level → ExpFits bound room level e → 0 < length (spelled_exp e)
+some_spelled bound room level e h f = longer (spelled_exp e) (omega (arith, h, opens_at bound room level e h f)) where
+  longer : (ks : List Kind) → 1 ≤ opening ks → 0 < length ks
+  longer [] g = absurd (omega (arith, g))
+  longer (k ∷ ks) g = omega arith
+
+Shrinks : Reader Exp → Type 0
+Shrinks p = (ks : List Kind) (x : Exp × List Kind) → p ks ≡ Ok x → length x.1 < length ks
+
+level_shrinks : (bound room level : ℕ) (p : Reader Exp) → 1 ≤ level → Reads spelled_exp (ExpFits bound room level) (Stops level) p → (ks : List Kind) (x : Exp × List Kind) → p ks ≡ Ok x → length x.1 < length ks
+level_shrinks bound room level p h reads ks x e = let s = reads.sound ks x e in omega (arith, some_spelled bound room level x.0 h s.0, ap length s.1, length-append (spelled_exp x.0) x.1)
+
+-- whatever is read at any level takes a token
+pub all_shrink : (bound room level : ℕ) (ks : List Kind) (x : Exp × List Kind) → at_level level (expressions bound room) ks ≡ Ok x → length x.1 < length ks
+all_shrink bound room level ks x e = pick_level (level == 2) (level == 3) (level == 4) (level == 5) (level == 6) (level == 7) (level == 8) e where
+  pick_level : (a b c d f g h : Bool) → cond a (expressions bound room).disjunction (cond b (expressions bound room).conjunction (cond c (expressions bound room).comparison (cond d (expressions bound room).sum (cond f (expressions bound room).term (cond g (expressions bound room).unary (cond h (expressions bound room).index (expressions bound room).app)))))) ks ≡ Ok x → length x.1 < length ks
+  pick_level true b c d f g h w = level_shrinks bound room 2 (expressions bound room).disjunction (omega arith) (expressions_read bound room).disjunction ks x w
+  pick_level false true c d f g h w = level_shrinks bound room 3 (expressions bound room).conjunction (omega arith) (expressions_read bound room).conjunction ks x w
+  pick_level false false true d f g h w = level_shrinks bound room 4 (expressions bound room).comparison (omega arith) (expressions_read bound room).comparison ks x w
+  pick_level false false false true f g h w = level_shrinks bound room 5 (expressions bound room).sum (omega arith) (expressions_read bound room).sum ks x w
+  pick_level false false false false true g h w = level_shrinks bound room 6 (expressions bound room).term (omega arith) (expressions_read bound room).term ks x w
+  pick_level false false false false false true h w = level_shrinks bound room 7 (expressions bound room).unary (omega arith) (expressions_read bound room).unary ks x w
+  pick_level false false false false false false true w = level_shrinks bound room 8 (expressions bound room).index (omega arith) (expressions_read bound room).index ks x w
+  pick_level false false false false false false false w = level_shrinks bound room 9 (expressions bound room).app (omega arith) (expressions_read bound room).app ks x w
+
+pub atom_shrink : (bound room : ℕ) (ks : List Kind) (x : Exp × List Kind) → (expressions bound room).atom ks ≡ Ok x → length x.1 < length ks
+atom_shrink bound room = level_shrinks bound room 10 (expressions bound room).atom (omega arith) (expressions_read bound room).atom

@@ -10,3 +10,4 @@ pub mod ExpressionsRead
 pub mod Loops
 pub mod TypeSteps
 pub mod PatternSteps
+pub mod ExpSteps

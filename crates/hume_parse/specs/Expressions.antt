@@ -36,6 +36,22 @@ starts_atom (Sign symbol.OpenParen) = true
 starts_atom (Sign symbol.OpenAngles) = true
 starts_atom _ = false
 
+-- whether a part behind a sign begins so
+abbrev pub begins_part : Kind → Bool
+begins_part (Word word.True) = true
+begins_part (Word word.False) = true
+begins_part (Word word.Not) = true
+begins_part (Word word.Update) = true
+begins_part (Sign symbol.OpenParen) = true
+begins_part (Sign symbol.OpenAngles) = true
+begins_part (Sign symbol.Minus) = true
+begins_part (Sign symbol.Star) = true
+begins_part (Lower name) = true
+begins_part (Upper name) = true
+begins_part (Number amount) = true
+begins_part (Letter byte) = true
+begins_part _ = false
+
 abbrev pub is_lower : Kind → Bool
 is_lower (Lower name) = true
 is_lower _ = false
@@ -212,11 +228,13 @@ exp_ways room pattern child atom or =
 -- the readers of the levels
 pub record ExpReaders : Type 0 where
   pub whole : Reader Exp
+  pub disjunction : Reader Exp
   pub conjunction : Reader Exp
   pub comparison : Reader Exp
   pub sum : Reader Exp
   pub term : Reader Exp
   pub unary : Reader Exp
+  pub index : Reader Exp
   pub app : Reader Exp
   pub atom : Reader Exp
 
@@ -253,14 +271,16 @@ whole_layer room type pattern below = alternatives (exp_ways room pattern below.
 
 -- expressions at most so deep, whose types and patterns are read by these
 unfoldable pub expressions_with : Reader TyExp → Reader Pat → ℕ → ExpReaders
-expressions_with type pattern zero = record { whole = fault; conjunction = fault; comparison = fault; sum = fault; term = fault; unary = fault; app = fault; atom = fault }
+expressions_with type pattern zero = record { whole = fault; disjunction = fault; conjunction = fault; comparison = fault; sum = fault; term = fault; unary = fault; index = fault; app = fault; atom = fault }
 expressions_with type pattern (suc room) = let below = expressions_with type pattern room in record {
   whole = made roll-Exp (whole_layer room type pattern below);
+  disjunction = made roll-Exp (disjunction_layer room type below);
   conjunction = made roll-Exp (conjunction_layer room type below);
   comparison = made roll-Exp (comparison_layer room type below);
   sum = made roll-Exp (sum_layer room type below);
   term = made roll-Exp (term_layer room type below);
   unary = made roll-Exp (unary_layer room type below);
+  index = made roll-Exp (index_layer room type below);
   app = made roll-Exp (app_layer room type below);
   atom = made roll-Exp (atom_layer room type below);
 }
@@ -268,3 +288,19 @@ expressions_with type pattern (suc room) = let below = expressions_with type pat
 -- expressions at most so deep, and types and patterns in them at most as deep as the first number says
 abbrev pub expressions : ℕ → ℕ → ExpReaders
 expressions bound room = expressions_with (types bound) (patterns bound).whole room
+
+-- the reader of a level
+abbrev pub at_level : ℕ → ExpReaders → Reader Exp
+at_level level p =
+    if level == 2 then p.disjunction
+    else (if level == 3 then p.conjunction
+    else (if level == 4 then p.comparison
+    else (if level == 5 then p.sum
+    else (if level == 6 then p.term
+    else (if level == 7 then p.unary
+    else (if level == 8 then p.index
+    else p.app))))))
+
+-- those of a depth in a program, where types and patterns may be 64 deep
+abbrev pub exps : ℕ → ExpReaders
+exps room = expressions 64 room

@@ -2,6 +2,7 @@
 #![tactic(auto)]
 
 mod fault;
+mod operators;
 mod patterns;
 mod tokens;
 mod types;
