@@ -11,3 +11,4 @@ pub mod Loops
 pub mod TypeSteps
 pub mod PatternSteps
 pub mod ExpSteps
+pub mod OneSpelling

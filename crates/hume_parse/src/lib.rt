@@ -2,7 +2,10 @@
 #![tactic(auto)]
 
 mod fault;
+mod laws;
 mod operators;
 mod patterns;
 mod tokens;
 mod types;
+
+pub use laws::one_spelling;
