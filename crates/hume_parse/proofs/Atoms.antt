@@ -1,24 +1,23 @@
 -- Atoms, and names with their arguments.
-use Rattle.std.proofs.Common.{◌≡◌, ℕ, zero, suc, ◌+◌, ◌<◌, ◌≤◌, List, [], ◌∷◌, ◌++◌, map, length, Bool, true, false, refl, sym, ap, ◌∙◌, subst, arith, append_assoc}
-use Rattle.std.specs.Prelude.{Result, Ok, Err, Option, Some, None}
+use Rattle.std.proofs.Common.{◌≡◌, ℕ, zero, suc, ◌<◌, ◌≤◌, List, [], ◌∷◌, ◌++◌, map, length, Bool, true, false, refl, sym, ap, ◌∙◌, subst, arith, append_assoc}
+use Rattle.std.specs.Prelude.{Ok, Err, Option, Some, None}
 use Rattle.std.specs.List.{flat_map}
 use Rattle.hume_base.specs.declared.keyword.Keyword.TheVariants as word
 use Rattle.hume_base.specs.declared.symbol.Symbol.TheVariants as symbol
 use Rattle.hume_base.specs.declared.token.Kind.{Kind}
-use Rattle.hume_base.specs.declared.token.Kind.TheVariants.{Lower, Upper, Number, Letter, Quoted, Word, Sign}
+use Rattle.hume_base.specs.declared.token.Kind.TheVariants.{Lower, Upper, Number, Letter, Word, Sign}
 use Rattle.hume_ast.specs.declared.tree.TyExp.{TyExp}
-use Rattle.hume_ast.specs.declared.tree.Exp.{Exp, roll-Exp, out-Exp}
+use Rattle.hume_ast.specs.declared.tree.Exp.{Exp}
 use Rattle.hume_ast.specs.declared.tree.Exp.TheOpen.{Exp-F}
-use Rattle.hume_ast.specs.Spelling.{spell_exp, spelled_exp, spelled_ty, separated, preceded, beside}
-use Rattle.hume_ast.specs.Fits.{Each, OneOrMore, ExpFits, ExpParts, TypeFits, PatFits, exp_level}
-use Rattle.hume_parse.specs.Readers.{Reader, fault, led, give, made, both, closed, many, listed, alternatives, pick, opens, next, is_sign, lower_name, upper_name}
-use Rattle.hume_parse.specs.Patterns.{is_upper}
-use Rattle.hume_parse.specs.Expressions.{exp_leaf, starts_atom, is_lower, Tail, cast_tail, parts_tail, exp_in_parens, tail_ways, parens_exp, vect_exp, atom_ways, app_of, con_exp_of, app_exp, con_exp, update_of, update_exp, app_ways}
+use Rattle.hume_ast.specs.Spelling.{spelled_exp, spelled_ty, separated}
+use Rattle.hume_ast.specs.Fits.{Each, OneOrMore, ExpFits, TypeFits, exp_level}
+use Rattle.hume_parse.specs.Readers.{Reader, led, both, closed, many, listed, alternatives, pick, next, is_sign, lower_name, upper_name}
+use Rattle.hume_parse.specs.Expressions.{exp_leaf, starts_atom, Tail, cast_tail, parts_tail, exp_in_parens, tail_ways, parens_exp, vect_exp, atom_ways, app_of, con_exp_of, app_exp, con_exp, update_of, update_exp, app_ways}
 use Rattle.hume_parse.proofs.Local.{Local, local_made, local_opens, local_pick}
 use Rattle.hume_parse.proofs.TokensApart.{some_same}
 use Rattle.hume_parse.proofs.TypesRead.{upper_reads, lower_reads}
-use Rattle.hume_parse.proofs.Forms.{Reads, Anything, Sound, led_reads, closed_reads, both_reads, many_reads, listed_reads, made_reads, made_sound, made_complete, opens_sound, opened, leaf_sound, leaf_local, ending, enclosed, beside_map, alternatives_sound, alternatives_local, choice_sound}
-use Rattle.hume_parse.proofs.Levels.{LayerFit, exp_spell, exp_spelled, Stops, stops_above, all_stop, no_atom_next, opens_at, atom_next, op_low}
+use Rattle.hume_parse.proofs.Forms.{Reads, Anything, Sound, led_reads, closed_reads, both_reads, many_reads, listed_reads, made_sound, made_complete, opens_sound, opened, leaf_sound, leaf_local, ending, enclosed, beside_map, alternatives_sound, alternatives_local, choice_sound}
+use Rattle.hume_parse.proofs.Levels.{LayerFit, exp_spell, Stops, all_stop, no_atom_next, opens_at, atom_next, op_low}
 
 pub has_room : (bound room level : ℕ) (e : Exp) → ExpFits bound room level e → 0 < room
 has_room bound zero level e f = absurd f

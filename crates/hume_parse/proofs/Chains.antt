@@ -1,20 +1,20 @@
 -- Parts with operators between them.
-use Rattle.std.proofs.Common.{◌≡◌, ℕ, zero, suc, ◌+◌, ◌<◌, ◌≤◌, List, [], ◌∷◌, ◌++◌, map, length, Bool, true, false, cond, refl, sym, ap, ◌∙◌, subst, ◌⊎◌, inl, inr, arith, length-append, append_assoc}
-use Rattle.std.specs.Prelude.{Result, Ok, Err, Option, Some, None, is_some, nat_le}
-use Rattle.std.proofs.lemmas.Bool.{leb-true, le-leb, cases_eq, cases_Bool}
+use Rattle.std.proofs.Common.{◌≡◌, ℕ, zero, suc, ◌+◌, ◌<◌, ◌≤◌, List, [], ◌∷◌, ◌++◌, length, Bool, true, false, cond, refl, sym, ap, ◌∙◌, subst, inl, inr, arith, length-append, append_assoc}
+use Rattle.std.specs.Prelude.{Ok, Option, Some, None, is_some, nat_le}
+use Rattle.std.proofs.lemmas.Bool.{leb-true, le-leb, cases_eq}
 use Rattle.hume_base.specs.declared.token.Kind.{Kind}
 use Rattle.hume_ast.specs.declared.tree.BinOp.{BinOp}
 use Rattle.hume_ast.specs.declared.tree.Exp.{Exp, roll-Exp, out-Exp, roll-out-Exp, out-roll-Exp}
 use Rattle.hume_ast.specs.declared.tree.Exp.TheOpen.{Exp-F}
 use Rattle.hume_ast.specs.Spelling.{spelled_exp, operator_token}
-use Rattle.hume_ast.specs.Fits.{Each, ExpFits, ExpParts, TypeFits, PatFits, exp_level, op_level, left_level}
+use Rattle.hume_ast.specs.Fits.{ExpFits, ExpParts, TypeFits, PatFits, exp_level, op_level, left_level}
 use Rattle.hume_ast.specs.Depth.{exp_depth}
 use Rattle.hume_ast.proofs.Depths.{fits_depth, refit, parts_wider}
-use Rattle.hume_parse.specs.Readers.{Reader, ◌>>=◌, fault, behind, choice}
-use Rattle.hume_parse.specs.Expressions.{next_operator, with_operator, one_operand, operands_by, operands, chain, comparison}
+use Rattle.hume_parse.specs.Readers.{Reader, ◌>>=◌, fault, behind}
+use Rattle.hume_parse.specs.Expressions.{next_operator, with_operator, one_operand, operands_by, operands, chain}
 use Rattle.hume_parse.proofs.Local.{Local, Splits, bind_ok, bind_same, chosen, chosen_ok, local_bind, local_behind, local_as, splits_as, splits_bind, local_fault, local_give, fault_empty, give_empty}
 use Rattle.hume_parse.proofs.Forms.{Reads, along}
-use Rattle.hume_parse.proofs.Levels.{LayerFit, exp_spell, exp_spelled, spelled_out, Stops, stops_above, operator_next, is_next, operator_stops, no_operator, op_high, op_low}
+use Rattle.hume_parse.proofs.Levels.{LayerFit, exp_spell, exp_spelled, spelled_out, Stops, stops_above, operator_next, is_next, operator_stops, no_operator}
 
 pub rolled_fit : (bound room level : ℕ) (x : Exp-F Exp) → LayerFit bound room level x → ExpFits bound (suc room) level (roll-Exp x)
 rolled_fit bound room level x f = subst (LayerFit bound room level) (sym (out-roll-Exp x)) f

@@ -1,32 +1,29 @@
 -- Reading expressions, step by step, as the code goes.
-use Rattle.std.proofs.Common.{◌≡◌, ◌≢◌, ℕ, zero, suc, ◌+◌, ◌-◌, ◌<◌, ◌≤◌, ◌==◌, ◌⊎◌, inl, inr, List, [], ◌∷◌, ◌++◌, length, map, max, cond, Bool, true, false, refl, sym, ap, ◌∙◌, subst, arith}
-use Rattle.std.specs.Prelude.{Result, Ok, Err, Option, Some, None, is_some, nat_le}
-use Rattle.std.proofs.lemmas.Bool.{le-leb, lt-leb, cases_eq, eq-eqb}
+use Rattle.std.proofs.Common.{◌≡◌, ◌≢◌, ℕ, zero, suc, ◌+◌, ◌-◌, ◌<◌, ◌≤◌, inl, inr, List, [], ◌∷◌, ◌++◌, length, map, max, true, false, refl, sym, ap, ◌∙◌, subst, arith}
+use Rattle.std.specs.Prelude.{Result, Ok, Err, Option, Some, None, nat_le}
+use Rattle.std.proofs.lemmas.Bool.{le-leb, lt-leb, cases_eq}
 use native.Mathlib.Numerals.{unary_clauses}
 use Rattle.hume_base.specs.declared.keyword.Keyword.TheVariants as word
 use Rattle.hume_base.specs.declared.symbol.Symbol.TheVariants as symbol
 use Rattle.hume_base.specs.declared.token.Kind.{Kind}
 use Rattle.hume_base.specs.declared.token.Kind.TheVariants.{Word, Sign}
 use Rattle.hume_base.specs.declared.token.Token.{Token}
-use Rattle.hume_ast.specs.declared.tree.TyExp.{TyExp}
-use Rattle.hume_ast.specs.declared.tree.Pat.{Pat}
 use Rattle.hume_ast.specs.declared.tree.BinOp.{BinOp}
-use Rattle.hume_ast.specs.declared.tree.Exp.{Exp, roll-Exp, out-Exp, roll-out-Exp, out-roll-Exp, map-Exp, fold-roll-Exp}
+use Rattle.hume_ast.specs.declared.tree.Exp.{Exp, roll-Exp, out-Exp, roll-out-Exp, out-roll-Exp}
 use Rattle.hume_ast.specs.declared.tree.Exp.TheVariants as tree
 use Rattle.hume_ast.specs.declared.tree.Exp.TheVariants.{rolls-Let, rolls-If, rolls-Case, rolls-Raise, rolls-Binary, rolls-Neg, rolls-Not, rolls-App, rolls-Con, rolls-Update, rolls-Num, rolls-Letter, rolls-Truth, rolls-Paren, rolls-Tuple, rolls-Cast, rolls-Vect, rolls-Star}
 use Rattle.hume_ast.specs.declared.tree.Exp.TheOpen.{Exp-F}
-use Rattle.hume_ast.specs.Depth.{exp_depth, deepest, deepest_alternative, depth_step}
+use Rattle.hume_ast.specs.Depth.{exp_depth, deepest}
 use Rattle.hume_ast.proofs.Depths.{some_depth}
 use Rattle.hume_parse.specs.Gives.{kinds, Fails}
 use Rattle.hume_parse.specs.declared.fault.Fault.{Fault}
-use Rattle.hume_parse.specs.Readers.{Reader, ◌>>=◌, fault, next, behind, is_word, is_sign, after, led, made, both, closed, listed, give, alternatives, pick, many, maybe, number_of, lower_name, upper_name}
+use Rattle.hume_parse.specs.Readers.{Reader, ◌>>=◌, next, behind, is_word, is_sign, made, both, closed, listed, alternatives, pick, many, maybe, lower_name, upper_name}
 use Rattle.hume_parse.specs.Types.{types}
 use Rattle.hume_parse.specs.Patterns.{patterns, is_upper}
-use Rattle.hume_parse.specs.Expressions.{exps, ExpReaders, expressions, expressions_with, at_level, let_of, if_of, case_of, alternative, raise_of, minus_ways, next_operator, one_operand, with_operator, operands, chain, comparison, sum_layer, starts_atom, is_lower, is_number, update_of, exp_in_parens, tail_ways, Tail, exp_leaf, app_of, con_exp_of, vect_exp}
+use Rattle.hume_parse.specs.Expressions.{exps, ExpReaders, expressions_with, at_level, let_of, if_of, case_of, alternative, raise_of, minus_ways, next_operator, one_operand, with_operator, operands, chain, sum_layer, starts_atom, is_lower, update_of, exp_in_parens, tail_ways, exp_leaf, app_of, con_exp_of}
 use Rattle.hume_parse.proofs.Local.{bind_ok, chosen_ok}
 use Rattle.hume_parse.proofs.Loops.{made_twice, kinds_length, fails_on}
 use Rattle.hume_parse.proofs.Chains.{turn_at, stop_at}
-use Rattle.hume_parse.proofs.ExpressionsRead.{all_shrink}
 
 pub exp_let : (n : ℕ) (ks : List Kind) → 1 < n → next (is_word word.Let) ks ≡ true → (exps n).whole ks ≡ made roll-Exp (made let_of (both (closed (pick lower_name) (Sign symbol.Equals)) (both (closed (exps (n - 1)).whole (Word word.In)) (exps (n - 1)).whole))) (behind ks)
 unfolding expressions_with

@@ -1,32 +1,31 @@
 -- Signs, comparisons and the forms that begin with a word; and the expressions of all depths.
-use Rattle.std.proofs.Common.{◌≡◌, ℕ, zero, suc, ◌+◌, ◌<◌, ◌≤◌, List, [], ◌∷◌, ◌++◌, map, length, Bool, true, false, cond, refl, sym, ap, ◌∙◌, subst, ◌⊎◌, inl, inr, arith, length-append, append_assoc, ◌==◌}
-use Rattle.std.specs.Prelude.{Result, Ok, Err, Option, Some, None, is_some}
-use Rattle.std.specs.List.{flat_map}
-use Rattle.std.proofs.lemmas.Bool.{cases_eq, cases_Bool}
+use Rattle.std.proofs.Common.{◌≡◌, ℕ, zero, suc, ◌+◌, ◌<◌, ◌≤◌, List, [], ◌∷◌, ◌++◌, map, length, Bool, true, false, cond, refl, sym, ap, ◌∙◌, subst, inl, inr, arith, length-append, append_assoc, ◌==◌}
+use Rattle.std.specs.Prelude.{Ok, Option, Some, None, is_some}
+use Rattle.std.proofs.lemmas.Bool.{cases_eq}
 use Rattle.hume_base.specs.declared.keyword.Keyword.TheVariants as word
 use Rattle.hume_base.specs.declared.symbol.Symbol.TheVariants as symbol
 use Rattle.hume_base.specs.declared.token.Kind.{Kind}
-use Rattle.hume_base.specs.declared.token.Kind.TheVariants.{Lower, Upper, Number, Letter, Quoted, Word, Sign}
+use Rattle.hume_base.specs.declared.token.Kind.TheVariants.{Lower, Upper, Number, Word, Sign}
 use Rattle.hume_ast.specs.declared.tree.TyExp.{TyExp}
 use Rattle.hume_ast.specs.declared.tree.Pat.{Pat}
 use Rattle.hume_ast.specs.declared.tree.BinOp.{BinOp}
 use Rattle.hume_ast.specs.declared.tree.BinOp.TheVariants as op
 use Rattle.hume_ast.specs.declared.tree.Exp.{Exp, roll-Exp, out-Exp, roll-out-Exp}
 use Rattle.hume_ast.specs.declared.tree.Exp.TheOpen.{Exp-F}
-use Rattle.hume_ast.specs.Spelling.{spell_exp, spelled_exp, spelled_ty, spelled_pat, spell_alternative, separated, operator_token}
-use Rattle.hume_ast.specs.Fits.{Each, OneOrMore, IfThere, ExpFits, ExpParts, TypeFits, PatFits, exp_level, op_level, left_level, NoNumberFirst}
+use Rattle.hume_ast.specs.Spelling.{spelled_exp, spelled_ty, spelled_pat, spell_alternative, separated, operator_token}
+use Rattle.hume_ast.specs.Fits.{OneOrMore, IfThere, ExpFits, TypeFits, PatFits, op_level, left_level, NoNumberFirst}
 use Rattle.hume_ast.specs.Depth.{exp_depth}
 use Rattle.hume_ast.proofs.Depths.{fits_depth, refit}
-use Rattle.hume_parse.specs.Readers.{Reader, ◌>>=◌, fault, after, led, give, made, both, closed, choice, listed, maybe, alternatives, pick, opens, next, is_sign, lower_name, upper_name, number_of}
+use Rattle.hume_parse.specs.Readers.{Reader, ◌>>=◌, fault, after, led, give, made, both, closed, choice, listed, maybe, alternatives, pick, next, lower_name, upper_name, number_of}
 use Rattle.hume_parse.specs.Types.{types}
 use Rattle.hume_parse.specs.Patterns.{patterns}
-use Rattle.hume_parse.specs.Expressions.{starts_atom, is_number, minus_ways, unary_ways, next_operator, one_operand, comparison, let_of, let_exp, if_of, if_exp, case_of, case_exp, alternative, raise_of, raise_exp, exp_ways, ExpReaders, atom_layer, app_layer, index_layer, unary_layer, term_layer, sum_layer, comparison_layer, conjunction_layer, disjunction_layer, whole_layer, expressions_with, expressions, at_level}
-use Rattle.hume_parse.proofs.Local.{Local, Splits, bind_ok, chosen, local_made, local_opens, local_led, local_bind, local_choice, local_give, local_fault, local_as, splits_as, give_empty, local_as_empty}
+use Rattle.hume_parse.specs.Expressions.{starts_atom, is_number, minus_ways, unary_ways, next_operator, one_operand, comparison, let_of, let_exp, if_of, if_exp, case_of, case_exp, alternative, raise_of, exp_ways, ExpReaders, atom_layer, app_layer, index_layer, unary_layer, term_layer, sum_layer, comparison_layer, conjunction_layer, disjunction_layer, whole_layer, expressions_with, expressions, at_level}
+use Rattle.hume_parse.proofs.Local.{Local, Splits, bind_ok, chosen, local_made, local_opens, local_led, local_bind, local_give, local_fault, local_as, give_empty}
 use Rattle.hume_parse.proofs.TokensApart.{after_ok}
 use Rattle.hume_parse.proofs.TypesRead.{number_reads, upper_reads, lower_reads, types_read}
 use Rattle.hume_parse.proofs.PatternsRead.{PatEnds, patterns_read}
 use Rattle.hume_parse.proofs.Forms.{Reads, Anything, Sound, along, led_reads, closed_reads, both_reads, listed_reads, maybe_reads, maybe_spell, made_reads, made_sound, made_complete, opens_sound, opened, choice_sound, alternatives_sound, respelled, ending, alternatives_local}
-use Rattle.hume_parse.proofs.Levels.{LayerFit, exp_spell, exp_spelled, spelled_out, Stops, stops_above, all_stop, no_atom_next, opens_at, layer_opens, opening, atom_next, not_next, op_low, op_high, is_next, operator_stops, no_operator}
+use Rattle.hume_parse.proofs.Levels.{LayerFit, exp_spell, exp_spelled, spelled_out, Stops, stops_above, all_stop, no_atom_next, opens_at, layer_opens, opening, atom_next, not_next, op_high, is_next, operator_stops, no_operator}
 use Rattle.hume_parse.proofs.Atoms.{atom_reads, app_layer_reads, has_room}
 use Rattle.hume_parse.proofs.Chains.{rolled_fit, chain_reads, operand_sound, operand_complete, local_operand}
 

@@ -1,7 +1,7 @@
 -- What a reader reads: exactly what is spelled at the front, going by the tokens that it takes and the next one. Each
 -- way of putting readers together keeps that.
-use Rattle.std.proofs.Common.{◌≡◌, ℕ, map, zero, suc, ◌+◌, ◌<◌, ◌≤◌, List, [], ◌∷◌, ◌++◌, length, Bool, true, false, cond, refl, sym, ap, ◌∙◌, subst, ◌⊎◌, inl, inr, arith, length-append, append_assoc, append-nil}
-use Rattle.std.specs.Prelude.{Result, Ok, Err, Option, Some, None}
+use Rattle.std.proofs.Common.{◌≡◌, ℕ, map, zero, suc, ◌<◌, ◌≤◌, List, [], ◌∷◌, ◌++◌, length, Bool, true, false, refl, sym, ap, ◌∙◌, subst, inl, inr, arith, length-append, append_assoc}
+use Rattle.std.specs.Prelude.{Ok, Option, Some, None}
 use Rattle.std.specs.List.{flat_map}
 use Rattle.std.proofs.lemmas.Bool.{cases_Bool}
 use Rattle.hume_base.specs.declared.token.Kind.{Kind}
@@ -9,8 +9,8 @@ use Rattle.hume_base.specs.declared.token.Kind.TheVariants.{Sign}
 use Rattle.hume_base.specs.declared.symbol.Symbol.{Symbol}
 use Rattle.hume_ast.specs.Fits.{Each, OneOrMore, IfThere}
 use Rattle.hume_ast.specs.Spelling.{preceded, separated, beside}
-use Rattle.hume_parse.specs.Readers.{Reader, ◌>>=◌, fault, next, behind, is_token, after, led, closed, give, both, made, choice, alternatives, picked, pick, opens, turns, many, cons, listed, several, maybe, is_sign}
-use Rattle.hume_parse.proofs.Local.{Local, Splits, bind_ok, chosen, local_fault, local_led, local_closed, local_give, local_both, local_made, local_choice, local_opens, local_pick, local_many, many_stop, many_turn}
+use Rattle.hume_parse.specs.Readers.{Reader, ◌>>=◌, next, after, led, closed, give, both, made, choice, alternatives, picked, pick, opens, many, cons, listed, several, maybe, is_sign}
+use Rattle.hume_parse.proofs.Local.{Local, bind_ok, chosen, local_fault, local_led, local_closed, local_give, local_both, local_made, local_choice, local_pick, local_many, many_stop, many_turn}
 use Rattle.hume_parse.proofs.TokensApart.{IsFixed, after_ok, after_is, same_symbol-refl}
 
 -- The reader gives the fit thing that is spelled at the front, wherever what follows ends it.

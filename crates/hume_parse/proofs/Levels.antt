@@ -1,21 +1,19 @@
 -- With which tokens the expressions of a level begin, and which may follow them.
-use Rattle.std.proofs.Common.{◌≡◌, ℕ, zero, suc, ◌+◌, ◌<◌, ◌≤◌, ◌==◌, List, [], ◌∷◌, ◌++◌, map, length, Bool, true, false, cond, refl, sym, ap, ◌∙◌, subst, ◌⊎◌, inl, inr, arith, append_assoc}
-use Rattle.std.specs.Prelude.{Option, Some, None, is_some}
+use Rattle.std.proofs.Common.{◌≡◌, ℕ, zero, suc, ◌<◌, ◌≤◌, ◌==◌, List, [], ◌∷◌, ◌++◌, Bool, true, false, cond, refl, sym, ap, ◌∙◌, inl, inr, arith}
+use Rattle.std.specs.Prelude.{Option, Some, None}
 use Rattle.std.proofs.lemmas.Bool.{cases_Bool, eqb-true, eq-eqb}
-use Rattle.hume_base.specs.declared.keyword.Keyword.{Keyword}
 use Rattle.hume_base.specs.declared.keyword.Keyword.TheVariants as word
-use Rattle.hume_base.specs.declared.symbol.Symbol.{Symbol}
 use Rattle.hume_base.specs.declared.symbol.Symbol.TheVariants as symbol
 use Rattle.hume_base.specs.declared.token.Kind.{Kind}
-use Rattle.hume_base.specs.declared.token.Kind.TheVariants.{Lower, Upper, Number, Letter, Quoted, Word, Sign}
+use Rattle.hume_base.specs.declared.token.Kind.TheVariants.{Word, Sign}
 use Rattle.hume_ast.specs.declared.tree.BinOp.{BinOp}
 use Rattle.hume_ast.specs.declared.tree.BinOp.TheVariants as op
-use Rattle.hume_ast.specs.declared.tree.Exp.{Exp, roll-Exp, out-Exp, map-Exp, fold-roll-Exp, roll-out-Exp, out-roll-Exp}
+use Rattle.hume_ast.specs.declared.tree.Exp.{Exp, roll-Exp, out-Exp, map-Exp, fold-roll-Exp, roll-out-Exp}
 use Rattle.hume_ast.specs.declared.tree.Exp.TheOpen.{Exp-F}
 use Rattle.hume_ast.specs.Spelling.{spell_exp, spelled_exp, operator_token}
-use Rattle.hume_ast.specs.Fits.{Each, ExpFits, ExpParts, TypeFits, PatFits, exp_level, op_level, left_level, NoNumberFirst}
-use Rattle.hume_parse.specs.Readers.{next, is_token, is_sign, is_word}
-use Rattle.hume_parse.specs.Expressions.{starts_atom, operator_of, if_level, operator_at, next_operator}
+use Rattle.hume_ast.specs.Fits.{ExpFits, ExpParts, TypeFits, PatFits, exp_level, op_level, left_level}
+use Rattle.hume_parse.specs.Readers.{next, is_token}
+use Rattle.hume_parse.specs.Expressions.{starts_atom, operator_of, if_level, next_operator}
 use Rattle.hume_parse.proofs.TokensApart.{some_same, is_token-true}
 
 pub operator_is : (k : Kind) (o : BinOp) → operator_of k ≡ Some o → k ≡ operator_token o

@@ -1,14 +1,14 @@
 -- What one more turn of a loop keeps.
-use Rattle.std.proofs.Common.{◌≡◌, ℕ, zero, suc, ◌+◌, ◌-◌, ◌<◌, ◌≤◌, List, [], ◌∷◌, ◌++◌, length, map, Bool, true, false, refl, sym, ap, ◌∙◌, arith, length-append, append_assoc, append-nil}
-use Rattle.std.specs.Prelude.{Result, Ok, Err, Option, Some, None}
+use Rattle.std.proofs.Common.{◌≡◌, ℕ, suc, ◌<◌, List, [], ◌∷◌, ◌++◌, length, Bool, true, false, refl, sym, ap, ◌∙◌, arith, length-append, append_assoc, append-nil}
+use Rattle.std.specs.Prelude.{Result, Ok, Err}
 use Rattle.hume_base.specs.declared.symbol.Symbol.{Symbol}
 use Rattle.hume_base.specs.declared.token.Kind.{Kind}
-use Rattle.hume_base.specs.declared.token.Kind.TheVariants.{Word, Sign}
+use Rattle.hume_base.specs.declared.token.Kind.TheVariants.{Sign}
 use Rattle.hume_base.specs.declared.token.Token.{Token}
 use Rattle.hume_parse.specs.Gives.{kinds, Fails}
 use Rattle.hume_parse.specs.declared.fault.Fault.{Fault}
 use Rattle.hume_parse.specs.declared.fault.Fault.TheVariants.{Memory, Syntax, Deep}
-use Rattle.hume_parse.specs.Readers.{Reader, ◌>>=◌, next, behind, is_sign, is_word, after, made, both, closed, many, led}
+use Rattle.hume_parse.specs.Readers.{Reader, ◌>>=◌, next, behind, is_sign, made, many, led}
 use Rattle.hume_parse.proofs.Local.{many_stop, many_turn}
 use Rattle.hume_parse.proofs.Forms.{Reads, led_reads}
 

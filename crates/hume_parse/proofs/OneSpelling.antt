@@ -1,5 +1,5 @@
 -- What is spelled the same is the same.
-use Rattle.std.proofs.Common.{◌≡◌, ℕ, ◌≤◌, max, List, [], ◌++◌, refl, sym, ap, ◌∙◌, arith}
+use Rattle.std.proofs.Common.{◌≡◌, ℕ, max, List, [], ◌++◌, refl, sym, ap, ◌∙◌, arith}
 use Rattle.std.specs.Prelude.{Result, Ok}
 use Rattle.hume_base.specs.declared.token.Kind.{Kind}
 use Rattle.hume_ast.specs.declared.tree.TyExp.{TyExp}

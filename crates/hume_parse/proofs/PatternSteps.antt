@@ -1,11 +1,11 @@
 -- Reading patterns, step by step, as the code goes.
-use Rattle.std.proofs.Common.{◌≡◌, ℕ, zero, suc, ◌+◌, ◌-◌, ◌<◌, ◌≤◌, List, [], ◌∷◌, ◌++◌, length, map, Bool, true, false, refl, sym, ap, ◌∙◌, arith}
-use Rattle.std.specs.Prelude.{Result, Ok, Err, Option, Some, None}
+use Rattle.std.proofs.Common.{◌≡◌, ℕ, zero, suc, ◌-◌, ◌<◌, List, [], ◌∷◌, length, true, false, refl, sym, ap, ◌∙◌, arith}
+use Rattle.std.specs.Prelude.{Result, Ok, Err}
 use native.Mathlib.Numerals.{unary_clauses}
 use Rattle.hume_base.specs.declared.keyword.Keyword.TheVariants as word
 use Rattle.hume_base.specs.declared.symbol.Symbol.TheVariants as symbol
 use Rattle.hume_base.specs.declared.token.Kind.{Kind}
-use Rattle.hume_base.specs.declared.token.Kind.TheVariants.{Word, Sign}
+use Rattle.hume_base.specs.declared.token.Kind.TheVariants.{Sign}
 use Rattle.hume_base.specs.declared.token.Token.{Token}
 use Rattle.hume_ast.specs.declared.tree.Pat.{Pat, roll-Pat}
 use Rattle.hume_ast.specs.declared.tree.Pat.TheVariants as tree
@@ -13,8 +13,8 @@ use Rattle.hume_ast.specs.declared.tree.Pat.TheVariants.{rolls-Name, rolls-Any, 
 use Rattle.hume_ast.specs.declared.tree.Pat.TheOpen.{Pat-F}
 use Rattle.hume_parse.specs.Gives.{kinds, Fails}
 use Rattle.hume_parse.specs.declared.fault.Fault.{Fault}
-use Rattle.hume_parse.specs.Readers.{Reader, ◌>>=◌, next, behind, is_word, is_sign, after, made, both, closed, give, pick, number_of, many, led}
-use Rattle.hume_parse.specs.Patterns.{patterns, pat_leaf, is_upper, con_pat, pat_in_parens, parens_pat, input_pattern}
+use Rattle.hume_parse.specs.Readers.{Reader, next, behind, is_word, is_sign, after, made, both, closed, give, pick, number_of, many, led}
+use Rattle.hume_parse.specs.Patterns.{patterns, pat_leaf, is_upper, con_pat, pat_in_parens, input_pattern}
 use Rattle.hume_parse.proofs.Loops.{made_twice, kinds_length, fails_on}
 
 pub pat_zero : (n : ℕ) (ts : List Token) → n ≡ 0 → (patterns n).atom (kinds ts) ≡ Err (length ts)

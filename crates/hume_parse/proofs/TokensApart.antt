@@ -1,6 +1,6 @@
 -- How tokens are told apart.
-use Rattle.std.proofs.Common.{◌≡◌, ℕ, List, [], ◌∷◌, Bool, true, false, refl, sym, ap, ◌∙◌, subst}
-use Rattle.std.specs.Prelude.{Result, Ok, Err, Some, bytes_eq}
+use Rattle.std.proofs.Common.{◌≡◌, List, [], ◌∷◌, true, refl, sym, ap, ◌∙◌}
+use Rattle.std.specs.Prelude.{Ok, Some}
 use Rattle.hume_base.specs.Keywords.{keyword_text, keyword_of}
 use Rattle.hume_base.specs.Symbols.{symbol_text, symbol_of}
 use Rattle.hume_base.specs.declared.keyword.Keyword.{Keyword}
@@ -8,9 +8,9 @@ use Rattle.hume_base.specs.declared.symbol.Symbol.{Symbol}
 use Rattle.hume_base.specs.declared.keyword.Keyword.TheVariants as keyword
 use Rattle.hume_base.specs.declared.symbol.Symbol.TheVariants as symbol
 use Rattle.hume_base.specs.declared.token.Kind.{Kind}
-use Rattle.hume_base.specs.declared.token.Kind.TheVariants.{Lower, Upper, Number, Letter, Quoted, Word, Sign}
+use Rattle.hume_base.specs.declared.token.Kind.TheVariants.{Word, Sign}
 use Rattle.std.proofs.lemmas.Slice.Eq.{bytes_eq-Decides}
-use Rattle.hume_parse.specs.Readers.{next, behind, is_token, is_sign, is_word, same_symbol, same_keyword, after}
+use Rattle.hume_parse.specs.Readers.{next, behind, is_token, same_symbol, same_keyword, after}
 use Rattle.hume_parse.proofs.Local.{chosen_ok}
 
 symbol_of-text : (symbol : Symbol) → symbol_of (symbol_text symbol) ≡ Some symbol

@@ -1,19 +1,18 @@
 -- Reading types, step by step, as the code goes.
-use Rattle.std.proofs.Common.{◌≡◌, ℕ, zero, suc, ◌+◌, ◌-◌, ◌<◌, ◌≤◌, List, [], ◌∷◌, ◌++◌, length, map, Bool, true, false, refl, sym, ap, ◌∙◌, arith}
-use Rattle.std.specs.Prelude.{Result, Ok, Err, Option, Some, None}
+use Rattle.std.proofs.Common.{◌≡◌, ℕ, zero, suc, ◌-◌, ◌<◌, List, [], ◌∷◌, length, true, false, refl, ap, arith}
+use Rattle.std.specs.Prelude.{Ok, Err}
 use native.Mathlib.Numerals.{unary_clauses}
 use Rattle.hume_base.specs.declared.keyword.Keyword.TheVariants as word
 use Rattle.hume_base.specs.declared.symbol.Symbol.TheVariants as symbol
-use Rattle.hume_base.specs.declared.symbol.Symbol.{Symbol}
 use Rattle.hume_base.specs.declared.token.Kind.{Kind}
 use Rattle.hume_base.specs.declared.token.Kind.TheVariants.{Word, Sign}
 use Rattle.hume_base.specs.declared.token.Token.{Token}
-use Rattle.hume_ast.specs.declared.tree.TyExp.{TyExp, roll-TyExp}
+use Rattle.hume_ast.specs.declared.tree.TyExp.{roll-TyExp}
 use Rattle.hume_ast.specs.declared.tree.TyExp.TheVariants as tree
 use Rattle.hume_ast.specs.declared.tree.TyExp.TheVariants.{rolls-Bool, rolls-Char, rolls-Int, rolls-Nat, rolls-Vector, rolls-Named, rolls-Tuple}
 use Rattle.hume_ast.specs.declared.tree.TyExp.TheOpen.{TyExp-F}
 use Rattle.hume_parse.specs.Gives.{kinds}
-use Rattle.hume_parse.specs.Readers.{Reader, ◌>>=◌, next, behind, is_word, is_sign, after, made, both, closed, pick, number_of, upper_name, several, listed, many, led}
+use Rattle.hume_parse.specs.Readers.{◌>>=◌, next, behind, is_word, is_sign, made, both, closed, pick, number_of, upper_name, several}
 use Rattle.hume_parse.specs.Types.{types, vector_of}
 use Rattle.hume_parse.proofs.Loops.{made_twice, kinds_length}
 

@@ -1,19 +1,19 @@
 -- The types that are read.
-use Rattle.std.proofs.Common.{◌≡◌, ℕ, zero, suc, ◌+◌, ◌<◌, ◌≤◌, List, [], ◌∷◌, ◌++◌, map, length, Bool, true, false, refl, sym, ap, ◌∙◌, subst, arith, append_assoc}
-use Rattle.std.specs.Prelude.{Result, Ok, Err, Option, Some, None}
+use Rattle.std.proofs.Common.{◌≡◌, ℕ, zero, suc, ◌<◌, ◌≤◌, List, [], ◌∷◌, ◌++◌, map, length, refl, sym, ap, ◌∙◌, subst, arith}
+use Rattle.std.specs.Prelude.{Ok, Some}
 use Rattle.hume_base.specs.declared.keyword.Keyword.TheVariants as word
 use Rattle.hume_base.specs.declared.symbol.Symbol.TheVariants as symbol
 use Rattle.hume_base.specs.declared.token.Kind.{Kind}
-use Rattle.hume_base.specs.declared.token.Kind.TheVariants.{Lower, Upper, Number, Letter, Quoted, Word, Sign}
+use Rattle.hume_base.specs.declared.token.Kind.TheVariants.{Lower, Upper, Number, Quoted, Word, Sign}
 use Rattle.hume_ast.specs.declared.tree.TyExp.{TyExp, roll-TyExp, out-TyExp, map-TyExp, fold-roll-TyExp, roll-out-TyExp, out-roll-TyExp}
 use Rattle.hume_ast.specs.declared.tree.TyExp.TheOpen.{TyExp-F}
 use Rattle.hume_ast.specs.Spelling.{spell_ty, spelled_ty, separated}
 use Rattle.hume_ast.specs.Fits.{Each, TypeFits, TypeParts}
-use Rattle.hume_parse.specs.Readers.{Reader, fault, led, give, made, both, closed, several, alternatives, pick, opens, number_of, upper_name, lower_name, port_name}
+use Rattle.hume_parse.specs.Readers.{Reader, led, both, closed, several, alternatives, pick, number_of, upper_name, lower_name, port_name}
 use Rattle.hume_parse.specs.Types.{vector_of, vector_type, tuple_type, type_ways, types}
-use Rattle.hume_parse.proofs.Local.{Local, local_made, local_opens, local_fault, local_give, local_led}
+use Rattle.hume_parse.proofs.Local.{Local, local_made, local_opens, local_fault}
 use Rattle.hume_parse.proofs.TokensApart.{some_same, IsFixed}
-use Rattle.hume_parse.proofs.Forms.{Reads, Anything, All, Sound, pick_reads, give_reads, led_reads, closed_reads, both_reads, made_reads, made_sound, made_complete, opens_sound, opened, leaf_sound, leaf_local, several_reads, alternatives_sound, alternatives_local}
+use Rattle.hume_parse.proofs.Forms.{Reads, Anything, All, Sound, pick_reads, led_reads, closed_reads, both_reads, made_reads, made_sound, made_complete, opens_sound, opened, leaf_sound, leaf_local, several_reads, alternatives_sound, alternatives_local}
 
 number_is : (k : Kind) (n : ℕ) → number_of k ≡ Some n → (k ≡ Number n) × Unit {0}
 number_is (Number m) n e = (ap Number (some_same m n e), tt)

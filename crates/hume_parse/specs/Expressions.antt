@@ -1,5 +1,5 @@
 -- Reading expressions. In all of these, child and others like it read parts that are one level deeper.
-use Rattle.std.specs.Prelude.{ℕ, zero, suc, ◌==◌, nat_le, List, [], ◌∷◌, ◌++◌, length, Bool, true, false, if◌then◌else◌, is_some, Option, Some, None, Result, Ok, Err}
+use Rattle.std.specs.Prelude.{ℕ, zero, suc, ◌==◌, nat_le, List, [], ◌∷◌, length, Bool, true, false, if◌then◌else◌, is_some, Option, Some, None, Ok}
 use Rattle.hume_base.specs.declared.keyword.Keyword.TheVariants as word
 use Rattle.hume_base.specs.declared.symbol.Symbol.TheVariants as symbol
 use Rattle.hume_base.specs.declared.token.Kind.{Kind}
@@ -12,7 +12,7 @@ use Rattle.hume_ast.specs.declared.tree.Exp.{Exp, roll-Exp}
 use Rattle.hume_ast.specs.declared.tree.Exp.TheOpen.{Exp-F}
 use Rattle.hume_ast.specs.Fits.{op_level}
 use Rattle.hume_ast.specs.Depth.{exp_depth}
-use Rattle.hume_parse.specs.Readers.{Reader, ◌>>=◌, fault, next, behind, is_word, is_sign, led, closed, give, both, made, choice, alternatives, any_token, pick, opens, many, listed, maybe, number_of, lower_name, upper_name}
+use Rattle.hume_parse.specs.Readers.{Reader, ◌>>=◌, fault, behind, is_word, is_sign, led, closed, give, both, made, alternatives, any_token, pick, opens, many, listed, maybe, number_of, lower_name, upper_name}
 use Rattle.hume_parse.specs.Types.{types}
 use Rattle.hume_parse.specs.Patterns.{is_upper, patterns}
 

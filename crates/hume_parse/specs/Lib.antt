@@ -3,4 +3,3 @@ pub mod Readers
 pub mod Types
 pub mod Patterns
 pub mod Expressions
-pub mod Declarations

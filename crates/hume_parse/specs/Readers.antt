@@ -1,12 +1,12 @@
 -- Reading something from the front of a list of tokens, as functions on lists. An error is the number of tokens that are
 -- left, from the wrong one on.
-use Rattle.std.specs.Prelude.{◌≡◌, ℕ, zero, suc, List, [], ◌∷◌, ◌++◌, length, Bool, true, false, if◌then◌else◌, bytes_eq, Option, Some, None, Result, Ok, Err}
+use Rattle.std.specs.Prelude.{ℕ, zero, suc, List, [], ◌∷◌, length, Bool, true, false, if◌then◌else◌, bytes_eq, Option, Some, None, Result, Ok, Err}
 use Rattle.hume_base.specs.Keywords.{keyword_text}
 use Rattle.hume_base.specs.Symbols.{symbol_text}
 use Rattle.hume_base.specs.declared.keyword.Keyword.{Keyword}
 use Rattle.hume_base.specs.declared.symbol.Symbol.{Symbol}
 use Rattle.hume_base.specs.declared.token.Kind.{Kind}
-use Rattle.hume_base.specs.declared.token.Kind.TheVariants.{Lower, Upper, Number, Letter, Quoted, Word, Sign}
+use Rattle.hume_base.specs.declared.token.Kind.TheVariants.{Lower, Upper, Number, Quoted, Word, Sign}
 
 -- What is read, and the tokens behind it.
 abbrev pub Reader : Type 0 → Type 0

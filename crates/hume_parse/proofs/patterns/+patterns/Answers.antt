@@ -1,4 +1,4 @@
-use Rattle.std.proofs.Common.{◌≡◌, ℕ, ◌-◌, ◌<◌, length, [], sym, ap, refl, arith}
+use Rattle.std.proofs.Common.{◌-◌, [], sym, refl, arith}
 use Rattle.std.proofs.lemmas.Result.{err_from_is_err_and}
 use Rattle.hume_base.specs.declared.symbol.Symbol.TheVariants.{Comma}
 use Rattle.hume_parse.specs.Patterns.{patterns, starts_pat}

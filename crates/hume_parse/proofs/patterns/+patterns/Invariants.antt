@@ -1,4 +1,4 @@
-use Rattle.std.proofs.Common.{◌≡◌, ℕ, ◌+◌, ◌-◌, ◌<◌, ◌≤◌, ◌*◌, length}
+use Rattle.std.proofs.Common.{◌≡◌, ◌+◌, ◌-◌, ◌<◌, ◌*◌, length}
 use Rattle.hume_base.specs.declared.symbol.Symbol.TheVariants.{CloseParen, Comma}
 use Rattle.hume_base.specs.declared.token.Kind.TheVariants.{Sign}
 use Rattle.hume_ast.specs.declared.tree.Pat.{roll-Pat}

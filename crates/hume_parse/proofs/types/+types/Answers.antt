@@ -1,4 +1,4 @@
-use Rattle.std.proofs.Common.{◌≡◌, ℕ, ◌<◌, length, sym, refl, arith, []}
+use Rattle.std.proofs.Common.{sym, refl, arith, []}
 use Rattle.std.proofs.lemmas.Result.{err_from_is_err_and}
 use Rattle.hume_parse.proofs.Loops.{parts_stop, parts_turn, parts_fail}
 use Rattle.hume_parse.proofs.TypesRead.{types_read}
