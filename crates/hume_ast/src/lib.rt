@@ -1,0 +1,9 @@
+//! The trees that programs are read into, and their spelling. `specs/Spelling.antt` says which tokens a tree stands for,
+//! and `specs/Fits.antt` which trees the grammar has.
+#![tactic(auto)]
+
+mod laws;
+mod tree;
+
+pub use laws::depth_decides;
+pub use tree::{BinOp, Decl, Exp, Pat, Program, TyExp};

@@ -1,0 +1,35 @@
+-- What is spelled the same is the same.
+use Rattle.std.proofs.Common.{◌≡◌, ℕ, max, List, [], ◌++◌, refl, sym, ap, ◌∙◌, arith}
+use Rattle.std.specs.Prelude.{Result, Ok}
+use Rattle.hume_base.specs.declared.token.Kind.{Kind}
+use Rattle.hume_ast.specs.declared.tree.TyExp.{TyExp}
+use Rattle.hume_ast.specs.declared.tree.Pat.{Pat}
+use Rattle.hume_ast.specs.declared.tree.Exp.{Exp}
+use Rattle.hume_ast.specs.Spelling.{spelled_ty, spelled_pat, spelled_exp}
+use Rattle.hume_ast.specs.Fits.{TypeFits, PatFits, ExpFits}
+use Rattle.hume_ast.proofs.Depths.{fits_depth, refit}
+use Rattle.hume_parse.specs.Readers.{Reader}
+use Rattle.hume_parse.proofs.Forms.{Reads}
+use Rattle.hume_parse.proofs.TypesRead.{types_read}
+use Rattle.hume_parse.proofs.PatternsRead.{patterns_read}
+use Rattle.hume_parse.proofs.ExpressionsRead.{expressions_read}
+
+pair_same : {A : Type 0} (a b : A) (rest : List Kind) → ◌≡◌ {A = Result (A × List Kind) ℕ} (Ok (a, rest)) (Ok (b, rest)) → a ≡ b
+pair_same {A = A} a b rest e = let pairs : (a, rest) ≡ (b, rest) = cc in ap (λ (y : A × List Kind). y.0) pairs
+
+module _ {A : Type 0} {spell : A → List Kind} {Fit : A → Type 0} {Ends : List Kind → Type 0} {p : Reader A} (reads : Reads spell Fit Ends p) (ends : Ends []) where
+  same : (a b : A) → Fit a → Fit b → spell a ≡ spell b → a ≡ b
+  same a b f g e = pair_same a b [] (sym (reads.complete a [] f ends) ∙ ap (λ ks. p (ks ++ [])) e ∙ reads.complete b [] g ends)
+
+pub one_type : (room : ℕ) (t u : TyExp) → TypeFits room t → TypeFits room u → spelled_ty t ≡ spelled_ty u → t ≡ u
+one_type room t u = same (types_read room) tt t u
+
+pub one_pattern : (room : ℕ) (p q : Pat) → PatFits room 1 p → PatFits room 1 q → spelled_pat p ≡ spelled_pat q → p ≡ q
+one_pattern room p q = same (patterns_read room).whole refl p q
+
+pub one_expression : (bound m n : ℕ) (e f : Exp) → ExpFits bound m 1 e → ExpFits bound n 1 f → spelled_exp e ≡ spelled_exp f → e ≡ f
+one_expression bound m n e f fe ff is =
+    let room = max m n in
+    same (expressions_read bound room).whole tt e f
+    (refit bound m room 1 e (omega (arith, fits_depth bound m 1 e fe)) fe)
+    (refit bound n room 1 f (omega (arith, fits_depth bound n 1 f ff)) ff) is

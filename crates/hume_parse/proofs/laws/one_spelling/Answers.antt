@@ -1,0 +1,11 @@
+use Rattle.hume_parse.proofs.OneSpelling.{one_type, one_pattern, one_expression}
+use Rattle.hume_parse.proofs.laws.one_spelling.Goals as goal
+
+pub returns-clause-types : goal.returns-clause-types
+returns-clause-types c = one_type
+
+pub returns-clause-patterns : goal.returns-clause-patterns
+returns-clause-patterns c = one_pattern
+
+pub returns-clause-expressions : goal.returns-clause-expressions
+returns-clause-expressions c = one_expression

@@ -1,0 +1,5 @@
+pub mod Gives
+pub mod Readers
+pub mod Types
+pub mod Patterns
+pub mod Expressions
