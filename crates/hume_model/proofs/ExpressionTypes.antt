@@ -199,15 +199,15 @@ module _ (core : Core) where
         typed (HasType.con number place sum {parts = es} found within parts) env is =
             ap (is_outcome core (shape.Named number)) (eval-con call env place es)
             ∙ with_all_typed (fields_at sum place) (shape.Named number) _ _ (all_typed parts env is) (λ vs all.
-                data-value core.types down number sum found (value.Con place vs) ∙ ap (is_con_of (is_value core.types) sum) (out-con place vs) ∙ both_true _ _ (lt-ltb place (length sum.cons) within) all)
+            data-value core.types down number sum found (value.Con place vs) ∙ ap (is_con_of (is_value core.types) sum) (out-con place vs) ∙ both_true _ _ (lt-ltb place (length sum.cons) within) all)
         typed (HasType.tuple {parts = es} {tys = ts} parts) env is =
             ap (is_outcome core (shape.Tuple ts)) (eval-tuple call env es)
             ∙ with_all_typed ts (shape.Tuple ts) _ _ (all_typed parts env is) (λ vs all.
-                tuple-value named (value.Tuple vs) ts ∙ ap (is_tuple_of (map (is_value core.types) ts)) (out-tuple vs) ∙ all)
+            tuple-value named (value.Tuple vs) ts ∙ ap (is_tuple_of (map (is_value core.types) ts)) (out-tuple vs) ∙ all)
         typed (HasType.vector count item {parts = es} parts) env is =
             ap (is_outcome core (shape.Vector count item)) (eval-vector call env es)
             ∙ with_all_typed (replicate {A = Ty} count item) (shape.Vector count item) _ _ (all_typed parts env is) (λ vs all.
-                let items = replicated count item vs all in vector_of count item vs (eq-eqb (length vs) count items.0) items.1)
+            let items = replicated count item vs all in vector_of count item vs (eq-eqb (length vs) count items.0) items.1)
         typed (HasType.arithmetic o t {parts = es} arith_op num parts) env is =
             ap (is_outcome core t) (eval-prim call env o t es)
             ∙ with_all_typed (t ∷ t ∷ []) t _ _ (all_typed parts env is) (λ vs all. on_two o t t vs (λ a b. arithmetic_typed o t a b arith_op num) all)
@@ -226,12 +226,12 @@ module _ (core : Core) where
         typed (HasType.index count places item {vector = v} {place = p} num whole at) env is =
             ap (is_outcome core item) (eval-index call env count v p)
             ∙ and_then_typed (shape.Vector count item) item _ _ (typed whole env is) (λ a is_a.
-                and_then_typed places item _ _ (typed at env is) (λ b is_b. index_typed count item a b is_a))
+            and_then_typed places item _ _ (typed at env is) (λ b is_b. index_typed count item a b is_a))
         typed (HasType.update count places item {vector = v} {place = p} {new_item = e} num whole at new) env is =
             ap (is_outcome core (shape.Vector count item)) (eval-update call env count v p e)
             ∙ and_then_typed (shape.Vector count item) (shape.Vector count item) _ _ (typed whole env is) (λ a is_a.
-                and_then_typed places (shape.Vector count item) _ _ (typed at env is) (λ b is_b.
-                and_then_typed item (shape.Vector count item) _ _ (typed new env is) (λ x is_x. update_typed count item a b x is_a is_x)))
+            and_then_typed places (shape.Vector count item) _ _ (typed at env is) (λ b is_b.
+            and_then_typed item (shape.Vector count item) _ _ (typed new env is) (λ x is_x. update_typed count item a b x is_a is_x)))
         typed (HasType.choice {ty = t} {test = c} {when_true = a} {when_false = b} test first second) env is =
             ap (is_outcome core t) (eval-choice call env c a b)
             ∙ and_then_typed shape.Bool t _ _ (typed test env is) (λ v is_v. either (GivesOf t) (word_of_value v == 0) _ _ (typed second env is) (typed first env is))

@@ -6,6 +6,8 @@ pub mod Meaning
 pub mod Calls
 pub mod Typing
 pub mod Results
+pub mod ResultTyping
+pub mod BoxTyping
 pub mod Firing
 pub mod HalfSteps
 pub mod Lockstep
