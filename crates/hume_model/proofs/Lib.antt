@@ -11,7 +11,9 @@ pub mod Powers
 pub mod Ranges
 pub mod Ranks
 pub mod ResultTypes
+pub mod SideTypes
 pub mod Sides
 pub mod Small
 pub mod Starts
+pub mod StateTypes
 pub mod Widths

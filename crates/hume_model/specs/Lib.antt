@@ -14,3 +14,4 @@ pub mod Lockstep
 pub mod Start
 pub mod Nodes
 pub mod WellFormed
+pub mod StateTyping

@@ -16,6 +16,9 @@ ghost use Rattle.hume_model.specs.Results.{result_of};
 ghost use Rattle.hume_model.specs.ResultTyping.{GivesOutputs, is_result, are_outputs};
 ghost use Rattle.hume_model.specs.Firing.{fire};
 ghost use Rattle.hume_model.specs.BoxTyping.{BoxIsTyped, port_types};
+ghost use Rattle.hume_model.specs.declared.state.State.{State};
+ghost use Rattle.hume_model.specs.Lockstep.{superstep};
+ghost use Rattle.hume_model.specs.StateTyping.{IsTypedNet, IsTypedState};
 ghost use Rattle.hume_model.specs.WellFormed.{HasSoundParts};
 
 /// A call gives what the body of the first equation that the arguments match gives in the whole program.
@@ -48,4 +51,9 @@ pub fn results_keep_types()
 pub fn firing_keeps_types()
     ensures { (core : Core) → HasSoundParts core → (b : BoxC) → BoxIsTyped core b → (ins : List (Option Value)) → are_outputs core.types (port_types b.ins) ins ≡ true
         → (order : List ℕ) (firing : TheFiring) → fire core b order ins ≡ Some firing → are_outputs core.types (port_types b.outs) firing.outs ≡ true }
+{}
+
+/// A superstep keeps types: each wire, each pending output and each input to come has a value of its type.
+pub fn supersteps_keep_types()
+    ensures { (core : Core) → IsTypedNet core → (state : State) → IsTypedState core state → IsTypedState core (superstep core state) }
 {}

@@ -28,7 +28,7 @@ pub use core_tree::{
 pub use evaluate::eval_plain;
 pub use laws::{
     calls_unfold, evaluation_keeps_types, firing_keeps_types, results_keep_types,
-    what_is_taken_is_there,
+    supersteps_keep_types, what_is_taken_is_there,
 };
 pub use net::{Net, net_make};
 pub use outcome::{DIV_ZERO, NO_CASE, Outcome, Outputs, RANGE, Several};
