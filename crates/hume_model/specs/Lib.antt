@@ -15,3 +15,4 @@ pub mod Start
 pub mod Nodes
 pub mod WellFormed
 pub mod StateTyping
+pub mod Limits

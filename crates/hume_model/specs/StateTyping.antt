@@ -26,7 +26,7 @@ pub record WiresAgree (core : Core) : Type 0 where
   pub outputs : (w : ℕ) (wire : WireC) (b : BoxC) (port : PortC) → slice_get core.wires w ≡ Some wire → slice_get core.nodes wire.from ≡ Some (Rules b)
       → slice_get b.outs wire.from_port ≡ Some port → wire.ty ≡ port.ty
 
--- all that the meaning of a net rests on
+-- all that the types of a net's values rest on
 pub record IsTypedNet (core : Core) : Type 0 where
   pub sound : HasSoundParts core
   pub boxes : (n : ℕ) (b : BoxC) → slice_get core.nodes n ≡ Some (Rules b) → BoxIsTyped core b
