@@ -4,12 +4,17 @@ pub mod CallTypes
 pub mod Evaluation
 pub mod ExpressionTypes
 pub mod Fields
+pub mod FiringTypes
 pub mod Layers
 pub mod PatternTypes
 pub mod Positions
 pub mod Powers
 pub mod Ranges
 pub mod Ranks
+pub mod ResultTypes
+pub mod SideTypes
 pub mod Sides
+pub mod Small
 pub mod Starts
+pub mod StateTypes
 pub mod Widths

@@ -6,9 +6,13 @@ pub mod Meaning
 pub mod Calls
 pub mod Typing
 pub mod Results
+pub mod ResultTyping
+pub mod BoxTyping
 pub mod Firing
 pub mod HalfSteps
 pub mod Lockstep
 pub mod Start
 pub mod Nodes
 pub mod WellFormed
+pub mod StateTyping
+pub mod Limits

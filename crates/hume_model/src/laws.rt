@@ -3,12 +3,22 @@ ghost use Rattle.std.specs.Prelude.{◌≡◌, ℕ, ◌<◌, true, List, Option,
 ghost use Rattle.std.specs.Option.{is_some, option_flatten};
 ghost use Rattle.hume_base.specs.declared.types.Ty.{Ty};
 ghost use Rattle.hume_base.specs.declared.types.Value.{Value};
+ghost use Rattle.hume_model.specs.declared.core_tree.BoxC.{BoxC};
 ghost use Rattle.hume_model.specs.declared.core_tree.Expr.{Expr};
+ghost use Rattle.hume_model.specs.declared.state.Firing.{Firing as TheFiring};
 ghost use Rattle.hume_model.specs.declared.core_tree.InPat.{InPat};
+ghost use Rattle.hume_model.specs.declared.core_tree.Res.{Res};
 ghost use Rattle.hume_model.specs.declared.core_tree.Core.{Core};
 ghost use Rattle.hume_model.specs.Meaning.{eval, eval_with, call_below, call_of};
 ghost use Rattle.hume_model.specs.Matching.{fits, taken_at};
 ghost use Rattle.hume_model.specs.Typing.{HasType, AreOf, is_outcome};
+ghost use Rattle.hume_model.specs.Results.{result_of};
+ghost use Rattle.hume_model.specs.ResultTyping.{GivesOutputs, is_result, are_outputs};
+ghost use Rattle.hume_model.specs.Firing.{fire};
+ghost use Rattle.hume_model.specs.BoxTyping.{BoxIsTyped, port_types};
+ghost use Rattle.hume_model.specs.declared.state.State.{State};
+ghost use Rattle.hume_model.specs.Lockstep.{superstep};
+ghost use Rattle.hume_model.specs.StateTyping.{IsTypedNet, IsTypedState};
 ghost use Rattle.hume_model.specs.WellFormed.{HasSoundParts};
 
 /// A call gives what the body of the first equation that the arguments match gives in the whole program.
@@ -29,4 +39,21 @@ pub fn evaluation_keeps_types()
 pub fn what_is_taken_is_there()
     ensures { (pats : List InPat) (ins : List (Option Value)) (i : ℕ) → fits pats ins ≡ true
         → slice_get (taken_at pats ins) i ≡ Some true → is_some (option_flatten (slice_get ins i)) ≡ true }
+{}
+
+/// The same for the results of rules and handlers: outputs of the box's types, or an exception of the core.
+pub fn results_keep_types()
+    ensures { (core : Core) → HasSoundParts core → (tys vars : List Ty) (res : Res) → GivesOutputs core tys vars res
+        → (env : List Value) → AreOf core.types vars env → is_result core tys (result_of core env res) ≡ true }
+{}
+
+/// What a box gives when it fires is of its outputs' types, if the values at its inputs are of theirs.
+pub fn firing_keeps_types()
+    ensures { (core : Core) → HasSoundParts core → (b : BoxC) → BoxIsTyped core b → (ins : List (Option Value)) → are_outputs core.types (port_types b.ins) ins ≡ true
+        → (order : List ℕ) (firing : TheFiring) → fire core b order ins ≡ Some firing → are_outputs core.types (port_types b.outs) firing.outs ≡ true }
+{}
+
+/// A superstep keeps types: each wire, each pending output and each input to come has a value of its type.
+pub fn supersteps_keep_types()
+    ensures { (core : Core) → IsTypedNet core → (state : State) → IsTypedState core state → IsTypedState core (superstep core state) }
 {}

@@ -18,13 +18,18 @@ mod results;
 mod start;
 mod state;
 mod super_steps;
+#[cfg(test)]
+mod tests;
 
 pub use core_tree::{
     BoxC, Core, EqC, ExnDef, Expr, FunC, HandC, InPat, NodeC, Op, PatC, PortC, Res, RuleC, StreamC,
     WireC,
 };
 pub use evaluate::eval_plain;
-pub use laws::{calls_unfold, evaluation_keeps_types, what_is_taken_is_there};
+pub use laws::{
+    calls_unfold, evaluation_keeps_types, firing_keeps_types, results_keep_types,
+    supersteps_keep_types, what_is_taken_is_there,
+};
 pub use net::{Net, net_make};
 pub use outcome::{DIV_ZERO, NO_CASE, Outcome, Outputs, RANGE, Several};
 pub use state::{Firing, HalfStep, Part, State};

@@ -1,0 +1,53 @@
+-- When the boxes of a core have rules, handlers and wires that fit the types of their ports.
+use Rattle.std.specs.Prelude.{◌≡◌, ℕ, ◌&&◌, Bool, true, false, List, [], ◌∷◌, ◌++◌, map, Option, Some, None, slice_get}
+use Rattle.std.specs.Option.{option_flatten}
+use Rattle.std.specs.List.{list_all}
+use Rattle.hume_base.specs.declared.types.Ty.{Ty}
+use Rattle.hume_base.specs.declared.types.Types.{Types}
+use Rattle.hume_base.specs.declared.types.Value.{Value}
+use Rattle.hume_base.specs.Values.{is_value}
+use Rattle.hume_model.specs.declared.core_tree.InPat.{InPat}
+use Rattle.hume_model.specs.declared.core_tree.InPat.TheVariants.{Star, AnyStar, Any, Built}
+use Rattle.hume_model.specs.declared.core_tree.PatC.{PatC}
+use Rattle.hume_model.specs.declared.core_tree.RuleC.{RuleC}
+use Rattle.hume_model.specs.declared.core_tree.HandC.{HandC}
+use Rattle.hume_model.specs.declared.core_tree.PortC.{PortC}
+use Rattle.hume_model.specs.declared.core_tree.BoxC.{BoxC}
+use Rattle.hume_model.specs.declared.core_tree.ExnDef.{ExnDef}
+use Rattle.hume_model.specs.declared.core_tree.Core.{Core}
+use Rattle.hume_model.specs.Typing.{IsPattern}
+use Rattle.hume_model.specs.ResultTyping.{GivesOutputs}
+
+abbrev pub port_types : List PortC → List Ty
+port_types ports = map (λ (port : PortC). port.ty) ports
+
+-- the positions of a rule fit the types of the inputs, and the rule's variables have the types
+pub data PositionsHave (types : Types) : List Ty → List InPat → List Ty → Type 0 where
+  none : PositionsHave types [] [] []
+  star : {ty : Ty} {tys vars : List Ty} {pats : List InPat} → PositionsHave types tys pats vars → PositionsHave types (ty ∷ tys) (Star ∷ pats) vars
+  any_star : {ty : Ty} {tys vars : List Ty} {pats : List InPat} → PositionsHave types tys pats vars → PositionsHave types (ty ∷ tys) (AnyStar ∷ pats) vars
+  any : {ty : Ty} {tys vars : List Ty} {pats : List InPat} → PositionsHave types tys pats vars → PositionsHave types (ty ∷ tys) (Any ∷ pats) vars
+  built : {ty : Ty} {tys vars more : List Ty} {p : PatC} {pats : List InPat} → IsPattern types ty p vars → PositionsHave types tys pats more
+      → PositionsHave types (ty ∷ tys) (Built p ∷ pats) (vars ++ more)
+
+-- the rule's result gives outputs of the box's types
+pub record RuleIsTyped (core : Core) (b : BoxC) (rule : RuleC) : Type 0 where
+  pub vars : List Ty
+  pub positions : PositionsHave core.types (port_types b.ins) rule.pats vars
+  pub outputs : GivesOutputs core (port_types b.outs) vars rule.result
+
+abbrev pub carried_types : Option Ty → List Ty
+carried_types None = []
+carried_types (Some ty) = ty ∷ []
+
+-- the handler's result does, and what it binds is what the exception carries
+pub record HandlerIsTyped (core : Core) (b : BoxC) (handler : HandC) : Type 0 where
+  pub vars : List Ty
+  pub binds : (exn : ExnDef) → slice_get core.exns handler.exn ≡ Some exn → handler.bound ≡ true → vars ≡ carried_types exn.carries
+  pub nothing : handler.bound ≡ false → vars ≡ []
+  pub outputs : GivesOutputs core (port_types b.outs) vars handler.result
+
+-- each rule and each handler of the box
+pub record BoxIsTyped (core : Core) (b : BoxC) : Type 0 where
+  pub rules : (number : ℕ) (rule : RuleC) → slice_get b.rules number ≡ Some rule → RuleIsTyped core b rule
+  pub handlers : (number : ℕ) (handler : HandC) → slice_get b.handlers number ≡ Some handler → HandlerIsTyped core b handler

@@ -1,0 +1,41 @@
+-- When a state has, on each wire and as each output or input to come, a value of its type.
+use Rattle.std.specs.Prelude.{◌≡◌, ℕ, Bool, true, List, Option, Some, slice_get}
+use Rattle.std.specs.List.{list_all}
+use Rattle.hume_base.specs.declared.types.Value.{Value}
+use Rattle.hume_base.specs.Values.{is_value}
+use Rattle.hume_model.specs.declared.core_tree.PortC.{PortC}
+use Rattle.hume_model.specs.declared.core_tree.BoxC.{BoxC}
+use Rattle.hume_model.specs.declared.core_tree.StreamC.{StreamC}
+use Rattle.hume_model.specs.declared.core_tree.NodeC.TheVariants.{Rules, From}
+use Rattle.hume_model.specs.declared.core_tree.WireC.{WireC}
+use Rattle.hume_model.specs.declared.core_tree.Core.{Core}
+use Rattle.hume_model.specs.declared.state.State.{State}
+use Rattle.hume_model.specs.ResultTyping.{are_outputs}
+use Rattle.hume_model.specs.BoxTyping.{BoxIsTyped, port_types}
+use Rattle.hume_model.specs.Lockstep.{on_wire, part_of}
+use Rattle.hume_model.specs.WellFormed.{HasSoundParts}
+
+-- wires that meet in one place have one type, which is that of the box's port there
+pub record WiresAgree (core : Core) : Type 0 where
+  pub consumers : (w x : ℕ) (wire other : WireC) → slice_get core.wires w ≡ Some wire → slice_get core.wires x ≡ Some other
+      → other.to ≡ wire.to → other.to_port ≡ wire.to_port → other.ty ≡ wire.ty
+  pub producers : (w x : ℕ) (wire other : WireC) → slice_get core.wires w ≡ Some wire → slice_get core.wires x ≡ Some other
+      → other.from ≡ wire.from → other.from_port ≡ wire.from_port → other.ty ≡ wire.ty
+  pub inputs : (w : ℕ) (wire : WireC) (b : BoxC) (port : PortC) → slice_get core.wires w ≡ Some wire → slice_get core.nodes wire.to ≡ Some (Rules b)
+      → slice_get b.ins wire.to_port ≡ Some port → wire.ty ≡ port.ty
+  pub outputs : (w : ℕ) (wire : WireC) (b : BoxC) (port : PortC) → slice_get core.wires w ≡ Some wire → slice_get core.nodes wire.from ≡ Some (Rules b)
+      → slice_get b.outs wire.from_port ≡ Some port → wire.ty ≡ port.ty
+
+-- all that the types of a net's values rest on
+pub record IsTypedNet (core : Core) : Type 0 where
+  pub sound : HasSoundParts core
+  pub boxes : (n : ℕ) (b : BoxC) → slice_get core.nodes n ≡ Some (Rules b) → BoxIsTyped core b
+  pub wires : WiresAgree core
+
+-- the values on wires, those that boxes have yet to assert, and those that input streams have
+pub record IsTypedState (core : Core) (state : State) : Type 0 where
+  pub wires : (w : ℕ) (wire : WireC) (v : Value) → slice_get core.wires w ≡ Some wire → on_wire state w ≡ Some v → is_value core.types wire.ty v ≡ true
+  pub pending : (n : ℕ) (b : BoxC) (outs : List (Option Value)) → slice_get core.nodes n ≡ Some (Rules b) → (part_of state n).pending ≡ Some outs
+      → are_outputs core.types (port_types b.outs) outs ≡ true
+  pub coming : (n : ℕ) (stream : StreamC) (w : ℕ) (wire : WireC) → slice_get core.nodes n ≡ Some (From stream) → slice_get core.wires w ≡ Some wire
+      → wire.from ≡ n → list_all (is_value core.types wire.ty) (part_of state n).coming ≡ true
