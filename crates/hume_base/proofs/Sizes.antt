@@ -1,9 +1,9 @@
 -- A number that names no data type has no words.
-use Rattle.std.proofs.Common.{◌≡◌, ℕ, zero, suc, ◌==◌, Bool, true, false, cond, None, slice_get, refl, ap, inl, inr}
+use Rattle.std.proofs.Common.{◌≡◌, ℕ, zero, suc, None, slice_get, refl, inl, inr}
 use Rattle.std.proofs.lemmas.Bool.{cases_eq, eq-eqb, ne_eqb}
 use Rattle.std.proofs.lemmas.Grind.{common_steps}
 use Rattle.hume_base.specs.declared.types.Ty.{the_lemmas}
-use Rattle.hume_base.specs.Sizes.{named_size, size_of_sum}
+use Rattle.hume_base.specs.Sizes.{named_size}
 use Rattle.hume_base.specs.declared.types.Types.{Types}
 
 pub named_size-none : (types : Types) (bound number : ℕ) → slice_get types.sums number ≡ None → named_size types bound number ≡ 0

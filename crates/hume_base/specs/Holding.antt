@@ -1,5 +1,5 @@
 -- Which data types a type holds.
-use Rattle.std.specs.Prelude.{◌≡◌, ℕ, nat_lt, Bool, true, List, slice_get, Some}
+use Rattle.std.specs.Prelude.{◌≡◌, ℕ, nat_lt, Bool, true, slice_get, Some}
 use Rattle.std.specs.List.{list_all}
 use Rattle.hume_base.specs.declared.types.Ty.{Ty, fold-Ty}
 use Rattle.hume_base.specs.declared.types.Ty.TheOpen.{Ty-F}

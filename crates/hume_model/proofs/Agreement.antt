@@ -1,18 +1,16 @@
 -- An evaluation turns only on the functions that it may call.
-use Rattle.std.proofs.Common.{◌≡◌, ℕ, zero, suc, ◌+◌, ◌<◌, ◌≤◌, nat_lt, ◌==◌, ◌&&◌, Bool, true, false, List, [], ◌∷◌, ◌++◌, map, length, Option, Some, None, slice_get, refl, ap, sym, ◌∙◌, subst, if◌then◌else◌, arith}
+use Rattle.std.proofs.Common.{◌≡◌, ℕ, ◌<◌, ◌≤◌, Bool, true, List, [], ◌∷◌, ◌++◌, map, Option, Some, None, slice_get, refl, ap, sym, ◌∙◌, subst, arith}
 use Rattle.std.proofs.lemmas.Bool.{and_parts, ltb-true}
 use Rattle.std.specs.List.{list_all}
-use Rattle.hume_base.specs.declared.types.Value.{Value, Tuple, Con, Vector, out-Value}
+use Rattle.hume_base.specs.declared.types.Value.{Value, Tuple, Con}
 use Rattle.hume_model.specs.declared.core_tree.PatC.{PatC}
 use Rattle.hume_model.specs.declared.core_tree.Expr.{Expr, roll-Expr, map-Expr, fold-roll-Expr, ind-Expr}
 use Rattle.hume_model.specs.declared.core_tree.Expr.TheOpen.{Expr-F}
 use Rattle.hume_model.specs.declared.core_tree.EqC.{EqC}
 use Rattle.hume_model.specs.declared.core_tree.FunC.{FunC}
 use Rattle.hume_model.specs.declared.core_tree.Core.{Core}
-use Rattle.hume_model.specs.declared.outcome.Outcome.{Outcome}
-use Rattle.hume_model.specs.Outcomes.{Meaning, in_order, then_rest, with_all, and_then, on_match, raised}
-use Rattle.hume_model.specs.Operations.{prim, word_of_value}
-use Rattle.hume_model.specs.Patterns.{matches, matches_all}
+use Rattle.hume_model.specs.Outcomes.{Meaning, in_order, with_all, and_then, on_match}
+use Rattle.hume_model.specs.Patterns.{matches}
 use Rattle.hume_model.specs.Meaning.{Calls, eval_step, eval_with, call_below, call_of, first_equation, first_arm, arm_with}
 use Rattle.hume_model.specs.Calls.{calls_step, calls_below, all_true, CallsGoDown, equation_calls}
 use Rattle.hume_model.proofs.Evaluation.{call-at}

@@ -8,14 +8,13 @@ use Rattle.hume_base.specs.declared.types.Value.{Value}
 use Rattle.hume_model.specs.declared.core_tree.BoxC.{BoxC}
 use Rattle.hume_model.specs.declared.core_tree.NodeC.{NodeC}
 use Rattle.hume_model.specs.declared.core_tree.NodeC.TheVariants.{Rules, From, To}
-use Rattle.hume_model.specs.declared.core_tree.WireC.{WireC}
 use Rattle.hume_model.specs.declared.core_tree.Core.{Core}
 use Rattle.hume_model.specs.declared.state.Part.{Part}
 use Rattle.hume_model.specs.declared.state.State.{State}
 use Rattle.hume_model.specs.declared.state.HalfStep.{HalfStep}
 use Rattle.hume_model.specs.declared.state.Firing.{Firing}
 use Rattle.hume_model.specs.HalfSteps.{execute, super_step, fired, idle, asserted, assert_pending, assert_next, have_room, written}
-use Rattle.hume_model.specs.Lockstep.{numbered, on_wire, part_of, inputs, outputs, each_node, executed, executed_at, stepped, stepped_at, left_at, gathered, consumed, produced, mid, up, superstep, lockstep}
+use Rattle.hume_model.specs.Lockstep.{numbered, part_of, inputs, outputs, executed, executed_at, stepped, stepped_at, left_at, gathered, mid, up, superstep, lockstep}
 
 -- The two parts differ only in what is to come after so many values.
 pub record AlikeParts (count : ℕ) (p q : Part) : Type 0 where

@@ -1,5 +1,5 @@
 -- A call gives a value of the function's type, or raises an exception of the core.
-use Rattle.std.proofs.Common.{◌≡◌, ℕ, zero, suc, ◌==◌, true, List, [], ◌∷◌, map, length, Option, Some, None, slice_get, ap, sym, ◌∙◌, subst, inl, inr}
+use Rattle.std.proofs.Common.{◌≡◌, ℕ, zero, suc, true, List, [], ◌∷◌, length, Some, slice_get, sym, subst, inl, inr}
 use Rattle.std.proofs.lemmas.Bool.{cases_eq, eq-eqb, ne_eqb}
 use Rattle.hume_base.specs.declared.types.Ty.{Ty}
 use Rattle.hume_base.specs.declared.types.Value.{Value}
@@ -8,7 +8,7 @@ use Rattle.hume_model.specs.declared.core_tree.EqC.{EqC}
 use Rattle.hume_model.specs.declared.core_tree.FunC.{FunC}
 use Rattle.hume_model.specs.declared.core_tree.Core.{Core}
 use Rattle.hume_model.specs.Patterns.{matches_all}
-use Rattle.hume_model.specs.Meaning.{Calls, eval, eval_with, call_below, call_of, first_equation}
+use Rattle.hume_model.specs.Meaning.{Calls, eval, eval_with, call_below, first_equation}
 use Rattle.hume_model.specs.Typing.{AreOf, HasType, EquationsHave, is_outcome}
 use Rattle.hume_model.specs.WellFormed.{HasSoundParts}
 use Rattle.hume_model.proofs.PatternTypes.{patterns_typed}

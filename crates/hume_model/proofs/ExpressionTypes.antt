@@ -1,18 +1,16 @@
 -- An expression of a type gives a value of the type, or raises an exception of the core with a value of what it carries.
-use Rattle.std.proofs.Common.{◌≡◌, ℕ, zero, suc, ◌-◌, ◌+◌, ◌<◌, nat_lt, ◌==◌, ◌&&◌, not, Bool, true, false, if◌then◌else◌, ℤ, pos, neg_ℤ, List, [], ◌∷◌, ◌++◌, map, length, replicate, Option, Some, None, slice_get, slice_set, refl, ap, sym, ◌∙◌, subst}
+use Rattle.std.proofs.Common.{◌≡◌, ℕ, zero, suc, ◌-◌, nat_lt, ◌==◌, ◌&&◌, not, Bool, true, false, if◌then◌else◌, pos, neg_ℤ, List, [], ◌∷◌, ◌++◌, map, length, replicate, Option, Some, None, slice_get, slice_set, refl, ap, sym, ◌∙◌, subst}
 use Rattle.std.proofs.lemmas.Bool.{and_parts, eq-eqb, lt-ltb}
 use Rattle.std.specs.List.{list_all}
 use Rattle.std.specs.Int.RustNames.{int_lt, int_le}
 use Rattle.hume_base.specs.declared.types.Ty.{Ty, out-Ty}
-use Rattle.hume_base.specs.declared.types.Ty.TheOpen.{Ty-F}
 use Rattle.hume_base.specs.declared.types.Ty.TheVariants as shape
-use Rattle.hume_base.specs.declared.types.SumDef.{SumDef}
 use Rattle.hume_base.specs.declared.types.Value.{Value, out-Value}
 use Rattle.hume_base.specs.declared.types.Value.TheOpen.{Value-F}
 use Rattle.hume_base.specs.declared.types.Value.TheVariants as value
 use Rattle.hume_base.specs.Flat.{parts_in}
 use Rattle.hume_base.specs.Holding.{HoldSmaller}
-use Rattle.hume_base.specs.Values.{is_value, is_value_with, is_named_value, all_pass, is_con_of, is_tuple_of, is_vector_of, is_word_of, fields_at}
+use Rattle.hume_base.specs.Values.{is_value, is_named_value, all_pass, is_con_of, is_tuple_of, is_vector_of, is_word_of, fields_at}
 use Rattle.hume_model.specs.declared.core_tree.Op.{Op}
 use Rattle.hume_model.specs.declared.core_tree.Op.TheVariants as op
 use Rattle.hume_model.specs.declared.core_tree.PatC.{PatC}
@@ -25,10 +23,10 @@ use Rattle.hume_model.specs.declared.outcome.Outcome.TheVariants.{Gives, Raises}
 use Rattle.hume_model.specs.declared.outcome.Several.{Several}
 use Rattle.hume_model.specs.declared.outcome.Several.TheVariants.{All, Raised}
 use Rattle.hume_model.specs.Outcomes.{and_then, with_all, in_order, then_rest, on_match}
-use Rattle.hume_model.specs.Operations.{prim, binary, unary, gives, exact, truth, number_at, word_at, unless_zero, word_of_value, is_place, item_of, item_or_raise, updated}
+use Rattle.hume_model.specs.Operations.{prim, binary, unary, gives, exact, truth, number_at, word_of_value, is_place, item_of, item_or_raise, updated}
 use Rattle.hume_model.specs.Patterns.{matches}
 use Rattle.hume_model.specs.Meaning.{Calls, eval_with, variable, first_arm, arm_with}
-use Rattle.hume_model.specs.Typing.{AreOf, HasType, HaveTypes, ArmsHaveType, is_outcome, is_raised, is_carried, is_number_type, is_arithmetic, is_comparison}
+use Rattle.hume_model.specs.Typing.{AreOf, HasType, HaveTypes, ArmsHaveType, is_outcome, is_raised, is_number_type, is_arithmetic, is_comparison}
 use Rattle.hume_model.specs.WellFormed.{HasOwnExceptions}
 use Rattle.hume_model.proofs.Layers.{out-word, out-tuple, out-vector, out-con, bool-value, tuple-value, vector-value, eval-word, eval-variable, eval-con, eval-tuple, eval-vector, eval-prim, eval-index, eval-update, eval-choice, eval-case, eval-let, eval-call, eval-raise-none, eval-raise-some}
 use Rattle.hume_model.proofs.Fields.{data-value}

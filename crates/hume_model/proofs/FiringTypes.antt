@@ -1,5 +1,5 @@
 -- What a box gives when it fires is of its outputs' types.
-use Rattle.std.proofs.Common.{◌≡◌, ℕ, zero, suc, ◌==◌, ◌&&◌, Bool, true, false, if◌then◌else◌, List, [], ◌∷◌, ◌++◌, map, length, Option, Some, None, slice_get, refl, ap, sym, ◌∙◌, subst, inl, inr, ◌⊎◌}
+use Rattle.std.proofs.Common.{◌≡◌, ℕ, suc, ◌==◌, Bool, true, false, if◌then◌else◌, List, [], ◌∷◌, Option, Some, None, slice_get, refl, ap, sym, ◌∙◌, subst, inl, inr}
 use Rattle.std.proofs.lemmas.Bool.{and_parts, eqb-true}
 use Rattle.std.specs.List.{find}
 use Rattle.std.specs.Option.{is_some, option_map, option_and_then, option_to_list, unwrap_or}
@@ -7,7 +7,6 @@ use Rattle.hume_base.proofs.Tables.{chosen}
 use Rattle.hume_base.specs.declared.types.Ty.{Ty}
 use Rattle.hume_base.specs.declared.types.Types.{Types}
 use Rattle.hume_base.specs.declared.types.Value.{Value}
-use Rattle.hume_base.specs.Values.{is_value}
 use Rattle.hume_base.specs.Holding.{HoldSmaller}
 use Rattle.hume_model.specs.declared.core_tree.InPat.{InPat}
 use Rattle.hume_model.specs.declared.core_tree.PatC.{PatC}
@@ -25,7 +24,7 @@ use Rattle.hume_model.specs.Results.{result_of}
 use Rattle.hume_model.specs.Firing.{fire, firing_of, rule_fits, handled, handled_by, handler_env, outputs_or_none}
 use Rattle.hume_model.specs.Typing.{AreOf, is_raised, is_carried}
 use Rattle.hume_model.specs.ResultTyping.{are_outputs, is_result}
-use Rattle.hume_model.specs.BoxTyping.{PositionsHave, RuleIsTyped, HandlerIsTyped, BoxIsTyped, port_types, carried_types}
+use Rattle.hume_model.specs.BoxTyping.{PositionsHave, HandlerIsTyped, BoxIsTyped, port_types, carried_types}
 use Rattle.hume_model.specs.WellFormed.{HasSoundParts}
 use Rattle.hume_model.proofs.PatternTypes.{of_both, one_of, pattern_typed}
 use Rattle.hume_model.proofs.ResultTypes.{result_typed}

@@ -1,5 +1,5 @@
 -- The values of a type, and what patterns match and expressions come to, one level at a time.
-use Rattle.std.proofs.Common.{◌≡◌, ℕ, ◌==◌, ◌^◌, nat_lt, Bool, List, [], ◌∷◌, ◌++◌, map, Option, Some, None, slice_get, ap, sym, ◌∙◌, if◌then◌else◌}
+use Rattle.std.proofs.Common.{◌≡◌, ℕ, ◌==◌, ◌^◌, nat_lt, Bool, List, [], ◌∷◌, ◌++◌, map, Some, None, slice_get, ap, sym, ◌∙◌, if◌then◌else◌}
 use Rattle.hume_base.specs.declared.boxed.Box.{Box}
 use Rattle.hume_base.specs.declared.types.Ty.{Ty, fold-roll-Ty}
 use Rattle.hume_base.specs.declared.types.Ty.TheOpen.{Ty-F}
@@ -15,7 +15,6 @@ use Rattle.hume_model.specs.declared.core_tree.PatC.TheVariants as pat
 use Rattle.hume_model.specs.declared.core_tree.Expr.{Expr, fold-roll-Expr}
 use Rattle.hume_model.specs.declared.core_tree.Expr.TheOpen.{Expr-F}
 use Rattle.hume_model.specs.declared.core_tree.Expr.TheVariants as expr
-use Rattle.hume_model.specs.declared.outcome.Outcome.{Outcome}
 use Rattle.hume_model.specs.declared.outcome.Outcome.TheVariants.{Gives}
 use Rattle.hume_model.specs.Outcomes.{Meaning, and_then, with_all, in_order, raised}
 use Rattle.hume_model.specs.Operations.{prim, word_of_value, item_of, updated}

@@ -1,5 +1,5 @@
 -- The variables of a pattern that a value matches have values of their types.
-use Rattle.std.proofs.Common.{◌≡◌, ℕ, zero, suc, nat_lt, ◌==◌, ◌&&◌, Bool, true, false, if◌then◌else◌, List, [], ◌∷◌, ◌++◌, map, length, Option, Some, None, slice_get, refl, ap, sym, ◌∙◌, subst}
+use Rattle.std.proofs.Common.{◌≡◌, ℕ, ◌==◌, ◌&&◌, Bool, true, false, if◌then◌else◌, List, [], ◌∷◌, ◌++◌, map, length, Option, Some, None, refl, sym, ◌∙◌, subst}
 use Rattle.std.proofs.lemmas.Bool.{and_parts, eqb-true}
 use Rattle.hume_base.specs.declared.types.Ty.{Ty}
 use Rattle.hume_base.specs.declared.types.Types.{Types}
@@ -7,7 +7,7 @@ use Rattle.hume_base.specs.declared.types.SumDef.{SumDef}
 use Rattle.hume_base.specs.declared.types.Value.{Value, out-Value}
 use Rattle.hume_base.specs.declared.types.Value.TheOpen.{Value-F}
 use Rattle.hume_base.specs.Holding.{HoldSmaller}
-use Rattle.hume_base.specs.Values.{is_value, is_value_with, is_named_value, all_pass, is_con_of, is_tuple_of, fields_at}
+use Rattle.hume_base.specs.Values.{is_value, is_named_value, is_con_of, is_tuple_of, fields_at}
 use Rattle.hume_model.specs.declared.core_tree.PatC.{PatC}
 use Rattle.hume_model.specs.Patterns.{Match, matches, matches_all, both, all_match, match_word, match_con, match_tuple}
 use Rattle.hume_model.specs.Typing.{IsPattern, ArePatterns, AreOf}

@@ -1,5 +1,5 @@
 -- A result that gives outputs of types gives values of them, or raises an exception of the core.
-use Rattle.std.proofs.Common.{◌≡◌, ℕ, ◌==◌, ◌&&◌, Bool, true, false, if◌then◌else◌, List, [], ◌∷◌, ◌++◌, map, length, Option, Some, None, slice_get, refl, ap, sym, ◌∙◌}
+use Rattle.std.proofs.Common.{◌≡◌, ℕ, ◌==◌, Bool, true, false, if◌then◌else◌, List, [], ◌∷◌, ◌++◌, map, Option, Some, None, slice_get, refl, ap, sym, ◌∙◌}
 use Rattle.std.specs.Option.{option_map}
 use Rattle.hume_base.specs.declared.types.Ty.{Ty}
 use Rattle.hume_base.specs.declared.types.Ty.TheVariants as shape
@@ -21,8 +21,8 @@ use Rattle.hume_model.specs.Outcomes.{on_match, raised, then_outputs, then_outs,
 use Rattle.hume_model.specs.Operations.{word_of_value}
 use Rattle.hume_model.specs.Patterns.{matches}
 use Rattle.hume_model.specs.Results.{ResultMeaning, result_of, result_step, result_arm_with, first_result, meaning_in}
-use Rattle.hume_model.specs.Typing.{AreOf, HasType, is_outcome, is_raised}
-use Rattle.hume_model.specs.ResultTyping.{OutsHave, GivesOutputs, ArmsGiveOutputs, are_outputs, is_result}
+use Rattle.hume_model.specs.Typing.{AreOf, is_outcome, is_raised}
+use Rattle.hume_model.specs.ResultTyping.{OutsHave, GivesOutputs, ArmsGiveOutputs, is_result}
 use Rattle.hume_model.specs.WellFormed.{HasSoundParts}
 use Rattle.hume_model.proofs.PatternTypes.{both_true, of_both, one_of, pattern_typed}
 use Rattle.hume_model.proofs.CallTypes.{eval_typed}

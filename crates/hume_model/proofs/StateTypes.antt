@@ -1,13 +1,12 @@
 -- A superstep keeps the types of the values on wires and of those that are yet to be asserted.
-use Rattle.std.proofs.Common.{◌≡◌, ℕ, zero, suc, ◌<◌, ◌==◌, ◌&&◌, Bool, true, false, if◌then◌else◌, List, [], ◌∷◌, map, length, Option, Some, None, slice_get, refl, ap, sym, ◌∙◌, subst, inl, inr, ◌⊎◌}
+use Rattle.std.proofs.Common.{◌≡◌, ℕ, zero, suc, ◌<◌, Bool, true, false, if◌then◌else◌, List, [], ◌∷◌, length, Option, Some, None, slice_get, refl, ap, sym, ◌∙◌, subst, inl, inr, ◌⊎◌}
 use Rattle.std.proofs.lemmas.Bool.{and_parts, eqb-true}
 use Rattle.std.proofs.lemmas.Option.{slice_get-map}
-use Rattle.std.specs.List.{range_with_len, position, list_all}
+use Rattle.std.specs.List.{position, list_all}
 use Rattle.std.specs.Option.{option_flatten, option_map, option_and_then, unwrap_or, is_some}
 use Rattle.hume_base.specs.declared.types.Ty.{Ty}
 use Rattle.hume_base.specs.declared.types.Value.{Value}
 use Rattle.hume_base.specs.Values.{is_value}
-use Rattle.hume_model.specs.declared.core_tree.PortC.{PortC}
 use Rattle.hume_model.specs.declared.core_tree.BoxC.{BoxC}
 use Rattle.hume_model.specs.declared.core_tree.StreamC.{StreamC}
 use Rattle.hume_model.specs.declared.core_tree.NodeC.{NodeC}
@@ -19,8 +18,8 @@ use Rattle.hume_model.specs.declared.state.Part.{Part}
 use Rattle.hume_model.specs.declared.state.HalfStep.{HalfStep}
 use Rattle.hume_model.specs.declared.state.Firing.{Firing}
 use Rattle.hume_model.specs.Firing.{fire}
-use Rattle.hume_model.specs.HalfSteps.{execute, super_step, fired, idle, left, written, asserted, assert_pending, assert_next, have_room}
-use Rattle.hume_model.specs.Lockstep.{on_wire, part_of, leads_to, comes_from, on_found, inputs, outputs, inputs_of, outputs_of, each_node, executed, executed_at, stepped, stepped_at, left_at, gathered, consumed, produced, mid, up, superstep}
+use Rattle.hume_model.specs.HalfSteps.{execute, fired, idle, written, assert_pending, assert_next, have_room}
+use Rattle.hume_model.specs.Lockstep.{on_wire, part_of, leads_to, comes_from, on_found, inputs, outputs, inputs_of, outputs_of, each_node, executed, executed_at, stepped, stepped_at, left_at, mid, up, superstep}
 use Rattle.hume_model.specs.ResultTyping.{are_outputs}
 use Rattle.hume_model.specs.BoxTyping.{BoxIsTyped, port_types}
 use Rattle.hume_model.specs.StateTyping.{IsTypedNet, IsTypedState}

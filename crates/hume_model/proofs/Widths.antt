@@ -1,6 +1,5 @@
 -- A number that is wrapped to the bits of a type is one of the type.
-use Rattle.std.proofs.Common.{◌≡◌, ℕ, zero, suc, ◌+◌, ◌-◌, ◌*◌, ◌%◌, ◌^◌, ◌<◌, ◌≤◌, nat_lt, nat_le, min, ◌&&◌, Bool, true, false, if◌then◌else◌, ℤ, pos, negsuc, neg_ℤ, ◌-ℤ◌, SFits, w64, to_z-of_z, of_z, refl, ap, sym, ◌∙◌, subst, arith, inl, inr, length}
-use Rattle.std.specs.Int.{int_rem_euclid}
+use Rattle.std.proofs.Common.{◌≡◌, ℕ, zero, suc, ◌+◌, ◌-◌, ◌%◌, ◌^◌, ◌<◌, ◌≤◌, nat_lt, nat_le, min, ◌&&◌, Bool, true, ℤ, pos, negsuc, neg_ℤ, ◌-ℤ◌, SFits, w64, to_z-of_z, of_z, refl, ap, sym, ◌∙◌, subst, arith, inl, inr, length}
 use Rattle.std.specs.Int.RustNames.{int_lt, int_le, unsigned_abs}
 use Rattle.std.proofs.lemmas.Bool.{and_parts, lt-ltb, le-ltb, le-leb, leb-true, cases_lt}
 use Rattle.std.proofs.lemmas.Nat.{pow_pos}
@@ -9,10 +8,10 @@ use Rattle.std.proofs.Math.Pow.{pow_mono}
 use Rattle.hume_base.specs.declared.types.Ty.{Ty, out-Ty, roll-Ty, roll-out-Ty, map-Ty, fold-roll-Ty}
 use Rattle.hume_base.specs.declared.types.Ty.TheOpen.{Ty-F}
 use Rattle.hume_base.specs.declared.types.Types.{Types}
-use Rattle.hume_base.specs.declared.types.Value.{Value, out-Value}
+use Rattle.hume_base.specs.declared.types.Value.{Value}
 use Rattle.hume_base.specs.declared.types.Value.TheVariants as value
 use Rattle.hume_base.specs.Words.{int_of, word_of}
-use Rattle.hume_base.specs.Values.{is_value, is_value_with, value_step, is_named_value, is_word_of, is_int_word, is_int_of}
+use Rattle.hume_base.specs.Values.{is_value, is_value_with, value_step, is_named_value, is_word_of, is_int_word}
 use Rattle.hume_model.specs.Operations.{word_at, low_bits, from_low, wrapped}
 use Rattle.hume_model.specs.Typing.{is_number_type, is_number_layer}
 use Rattle.hume_model.proofs.Layers.{out-word}

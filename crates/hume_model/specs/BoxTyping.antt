@@ -1,11 +1,7 @@
 -- When the boxes of a core have rules, handlers and wires that fit the types of their ports.
-use Rattle.std.specs.Prelude.{◌≡◌, ℕ, ◌&&◌, Bool, true, false, List, [], ◌∷◌, ◌++◌, map, Option, Some, None, slice_get}
-use Rattle.std.specs.Option.{option_flatten}
-use Rattle.std.specs.List.{list_all}
+use Rattle.std.specs.Prelude.{◌≡◌, ℕ, true, false, List, [], ◌∷◌, ◌++◌, map, Option, Some, None, slice_get}
 use Rattle.hume_base.specs.declared.types.Ty.{Ty}
 use Rattle.hume_base.specs.declared.types.Types.{Types}
-use Rattle.hume_base.specs.declared.types.Value.{Value}
-use Rattle.hume_base.specs.Values.{is_value}
 use Rattle.hume_model.specs.declared.core_tree.InPat.{InPat}
 use Rattle.hume_model.specs.declared.core_tree.InPat.TheVariants.{Star, AnyStar, Any, Built}
 use Rattle.hume_model.specs.declared.core_tree.PatC.{PatC}

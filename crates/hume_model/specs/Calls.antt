@@ -1,5 +1,5 @@
 -- Which functions an expression calls.
-use Rattle.std.specs.Prelude.{◌≡◌, ℕ, nat_lt, ◌&&◌, Bool, true, List, map, Option, Some, None, slice_get}
+use Rattle.std.specs.Prelude.{◌≡◌, ℕ, nat_lt, ◌&&◌, Bool, true, List, Option, Some, None, slice_get}
 use Rattle.std.specs.List.{list_all}
 use Rattle.hume_model.specs.declared.core_tree.PatC.{PatC}
 use Rattle.hume_model.specs.declared.core_tree.Expr.{Expr, fold-Expr}

@@ -1,5 +1,5 @@
 -- When a state has, on each wire and as each output or input to come, a value of its type.
-use Rattle.std.specs.Prelude.{◌≡◌, ℕ, Bool, true, List, Option, Some, slice_get}
+use Rattle.std.specs.Prelude.{◌≡◌, ℕ, true, List, Option, Some, slice_get}
 use Rattle.std.specs.List.{list_all}
 use Rattle.hume_base.specs.declared.types.Value.{Value}
 use Rattle.hume_base.specs.Values.{is_value}

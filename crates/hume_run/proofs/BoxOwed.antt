@@ -1,24 +1,18 @@
 -- What is owed by a one-box source, and that its reports say it.
-use Rattle.std.proofs.Common.{◌≡◌, ◌⊎◌, ℕ, zero, suc, Bool, true, false, cond, ◌||◌, ◌<◌, ◌≤◌, ◌+◌, ◌==◌, List, [], ◌∷◌, ◌++◌, length, map, take, Option, Some, None, refl, ap, sym, ◌∙◌, subst, arith, inl, inr, append-nil, add-zero, take-take, slice_get, slice_set, slice_index_or, nat_lt, if◌then◌else◌, codes, Result, Ok, Err, IfOk}
+use Rattle.std.proofs.Common.{◌≡◌, ◌⊎◌, ℕ, zero, suc, Bool, true, false, cond, ◌||◌, ◌<◌, ◌+◌, List, [], ◌∷◌, ◌++◌, length, map, take, Option, Some, None, refl, ap, sym, ◌∙◌, subst, arith, inl, inr, append-nil, add-zero, take-take, slice_get, slice_set, slice_index_or, nat_lt, codes, Result, Ok, Err, IfOk}
 use Rattle.std.specs.List.{All}
 use Rattle.std.specs.Option.{unwrap_or}
 use Rattle.std.specs.Str.{bytes_eq}
 use Rattle.std.proofs.lemmas.Bool.{cases_eq, eq-eqb, ne_eqb, lt-ltb, ltb-true}
-use Rattle.std.proofs.lemmas.List.Elements.{All-get_or, All-cons}
+use Rattle.std.proofs.lemmas.List.Elements.{All-cons}
 use Rattle.hume_base.specs.declared.types.Value.{Value}
-use Rattle.hume_model.specs.declared.core_tree.NodeC.{NodeC}
-use Rattle.hume_model.specs.declared.core_tree.NodeC.TheVariants.{Rules, From, To}
 use Rattle.hume_model.specs.declared.core_tree.StreamC.{StreamC}
-use Rattle.hume_model.specs.declared.core_tree.Core.{Core}
-use Rattle.hume_model.specs.declared.state.State.{State}
 use Rattle.hume_model.specs.Lockstep.{lockstep}
 use Rattle.hume_model.specs.Start.{start, no_values}
 use Rattle.hume_model.proofs.Ahead.{Alike, lockstep_alike}
 use Rattle.hume_ports.specs.Ports.{place_of, is_among, other_names}
-use Rattle.hume_ports.specs.Delivery.{Pairs}
 use Rattle.hume_ports.proofs.Names.{same_name, bytes_eq-self}
 use Rattle.hume_run.specs.declared.status.Status.{Status}
-use Rattle.hume_run.specs.declared.status.Status.TheVariants.{Done, BadValue}
 use Rattle.hume_run.specs.declared.report.Line.{Line}
 use Rattle.hume_run.specs.declared.report.Report.{Report}
 use Rattle.hume_run.specs.declared.input.Input.{Input}
@@ -26,10 +20,10 @@ use Rattle.hume_run.specs.declared.input.Input.TheVariants.{Values, Bad}
 use Rattle.hume_run.specs.Reading.{IsInputOf}
 use Rattle.hume_run.specs.Statuses.{IsAnswer}
 use Rattle.hume_run.specs.Inputs.{good, bad}
-use Rattle.hume_run.specs.OneBox.{OneBox, core_of, one_box}
+use Rattle.hume_run.specs.OneBox.{OneBox, core_of}
 use Rattle.hume_run.specs.Owed.{Owed, std_out, owed_run, coming, blocked_or, run_status, run_finishes, run_writes, all_taken_writes, value_line, bad_value_line}
 use Rattle.hume_run.specs.BoxReports.{IsDone, IsBad, each_once}
-use Rattle.hume_run.specs.Reports.{IsPlace, IsPlaceOf, IsReport, name_at, names_at, pairs_of}
+use Rattle.hume_run.specs.Reports.{IsPlace, IsPlaceOf, IsReport, name_at, names_at}
 
 take-enough : {X : Type 0} (count : ℕ) (xs : List X) → take (count + 0) (take count xs) ≡ take (count + 0) xs
 take-enough count xs = rw (add-zero count) (take-take count count xs (omega arith))

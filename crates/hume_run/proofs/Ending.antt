@@ -1,21 +1,16 @@
 -- How a call ends, from how its writes and its finishes ended.
-use Rattle.std.proofs.Common.{◌≡◌, ◌⊎◌, ℕ, Bool, ◌||◌, List, [], ◌∷◌, ◌++◌, length, map, get_or, refl, ap, sym, ◌∙◌, subst, true, false, inl, inr, arith}
+use Rattle.std.proofs.Common.{◌≡◌, ℕ, Bool, ◌||◌, List, [], ◌∷◌, ◌++◌, refl, sym, ◌∙◌, subst, true, false}
 use Rattle.std.specs.List.{All}
 use Rattle.std.specs.Str.{bytes_eq}
-use Rattle.std.proofs.lemmas.List.Elements.{All-get_or}
 use Rattle.hume_ports.specs.Port.{PortView}
-use Rattle.hume_ports.specs.Ports.{names, is_among, flushed_of, Untouched}
-use Rattle.hume_ports.specs.Delivery.{Pairs, Delivered, Progress, Failure, Roomy, SameFaults}
-use Rattle.hume_ports.proofs.Progress.{Progress-on, Delivered-on, read_failure-on, write_failure-on, finish_failure-on}
-use Rattle.hume_ports.proofs.Rooms.{Roomy-on}
-use Rattle.hume_ports.proofs.Untouched.{Untouched-more, Untouched-on}
+use Rattle.hume_ports.specs.Ports.{is_among, flushed_of, Untouched}
+use Rattle.hume_ports.specs.Delivery.{Pairs, Progress, Roomy}
+use Rattle.hume_ports.proofs.Untouched.{Untouched-more}
 use Rattle.hume_run.specs.declared.status.Status.{Status}
 use Rattle.hume_run.specs.declared.status.Status.TheVariants.{Usage, Fault, NoMemory}
-use Rattle.hume_run.specs.declared.report.Report.{Report}
 use Rattle.hume_run.specs.Statuses.{IsAnswer}
 use Rattle.hume_run.specs.Owed.{Owed}
-use Rattle.hume_run.specs.Headline.{Ends, Fails, FailedRead, FailedWrite, FailedFinish}
-use Rattle.hume_run.specs.Reports.{IsReport, name_at, names_at, pairs_of}
+use Rattle.hume_run.specs.Headline.{Ends, Fails}
 
 or-in-or : (a b c : Bool) → (a || (b || c)) ≡ ((a || b) || c)
 or-in-or true b c = refl

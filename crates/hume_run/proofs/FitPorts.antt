@@ -1,13 +1,10 @@
 -- Which ports may be streams'.
-use Rattle.std.proofs.Common.{◌≡◌, ℕ, zero, suc, Bool, true, false, cond, ◌<◌, ◌+◌, List, [], ◌∷◌, length, Option, Some, None, refl, ap, sym, ◌∙◌, subst, arith, slice_index_or}
-use Rattle.std.specs.Option.{option_map}
+use Rattle.std.proofs.Common.{◌≡◌, ℕ, zero, suc, Bool, true, false, cond, ◌<◌, List, [], ◌∷◌, length, Some, None, sym, subst, arith}
 use Rattle.std.specs.Str.{bytes_eq}
 use Rattle.std.proofs.lemmas.Grind.{common_steps}
 use Rattle.hume_ports.specs.Ports.{place_of}
 use Rattle.hume_ports.proofs.Names.{same_name, place-zero, place-suc}
-use Rattle.hume_run.specs.OneBox.{OneBox, core_of}
-use Rattle.hume_run.specs.Owed.{streams, unfit_line}
-use Rattle.hume_run.specs.Reports.{IsPlace, IsPlaceOf, name_at}
+use Rattle.hume_run.specs.Reports.{IsPlaceOf, name_at}
 
 found_within : (name : List ℕ) (names : List (List ℕ)) (at : ℕ) → place_of name names ≡ Some at → at < length names
 found_within name [] at found = cc

@@ -1,18 +1,14 @@
 -- A call that goes on after reads that have not failed ends as it would end from its start.
-use Rattle.std.proofs.Common.{◌≡◌, ◌⊎◌, ℕ, Bool, true, false, cond, ◌||◌, List, [], ◌∷◌, ◌++◌, length, map, take, Option, Some, None, IfSome, refl, ap, sym, ◌∙◌, subst, inl, inr}
-use Rattle.std.specs.List.{All}
-use Rattle.std.specs.Option.{unwrap_or}
+use Rattle.std.proofs.Common.{◌≡◌, ℕ, Bool, true, false, ◌||◌, List, [], ◌∷◌, ◌++◌, take, refl, ◌∙◌, inl, inr}
 use Rattle.std.specs.Str.{bytes_eq}
 use Rattle.hume_ports.specs.Port.{PortView}
-use Rattle.hume_ports.specs.Ports.{names, is_among, left_of, place_of, Untouched}
-use Rattle.hume_ports.specs.Delivery.{Pairs, Progress, ReadFailure, Roomy, SameFaults, Delivered}
-use Rattle.hume_ports.proofs.Names.{bytes_eq-self}
-use Rattle.hume_ports.proofs.Progress.{Progress-start, Delivered-on, Failure-on}
+use Rattle.hume_ports.specs.Ports.{is_among, Untouched}
+use Rattle.hume_ports.specs.Delivery.{Pairs, Progress, ReadFailure, Roomy, SameFaults}
+use Rattle.hume_ports.proofs.Progress.{Delivered-on, Failure-on}
 use Rattle.hume_ports.proofs.Rooms.{Roomy-on, Roomy-nothing}
-use Rattle.hume_ports.proofs.Untouched.{Untouched-start, Untouched-on, Untouched-more, Untouched-among, of_first-untouched}
+use Rattle.hume_ports.proofs.Untouched.{Untouched-on, Untouched-among}
 use Rattle.hume_run.specs.declared.status.Status.{Status}
 use Rattle.hume_run.specs.declared.status.Status.TheVariants.{Fault, NoMemory}
-use Rattle.hume_run.specs.Statuses.{IsAnswer}
 use Rattle.hume_run.specs.Owed.{Owed}
 use Rattle.hume_run.specs.Headline.{Ends, Fails, FailedRead, FailedWrite, FailedFinish}
 use Rattle.hume_run.proofs.Ending.{ends_failed, ends_without_memory}

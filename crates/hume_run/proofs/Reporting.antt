@@ -1,21 +1,19 @@
 -- What is left when a report is carried out.
-use Rattle.std.proofs.Common.{◌≡◌, ℕ, List, [], ◌∷◌, ◌++◌, length, map, get_or, refl, ap, sym, ◌∙◌, subst, true, false, inl, inr, arith, append-nil}
+use Rattle.std.proofs.Common.{◌≡◌, ℕ, List, [], ◌++◌, ap, sym, ◌∙◌, subst, true, false, inl, inr, append-nil}
 use Rattle.std.specs.List.{All}
-use Rattle.std.proofs.lemmas.List.{length-map}
-use Rattle.std.proofs.lemmas.List.Elements.{All-get_or, All-map}
+use Rattle.std.proofs.lemmas.List.Elements.{All-map}
 use Rattle.hume_ports.specs.Port.{PortView}
 use Rattle.hume_ports.specs.Ports.{names, is_among, flushed_of, Untouched}
 use Rattle.hume_ports.specs.Delivery.{Pairs, Progress, Failure, Roomy}
 use Rattle.hume_ports.proofs.Progress.{Progress-on, Failure-on}
 use Rattle.hume_ports.proofs.Rooms.{Roomy-on}
 use Rattle.hume_ports.proofs.Untouched.{Untouched-on}
-use Rattle.hume_run.specs.declared.status.Status.{Status}
 use Rattle.hume_run.specs.declared.status.Status.TheVariants.{Fault}
 use Rattle.hume_run.specs.declared.report.Line.{Line}
 use Rattle.hume_run.specs.declared.report.Report.{Report}
 use Rattle.hume_run.specs.Owed.{Owed}
 use Rattle.hume_run.specs.Headline.{Ends, FailedWrite, FailedFinish}
-use Rattle.hume_run.specs.Reports.{IsPlace, IsReport, name_at, names_at, pairs_of}
+use Rattle.hume_run.specs.Reports.{IsReport, name_at, names_at, pairs_of}
 use Rattle.hume_run.proofs.Ending.{ends_failed, ends_answered, more_touched}
 
 -- what the writes of lines leave of the ports

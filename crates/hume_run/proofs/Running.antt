@@ -1,5 +1,5 @@
 -- From the parts of a run to the whole.
-use Rattle.std.proofs.Common.{◌≡◌, ◌⊎◌, ℕ, Bool, true, false, ◌||◌, List, [], ◌∷◌, ◌++◌, Option, Some, None, IfSome, refl, ap, sym, ◌∙◌, subst, inl, inr}
+use Rattle.std.proofs.Common.{◌≡◌, ℕ, Bool, true, false, ◌||◌, List, [], ◌∷◌, ◌++◌, Option, Some, None, IfSome, refl, ap, sym, ◌∙◌, subst, inl, inr}
 use Rattle.std.specs.Str.{bytes_eq}
 use Rattle.hume_base.specs.declared.rule.Refusal.{Refusal}
 use Rattle.hume_base.specs.declared.rule.Rule.TheVariants.{NotBuilt, C55}
@@ -14,11 +14,11 @@ use Rattle.hume_run.specs.declared.status.Status.{Status}
 use Rattle.hume_run.specs.declared.status.Status.TheVariants.{Fault, NoMemory}
 use Rattle.hume_run.specs.declared.input.Input.{Input}
 use Rattle.hume_run.specs.OneBox.{OneBox, Spells, StandsFor, core_of}
-use Rattle.hume_run.specs.Owed.{Owed, IsOwed, IsRefusal, owed_run, owed_refused, streams, unfit_line}
-use Rattle.hume_run.specs.Headline.{Ends, Runs, RunsFrom, IsText, source_text}
+use Rattle.hume_run.specs.Owed.{Owed, IsOwed, owed_run, owed_refused, streams, unfit_line}
+use Rattle.hume_run.specs.Headline.{Ends, Runs, RunsFrom, source_text}
 use Rattle.hume_run.specs.BoxRuns.{RunsBox}
 use Rattle.hume_run.specs.Reading.{GivesInput, IsInputOf, ReadsSome, FailsToRead}
-use Rattle.hume_run.specs.Reports.{IsPlace, IsPlaceOf, name_at}
+use Rattle.hume_run.specs.Reports.{IsPlaceOf}
 use Rattle.hume_run.proofs.Reader.{parts_read}
 use Rattle.hume_run.proofs.ReaderLaws.{read_spells, none_read}
 use Rattle.hume_run.proofs.Ending.{ends_without_memory}

@@ -1,12 +1,11 @@
 -- Lines that are written one after the other, and ports that are finished one after the other.
-use Rattle.std.proofs.Common.{◌≡◌, ℕ, zero, suc, Bool, ◌||◌, ◌<◌, ◌≤◌, ◌+◌, List, [], ◌∷◌, ◌++◌, length, map, take, drop, get_or, refl, ap, sym, ◌∙◌, subst, arith, true, false, Result, Ok, Err, IsOk, OnOk, OnErr, append_assoc, add-one, drop-cons}
+use Rattle.std.proofs.Common.{◌≡◌, ℕ, zero, suc, Bool, ◌||◌, ◌<◌, ◌≤◌, ◌+◌, List, [], ◌∷◌, ◌++◌, length, take, drop, get_or, refl, ap, sym, ◌∙◌, subst, arith, true, false, add-one, drop-cons}
 use Rattle.std.specs.List.{All}
 use Rattle.std.proofs.lemmas.List.{take_more, map-append, take-append-drop, take_all}
-use Rattle.std.proofs.lemmas.List.Elements.{All-get_or, All-more}
-use Rattle.hume_ports.specs.declared.port.Failed.{Failed}
+use Rattle.std.proofs.lemmas.List.Elements.{All-more}
 use Rattle.hume_ports.specs.Port.{PortView}
 use Rattle.hume_ports.specs.Ports.{names, is_among, flushed_of, ForNameAt, Untouched}
-use Rattle.hume_ports.specs.Delivery.{Pairs, Progress, Failure, Roomy, names_in}
+use Rattle.hume_ports.specs.Delivery.{Pairs, Progress, Failure, Roomy}
 use Rattle.std.specs.Str.{bytes_eq}
 use Rattle.hume_ports.proofs.Names.{bytes_eq-self}
 use Rattle.hume_ports.proofs.Progress.{Progress-start, Progress-on, write_failure-on, finish_failure-on}

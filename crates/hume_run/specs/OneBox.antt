@@ -1,11 +1,10 @@
 -- The part of the language that is built: one box between an input and an output stream.
-use Rattle.std.specs.Prelude.{◌≡◌, ◌≢◌, ℕ, ◌<◌, ◌≤◌, List, [], ◌∷◌, ◌++◌, length, All, Option, None, Some, false, codes, IsTrue, ⊤}
+use Rattle.std.specs.Prelude.{◌≡◌, ◌≢◌, ℕ, ◌<◌, ◌≤◌, List, [], ◌∷◌, ◌++◌, length, All, None, Some, false, codes, IsTrue, ⊤}
 use Rattle.std.specs.Str.{all_ascii_digits}
 use Rattle.std.specs.Str.Parse.{digits_value}
 use Rattle.hume_base.specs.declared.types.Ty.{Ty, Int}
 use Rattle.hume_model.specs.declared.core_tree.Op.{Op}
 use Rattle.hume_model.specs.declared.core_tree.Op.TheVariants.{Add, Sub, Mul}
-use Rattle.hume_model.specs.declared.core_tree.Expr.{Expr}
 use Rattle.hume_model.specs.declared.core_tree.Expr.TheVariants.{Word, Var, Prim}
 use Rattle.hume_model.specs.declared.core_tree.PatC.TheVariants.{Var as Variable}
 use Rattle.hume_model.specs.declared.core_tree.InPat.TheVariants.{Built}
@@ -13,9 +12,7 @@ use Rattle.hume_model.specs.declared.core_tree.Res.TheVariants.{Outs}
 use Rattle.hume_model.specs.declared.core_tree.RuleC.{RuleC}
 use Rattle.hume_model.specs.declared.core_tree.ExnDef.{ExnDef}
 use Rattle.hume_model.specs.declared.core_tree.BoxC.{BoxC}
-use Rattle.hume_model.specs.declared.core_tree.NodeC.{NodeC}
 use Rattle.hume_model.specs.declared.core_tree.NodeC.TheVariants.{Rules, From, To}
-use Rattle.hume_model.specs.declared.core_tree.WireC.{WireC}
 use Rattle.hume_model.specs.declared.core_tree.Core.{Core}
 
 -- What is free in a one-box source: the ports of its streams, the operation, and the digits of its right operand.

@@ -13,7 +13,6 @@ use Rattle.hume_model.specs.declared.core_tree.NodeC.{NodeC}
 use Rattle.hume_model.specs.declared.core_tree.NodeC.TheVariants.{Rules, From, To}
 use Rattle.hume_model.specs.declared.core_tree.StreamC.{StreamC}
 use Rattle.hume_model.specs.declared.core_tree.Core.{Core}
-use Rattle.hume_model.specs.declared.state.State.{State}
 use Rattle.hume_model.specs.Operations.{word_of_value}
 use Rattle.hume_model.specs.Lockstep.{lockstep}
 use Rattle.hume_model.specs.Start.{start}
