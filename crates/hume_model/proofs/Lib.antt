@@ -20,4 +20,5 @@ pub mod Starts
 pub mod StartTypes
 pub mod StateTypes
 pub mod Widths
+pub mod WellFormedCores
 pub mod WordReading

@@ -16,4 +16,5 @@ pub mod Start
 pub mod Nodes
 pub mod WellFormed
 pub mod StateTyping
+pub mod TypeLimits
 pub mod Limits

@@ -19,8 +19,10 @@ ghost use Rattle.hume_model.specs.BoxTyping.{BoxIsTyped, port_types};
 ghost use Rattle.hume_model.specs.declared.state.State.{State};
 ghost use Rattle.hume_model.specs.Lockstep.{superstep, lockstep};
 ghost use Rattle.hume_model.specs.Start.{start};
-ghost use Rattle.hume_model.specs.StateTyping.{IsTypedNet, IsTypedState, InitialsAreTyped, ComingAreTyped};
+ghost use Rattle.hume_model.specs.StateTyping.{WiresAgree, IsTypedNet, IsTypedState, InitialsAreTyped, ComingAreTyped};
 ghost use Rattle.hume_model.specs.WellFormed.{HasSoundParts};
+ghost use Rattle.hume_model.specs.Limits.{IsWellFormed};
+ghost use Rattle.hume_model.specs.Reading.{HaveReadableSizes};
 
 /// A call gives what the body of the first equation that the arguments match gives in the whole program.
 pub fn calls_unfold()
@@ -68,4 +70,14 @@ pub fn starts_have_types()
 pub fn locksteps_keep_types()
     ensures { (core : Core) → IsTypedNet core → InitialsAreTyped core → (coming : List (List Value)) → ComingAreTyped core coming
         → (k : ℕ) → IsTypedState core (lockstep core (start core coming) k) }
+{}
+
+/// The types of a well-formed core have sizes that `value_of` can read.
+pub fn well_formed_types_are_readable()
+    ensures { (core : Core) → IsWellFormed core → HaveReadableSizes core.types }
+{}
+
+/// A well-formed core whose wires agree is a typed net, which begins with values of the right types.
+pub fn well_formed_nets_are_typed()
+    ensures { (core : Core) → IsWellFormed core → WiresAgree core → IsTypedNet core × InitialsAreTyped core }
 {}

@@ -20,7 +20,15 @@ mod start;
 mod state;
 mod super_steps;
 #[cfg(test)]
-mod tests;
+mod test_cores;
+#[cfg(test)]
+mod tests_expressions;
+#[cfg(test)]
+mod tests_nets;
+#[cfg(test)]
+mod tests_operations;
+#[cfg(test)]
+mod tests_reading;
 
 pub use core_tree::{
     BoxC, Core, EqC, ExnDef, Expr, FunC, HandC, InPat, NodeC, Op, PatC, PortC, Res, RuleC, StreamC,
@@ -29,7 +37,8 @@ pub use core_tree::{
 pub use evaluate::eval_plain;
 pub use laws::{
     calls_unfold, evaluation_keeps_types, firing_keeps_types, locksteps_keep_types,
-    results_keep_types, starts_have_types, supersteps_keep_types, what_is_taken_is_there,
+    results_keep_types, starts_have_types, supersteps_keep_types, well_formed_nets_are_typed,
+    well_formed_types_are_readable, what_is_taken_is_there,
 };
 pub use net::{Net, net_make};
 pub use outcome::{DIV_ZERO, NO_CASE, Outcome, Outputs, RANGE, Several};

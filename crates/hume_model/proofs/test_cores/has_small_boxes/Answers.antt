@@ -1,7 +1,7 @@
 use Rattle.std.proofs.Common.{rules, ◌<◌, ◌≤◌, length, get_or}
 use Rattle.hume_model.specs.WellFormed.{HasFewRules}
 use Rattle.hume_model.proofs.Small.{all_more, small_boxes}
-use Rattle.hume_model.proofs.tests.has_small_boxes.Goals as goal
+use Rattle.hume_model.proofs.test_cores.has_small_boxes.Goals as goal
 
 pub loop-node-preserved : goal.loop-node-preserved
 loop-node-preserved c =

@@ -1,0 +1,105 @@
+//! Expressions that were worked by hand.
+use crate::core_tree::*;
+use crate::evaluate::eval_plain;
+use crate::outcome::{NO_CASE, Outcome, RANGE};
+use crate::test_cores::*;
+use hume_base::{Box, List, Text, Ty, Value};
+use std::alloc::{AllocError, Global};
+use std::test::Fail;
+
+fn evaluated(alloc: Global, e: &Expr) -> Result<Outcome, AllocError> {
+    let core = net_core(alloc, Vec::new(alloc), Vec::new(alloc));
+    eval_plain(alloc, &core, &List::new(alloc), e)
+}
+
+// A constructor with a vector of pairs and another constructor with a field.
+fn nested(alloc: Global) -> Result<Expr, AllocError> {
+    let first = Expr::Tuple(pair(alloc, Expr::Word(1), Expr::Word(2))?);
+    let second = Expr::Tuple(pair(alloc, Expr::Word(3), Expr::Word(4))?);
+    let vector = Expr::Vect(pair(alloc, first, second)?);
+    let inner = Expr::Con(1, alone(alloc, Expr::Word(5))?);
+    Ok(Expr::Con(0, pair(alloc, vector, inner)?))
+}
+
+// A pattern for it: the vector, and the field of the inner constructor.
+fn opening(alloc: Global) -> Result<PatC, AllocError> {
+    let field = PatC::Con(1, alone(alloc, PatC::Var)?);
+    Ok(PatC::Con(0, pair(alloc, PatC::Var, field)?))
+}
+
+// The vector's element at the place, and the inner field.
+fn opened(alloc: Global, place: u64) -> Result<Outcome, AllocError> {
+    let vector = Box::new(alloc, Expr::Var(0))?;
+    let item = Expr::Index(2, vector, Box::new(alloc, Expr::Word(place))?);
+    let both = Expr::Tuple(pair(alloc, item, Expr::Var(1))?);
+    let part = Box::new(alloc, nested(alloc)?)?;
+    let arms = alone(alloc, (opening(alloc)?, both))?;
+    evaluated(alloc, &Expr::Case(part, Ty::Named(0), arms))
+}
+
+fn wanted(alloc: Global) -> Result<Outcome, AllocError> {
+    let item = Value::Tuple(pair(alloc, Value::Word(3), Value::Word(4))?);
+    Ok(Outcome::Gives(Value::Tuple(pair(alloc, item, Value::Word(5))?)))
+}
+
+#[test]
+fn a_pattern_opens_nested_constructors_and_places_count_from_1(
+    rt: HostRuntime,
+) -> Result<(), Fail> {
+    let alloc = rt.alloc();
+    assert_eq!(rt; opened(alloc, 2)?, wanted(alloc)?);
+    assert_eq!(rt; opened(alloc, 0)?, Outcome::Raises(RANGE, None));
+    assert_eq!(rt; opened(alloc, 3)?, Outcome::Raises(RANGE, None));
+    Ok(())
+}
+
+#[test]
+fn a_case_that_no_alternative_matches_raises(rt: HostRuntime) -> Result<(), Fail> {
+    let alloc = rt.alloc();
+    let arms = alone(alloc, (PatC::Word(1), Expr::Word(9)))?;
+    let e = Expr::Case(Box::new(alloc, Expr::Word(2))?, Ty::Int(32), arms);
+    assert_eq!(rt; evaluated(alloc, &e)?, Outcome::Raises(NO_CASE, None));
+    Ok(())
+}
+
+// A core of the function that gives 9 for 1, and nothing else.
+fn one_function(alloc: Global) -> Result<Core, AllocError> {
+    let equation = EqC {
+        pats: alone(alloc, PatC::Word(1))?,
+        body: Expr::Word(9),
+    };
+    let function = FunC {
+        name: Text::from_bytes(alloc, b"f")?,
+        line: 1,
+        params: alone(alloc, Ty::Int(32))?,
+        gives: Ty::Int(32),
+        equations: alone(alloc, equation)?,
+    };
+    let mut core = net_core(alloc, Vec::new(alloc), Vec::new(alloc));
+    core.funs.push(function)?;
+    Ok(core)
+}
+
+fn called(alloc: Global, argument: u64) -> Result<Outcome, AllocError> {
+    let core = one_function(alloc)?;
+    let call = Expr::Call(0, alone(alloc, Expr::Word(argument))?);
+    eval_plain(alloc, &core, &List::new(alloc), &call)
+}
+
+#[test]
+fn a_call_that_no_equation_matches_raises(rt: HostRuntime) -> Result<(), Fail> {
+    let alloc = rt.alloc();
+    assert_eq!(rt; called(alloc, 1)?, Outcome::Gives(Value::Word(9)));
+    assert_eq!(rt; called(alloc, 2)?, Outcome::Raises(NO_CASE, None));
+    Ok(())
+}
+
+#[test]
+fn the_first_part_that_raises_decides(rt: HostRuntime) -> Result<(), Fail> {
+    let alloc = rt.alloc();
+    let first = Expr::Raise(3, Some(Box::new(alloc, Expr::Word(8))?));
+    let second = Expr::Raise(4, None);
+    let outcome = evaluated(alloc, &Expr::Tuple(pair(alloc, first, second)?))?;
+    assert_eq!(rt; outcome, Outcome::Raises(3, Some(Value::Word(8))));
+    Ok(())
+}
