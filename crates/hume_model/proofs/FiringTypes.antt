@@ -56,7 +56,7 @@ bound_typed types down (PositionsHave.built {ty = t} {vars = xs} {more = ys} {p 
     (matched_values types down t p xs (matches p v) fs.0 (λ vs found. pattern_typed types down pattern v vs ps.0 found))
     (bound_typed types down rest ins ps.1 fs.1)
 
-found_in : {X : Type 0} (test : X → Bool) (xs : List X) (x : X) → find test xs ≡ Some x → (i : ℕ) × (slice_get xs i ≡ Some x) × (test x ≡ true)
+pub found_in : {X : Type 0} (test : X → Bool) (xs : List X) (x : X) → find test xs ≡ Some x → (i : ℕ) × (slice_get xs i ≡ Some x) × (test x ≡ true)
 found_in test [] x h = cc
 found_in test (y ∷ ys) x h = elim (chosen (test y) (Some y) (find test ys) (Some x) h) [
   | inl first ↦ (0, first.1, (let same : y ≡ x = (let f = first.1 in cc) in ap test (sym same) ∙ first.0))

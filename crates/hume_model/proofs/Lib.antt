@@ -5,6 +5,7 @@ pub mod Evaluation
 pub mod ExpressionTypes
 pub mod Fields
 pub mod FiringTypes
+pub mod AllOutputs
 pub mod FrontReading
 pub mod Layers
 pub mod PatternTypes

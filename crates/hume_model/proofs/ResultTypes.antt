@@ -28,22 +28,22 @@ use Rattle.hume_model.proofs.PatternTypes.{both_true, of_both, one_of, pattern_t
 use Rattle.hume_model.proofs.CallTypes.{eval_typed}
 
 module _ (core : Core) (env : List Value) where
-  result-outs : (outs : List (Option Expr)) → result_of core env (res.Outs outs) ≡ outs_in_order (map (option_map (meaning_in core)) outs) env
+  pub result-outs : (outs : List (Option Expr)) → result_of core env (res.Outs outs) ≡ outs_in_order (map (option_map (meaning_in core)) outs) env
   result-outs outs = ap (λ r. result_of core env r) (sym (res.rolls-Outs outs)) ∙ ap (λ (m : ResultMeaning). m env) (fold-roll-Res ResultMeaning (result_step (meaning_in core)) (Res-F.Outs outs))
 
-  result-if : (test : Expr) (a b : Box Res) → result_of core env (res.If test a b)
+  pub result-if : (test : Expr) (a b : Box Res) → result_of core env (res.If test a b)
       ≡ then_outputs (meaning_in core test env) (λ v. if word_of_value v == 0 then result_of core env b else result_of core env a)
   result-if test a b = ap (λ r. result_of core env r) (sym (res.rolls-If test a b)) ∙ ap (λ (m : ResultMeaning). m env) (fold-roll-Res ResultMeaning (result_step (meaning_in core)) (Res-F.If test a b))
 
-  result-case : (e : Expr) (t : Ty) (arms : List (PatC × Res)) → result_of core env (res.Case e t arms)
+  pub result-case : (e : Expr) (t : Ty) (arms : List (PatC × Res)) → result_of core env (res.Case e t arms)
       ≡ then_outputs (meaning_in core e env) (λ v. first_result (map (result_arm_with (λ r env. result_of core env r)) arms) v env)
   result-case e t arms = ap (λ r. result_of core env r) (sym (res.rolls-Case e t arms)) ∙ ap (λ (m : ResultMeaning). m env) (fold-roll-Res ResultMeaning (result_step (meaning_in core)) (Res-F.Case e t arms))
 
-  result-let : (e : Expr) (body : Box Res) → result_of core env (res.Let e body)
+  pub result-let : (e : Expr) (body : Box Res) → result_of core env (res.Let e body)
       ≡ then_outputs (meaning_in core e env) (λ v. result_of core (env ++ v ∷ []) body)
   result-let e body = ap (λ r. result_of core env r) (sym (res.rolls-Let e body)) ∙ ap (λ (m : ResultMeaning). m env) (fold-roll-Res ResultMeaning (result_step (meaning_in core)) (Res-F.Let e body))
 
-  result-raise : (x : ℕ) (e : Option Expr) → result_of core env (res.Raise x e) ≡ thrown (raised x (option_map (meaning_in core) e) env)
+  pub result-raise : (x : ℕ) (e : Option Expr) → result_of core env (res.Raise x e) ≡ thrown (raised x (option_map (meaning_in core) e) env)
   result-raise x e = ap (λ r. result_of core env r) (sym (res.rolls-Raise x e)) ∙ ap (λ (m : ResultMeaning). m env) (fold-roll-Res ResultMeaning (result_step (meaning_in core)) (Res-F.Raise x e))
 
 either : (P : Outputs → Type 0) (b : Bool) (x y : Outputs) → P x → P y → P (if b then x else y)

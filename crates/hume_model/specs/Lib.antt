@@ -9,6 +9,7 @@ pub mod Reading
 pub mod Results
 pub mod ResultTyping
 pub mod BoxTyping
+pub mod Handling
 pub mod Firing
 pub mod HalfSteps
 pub mod Lockstep

@@ -16,6 +16,7 @@ ghost use Rattle.hume_model.specs.Results.{result_of};
 ghost use Rattle.hume_model.specs.ResultTyping.{GivesOutputs, is_result, are_outputs};
 ghost use Rattle.hume_model.specs.Firing.{fire};
 ghost use Rattle.hume_model.specs.BoxTyping.{BoxIsTyped, port_types};
+ghost use Rattle.hume_model.specs.Handling.{HandlesAll};
 ghost use Rattle.hume_model.specs.declared.state.State.{State};
 ghost use Rattle.hume_model.specs.Lockstep.{superstep, lockstep};
 ghost use Rattle.hume_model.specs.Start.{start};
@@ -54,6 +55,13 @@ pub fn results_keep_types()
 pub fn firing_keeps_types()
     ensures { (core : Core) → HasSoundParts core → (b : BoxC) → BoxIsTyped core b → (ins : List (Option Value)) → are_outputs core.types (port_types b.ins) ins ≡ true
         → (order : List ℕ) (firing : TheFiring) → fire core b order ins ≡ Some firing → are_outputs core.types (port_types b.outs) firing.outs ≡ true }
+{}
+
+/// A box that handles each exception that its rules raise gives something or nothing to each of its outputs when it fires:
+/// no output is left out for want of a handler.
+pub fn handled_boxes_give_all_outputs()
+    ensures { (core : Core) (b : BoxC) → BoxIsTyped core b → HandlesAll core b → (ins : List (Option Value)) → are_outputs core.types (port_types b.ins) ins ≡ true
+        → (order : List ℕ) (firing : TheFiring) → fire core b order ins ≡ Some firing → length firing.outs ≡ length b.outs }
 {}
 
 /// A superstep keeps types: each wire, each pending output and each input to come has a value of its type.

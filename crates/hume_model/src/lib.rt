@@ -36,9 +36,9 @@ pub use core_tree::{
 };
 pub use evaluate::eval_plain;
 pub use laws::{
-    calls_unfold, evaluation_keeps_types, firing_keeps_types, locksteps_keep_types,
-    results_keep_types, starts_have_types, supersteps_keep_types, well_formed_nets_are_typed,
-    well_formed_types_are_readable, what_is_taken_is_there,
+    calls_unfold, evaluation_keeps_types, firing_keeps_types, handled_boxes_give_all_outputs,
+    locksteps_keep_types, results_keep_types, starts_have_types, supersteps_keep_types,
+    well_formed_nets_are_typed, well_formed_types_are_readable, what_is_taken_is_there,
 };
 pub use net::{Net, net_make};
 pub use outcome::{DIV_ZERO, NO_CASE, Outcome, Outputs, RANGE, Several};
