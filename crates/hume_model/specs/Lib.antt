@@ -17,4 +17,5 @@ pub mod Nodes
 pub mod WellFormed
 pub mod StateTyping
 pub mod TypeLimits
+pub mod PartLimits
 pub mod Limits

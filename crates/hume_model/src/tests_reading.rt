@@ -33,22 +33,19 @@ fn a_vector_of_pairs_is_read_from_all_its_words(rt: HostRuntime) -> Result<(), F
 
 // A data type of two constructors: one with a `nat 8` and a `bool`, and one without fields.
 fn one_data_type(alloc: Global) -> Result<Types, AllocError> {
-    let full = ConDef {
-        name: Text::from_bytes(alloc, b"Full")?,
-        fields: pair(alloc, Ty::Nat(8), Ty::Bool)?,
-    };
-    let empty = ConDef {
-        name: Text::from_bytes(alloc, b"Empty")?,
-        fields: List::new(alloc),
-    };
-    let sum = SumDef {
-        name: Text::from_bytes(alloc, b"cell")?,
-        cons: pair(alloc, full, empty)?,
-        words: 3,
-    };
-    Ok(Types {
-        sums: alone(alloc, sum)?,
-    })
+    let fields = pair(alloc, Ty::Nat(8), Ty::Bool)?;
+    let full = constructor(alloc, b"Full", fields)?;
+    let empty = constructor(alloc, b"Empty", List::new(alloc))?;
+    let cons = pair(alloc, full, empty)?;
+    let name = Text::from_bytes(alloc, b"cell")?;
+    let words = 3;
+    let sums = alone(alloc, SumDef { name, cons, words })?;
+    Ok(Types { sums })
+}
+
+fn constructor(alloc: Global, name: &[u8], fields: List<Ty>) -> Result<ConDef, AllocError> {
+    let name = Text::from_bytes(alloc, name)?;
+    Ok(ConDef { name, fields })
 }
 
 // The vector of two data at the front of the words, and how many words are left.
