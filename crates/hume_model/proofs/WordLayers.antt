@@ -20,3 +20,6 @@ module _ (named : ℕ → Value → List ℕ) (v : Value) where
 
   pub vector-words : (count : ℕ) (item : Box Ty) → flat_with named (ty.Vector count item) v ≡ flat_map (flat_with named item) (parts_in (out-Value v))
   vector-words count item = ap (λ t. flat_with named t v) (sym (ty.rolls-Vector count item)) ∙ ap (λ (f : Value → List ℕ). f v) (fold-roll-Ty (Value → List ℕ) (flat_step named) (Ty-F.Vector count item))
+
+  pub named-words : (number : ℕ) → flat_with named (ty.Named number) v ≡ named number v
+  named-words number = ap (λ t. flat_with named t v) (sym (ty.rolls-Named number)) ∙ ap (λ (f : Value → List ℕ). f v) (fold-roll-Ty (Value → List ℕ) (flat_step named) (Ty-F.Named number))
