@@ -22,4 +22,5 @@ pub mod StartTypes
 pub mod StateTypes
 pub mod Widths
 pub mod WellFormedCores
+pub mod WordLayers
 pub mod WordReading

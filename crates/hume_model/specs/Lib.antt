@@ -18,4 +18,5 @@ pub mod Nodes
 pub mod WellFormed
 pub mod StateTyping
 pub mod TypeLimits
+pub mod PartLimits
 pub mod Limits

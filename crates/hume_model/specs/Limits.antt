@@ -1,5 +1,6 @@
 -- What is asked of a whole core: its parts are sound, its wires have ends, and all is within the limits.
 use Rattle.std.specs.Prelude.{◌≡◌, ℕ, ◌≤◌, ◌<◌, true, All, List, [], ◌∷◌, codes, length, map, sum, take, Some, slice_get}
+use Rattle.std.specs.List.{list_all}
 use Rattle.hume_base.specs.declared.types.Ty.{Ty}
 use Rattle.hume_base.specs.declared.types.Ty.TheVariants as shape
 use Rattle.hume_base.specs.declared.types.SumDef.{SumDef}
@@ -11,6 +12,7 @@ use Rattle.hume_base.specs.Values.{is_value}
 use Rattle.hume_model.specs.declared.core_tree.ExnDef.{ExnDef}
 use Rattle.hume_model.specs.declared.core_tree.FunC.{FunC}
 use Rattle.hume_model.specs.declared.core_tree.PortC.{PortC}
+use Rattle.hume_model.specs.declared.core_tree.HandC.{HandC}
 use Rattle.hume_model.specs.declared.core_tree.BoxC.{BoxC}
 use Rattle.hume_model.specs.declared.core_tree.StreamC.{StreamC}
 use Rattle.hume_model.specs.declared.core_tree.NodeC.{NodeC}
@@ -20,6 +22,7 @@ use Rattle.hume_model.specs.declared.core_tree.Core.{Core}
 use Rattle.hume_model.specs.Lockstep.{inputs_of, outputs_of}
 use Rattle.hume_model.specs.BoxTyping.{BoxIsTyped}
 use Rattle.hume_model.specs.TypeLimits.{IsWrittenType}
+use Rattle.hume_model.specs.PartLimits.{is_written_equation, is_written_rule, is_written_result}
 use Rattle.hume_model.specs.WellFormed.{HasSoundParts, HasSmallBoxes}
 
 -- a name has 1 to 32 bytes
@@ -48,6 +51,8 @@ pub record IsSmallBox (types : Types) (b : BoxC) : Type 0 where
   pub each_output : All (IsSmallPort types) b.outs
   pub some_rules : 1 ≤ length b.rules
   pub rules : length b.rules ≤ 64
+  pub each_rule : list_all is_written_rule b.rules ≡ true
+  pub each_handler : list_all (λ (handler : HandC). is_written_result handler.result) b.handlers ≡ true
 
 pub record IsSmallStream (stream : StreamC) : Type 0 where
   pub name : IsName stream.name
@@ -67,6 +72,7 @@ pub record IsSmallFunction (types : Types) (function : FunC) : Type 0 where
   pub each_param : All (IsWrittenType types) function.params
   pub gives : IsWrittenType types function.gives
   pub equations : 1 ≤ length function.equations
+  pub each_equation : list_all is_written_equation function.equations ≡ true
 
 pub record IsSmallException (types : Types) (exn : ExnDef) : Type 0 where
   pub name : IsName exn.name

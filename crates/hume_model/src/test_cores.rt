@@ -12,13 +12,18 @@ use std::test::Fail;
 pub(crate) fn alone<T: Drop>(alloc: Global, item: T) -> Result<List<T>, AllocError>
     ensures { IfOk result (λ list. list ≡ item ∷ []) }
 {
-    Ok(List::from_vec(vec![in alloc; item]?))
+    let mut list = List::new(alloc);
+    list.push(item)?;
+    Ok(list)
 }
 
 pub(crate) fn pair<T: Drop>(alloc: Global, first: T, second: T) -> Result<List<T>, AllocError>
     ensures { IfOk result (λ list. list ≡ first ∷ second ∷ []) }
 {
-    Ok(List::from_vec(vec![in alloc; first, second]?))
+    let mut list = List::new(alloc);
+    list.push(first)?;
+    list.push(second)?;
+    Ok(list)
 }
 
 fn ports(alloc: Global, count: usize) -> Result<List<PortC>, AllocError> {
@@ -31,11 +36,9 @@ fn ports(alloc: Global, count: usize) -> Result<List<PortC>, AllocError> {
     Ok(ports)
 }
 
-pub(crate) fn rule(pats: Vec<InPat>, outs: Vec<Option<Expr>>) -> RuleC {
-    RuleC {
-        pats: List::from_vec(pats),
-        result: Res::Outs(List::from_vec(outs)),
-    }
+pub(crate) fn rule(pats: List<InPat>, outs: List<Option<Expr>>) -> RuleC {
+    let result = Res::Outs(outs);
+    RuleC { pats, result }
 }
 
 // A box of ports of `int 32`.
@@ -43,48 +46,66 @@ pub(crate) fn a_box(
     alloc: Global,
     counts: (usize, usize),
     fair: bool,
-    rules: Vec<RuleC>,
-    handlers: Vec<HandC>,
+    rules: List<RuleC>,
+    handlers: List<HandC>,
 ) -> Result<NodeC, AllocError> {
+    let name = Text::from_bytes(alloc, b"b")?;
+    let ins = ports(alloc, counts.0)?;
+    let outs = ports(alloc, counts.1)?;
     Ok(NodeC::Rules(BoxC {
-        name: Text::from_bytes(alloc, b"b")?,
+        name,
         line: 1,
-        ins: ports(alloc, counts.0)?,
-        outs: ports(alloc, counts.1)?,
+        ins,
+        outs,
         fair,
-        rules: List::from_vec(rules),
-        handlers: List::from_vec(handlers),
+        rules,
+        handlers,
     }))
 }
 
 // A box of one input and one output, which hands on what it takes.
 pub(crate) fn passing(alloc: Global) -> Result<NodeC, AllocError> {
-    let rules = vec![in alloc; rule(one_var(alloc)?, one_out(alloc, Expr::Var(0))?)]?;
-    a_box(alloc, (1, 1), false, rules, Vec::new(alloc))
+    one_in_one_out(alloc, Expr::Var(0))
 }
 
-pub(crate) fn one_var(alloc: Global) -> Result<Vec<InPat>, AllocError> {
-    Ok(vec![in alloc; InPat::Built(PatC::Var)]?)
+// A box of one input and one output, which gives the expression of what it takes.
+pub(crate) fn one_in_one_out(alloc: Global, out: Expr) -> Result<NodeC, AllocError> {
+    let rules = alone(alloc, rule(one_var(alloc)?, one_out(alloc, out)?))?;
+    a_box(alloc, (1, 1), false, rules, List::new(alloc))
 }
 
-pub(crate) fn one_out(alloc: Global, out: Expr) -> Result<Vec<Option<Expr>>, AllocError> {
-    Ok(vec![in alloc; Some(out)]?)
+pub(crate) fn one_var(alloc: Global) -> Result<List<InPat>, AllocError> {
+    alone(alloc, InPat::Built(PatC::Var))
 }
 
-pub(crate) fn input(alloc: Global) -> Result<NodeC, AllocError> {
-    Ok(NodeC::From(stream(alloc)?))
-}
-
-pub(crate) fn output(alloc: Global) -> Result<NodeC, AllocError> {
-    Ok(NodeC::To(stream(alloc)?))
+pub(crate) fn one_out(alloc: Global, out: Expr) -> Result<List<Option<Expr>>, AllocError> {
+    alone(alloc, Some(out))
 }
 
 fn stream(alloc: Global) -> Result<StreamC, AllocError> {
+    let name = Text::from_bytes(alloc, b"s")?;
+    let port = Text::from_bytes(alloc, b"o")?;
     Ok(StreamC {
-        name: Text::from_bytes(alloc, b"s")?,
+        name,
         line: 1,
-        port: Text::from_bytes(alloc, b"o")?,
+        port,
     })
+}
+
+// The boxes, and after them so many input streams and output streams.
+pub(crate) fn with_streams(
+    alloc: Global,
+    boxes: List<NodeC>,
+    counts: (u32, u32),
+) -> Result<List<NodeC>, AllocError> {
+    let mut nodes = boxes;
+    for _input in 0..counts.0 {
+        nodes.push(NodeC::From(stream(alloc)?))?;
+    }
+    for _output in 0..counts.1 {
+        nodes.push(NodeC::To(stream(alloc)?))?;
+    }
+    Ok(nodes)
 }
 
 pub(crate) fn wire(from: (u32, u32), to: (u32, u32)) -> WireC {
@@ -99,32 +120,44 @@ pub(crate) fn wire(from: (u32, u32), to: (u32, u32)) -> WireC {
     }
 }
 
-pub(crate) fn net_core(alloc: Global, nodes: Vec<NodeC>, wires: Vec<WireC>) -> Core {
+// A wire from and to the ports of each row, as node and port.
+pub(crate) fn wires(alloc: Global, rows: &[[(u32, u32); 2]]) -> Result<List<WireC>, AllocError> {
+    let mut wires = List::new(alloc);
+    for [from, to] in rows {
+        wires.push(wire(*from, *to))?;
+    }
+    Ok(wires)
+}
+
+pub(crate) fn net_core(alloc: Global, nodes: List<NodeC>, wires: List<WireC>) -> Core {
+    let types = Types {
+        sums: List::new(alloc),
+    };
     Core {
-        types: Types {
-            sums: List::new(alloc),
-        },
+        types,
         exns: List::new(alloc),
         funs: List::new(alloc),
-        nodes: List::from_vec(nodes),
-        wires: List::from_vec(wires),
+        nodes,
+        wires,
     }
+}
+
+// A core that has nothing in it.
+pub(crate) fn no_net(alloc: Global) -> Core {
+    net_core(alloc, List::new(alloc), List::new(alloc))
 }
 
 // The box, two input streams at its inputs and an output stream.
 pub(crate) fn two_inputs(
     alloc: Global,
     fair: bool,
-    rules: Vec<RuleC>,
-    handlers: Vec<HandC>,
+    rules: List<RuleC>,
+    handlers: List<HandC>,
 ) -> Result<Core, AllocError> {
-    let the_box = a_box(alloc, (2, 1), fair, rules, handlers)?;
-    let nodes = vec![in alloc; the_box, input(alloc)?, input(alloc)?, output(alloc)?]?;
-    let wires = vec![in alloc;
-        wire((1, 0), (0, 0)),
-        wire((2, 0), (0, 1)),
-        wire((0, 0), (3, 0)),
-    ]?;
+    let boxes = alone(alloc, a_box(alloc, (2, 1), fair, rules, handlers)?)?;
+    let nodes = with_streams(alloc, boxes, (2, 1))?;
+    let rows = [[(1, 0), (0, 0)], [(2, 0), (0, 1)], [(0, 0), (3, 0)]];
+    let wires = wires(alloc, &rows)?;
     Ok(net_core(alloc, nodes, wires))
 }
 

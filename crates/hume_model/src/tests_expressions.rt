@@ -8,8 +8,7 @@ use std::alloc::{AllocError, Global};
 use std::test::Fail;
 
 fn evaluated(alloc: Global, e: &Expr) -> Result<Outcome, AllocError> {
-    let core = net_core(alloc, Vec::new(alloc), Vec::new(alloc));
-    eval_plain(alloc, &core, &List::new(alloc), e)
+    eval_plain(alloc, &no_net(alloc), &List::new(alloc), e)
 }
 
 // A constructor with a vector of pairs and another constructor with a field.
@@ -62,26 +61,25 @@ fn a_case_that_no_alternative_matches_raises(rt: HostRuntime) -> Result<(), Fail
     Ok(())
 }
 
-// A core of the function that gives 9 for 1, and nothing else.
-fn one_function(alloc: Global) -> Result<Core, AllocError> {
-    let equation = EqC {
-        pats: alone(alloc, PatC::Word(1))?,
-        body: Expr::Word(9),
-    };
-    let function = FunC {
-        name: Text::from_bytes(alloc, b"f")?,
+// A function that gives 9 for 1, and nothing else.
+fn of_one(alloc: Global) -> Result<FunC, AllocError> {
+    let pats = alone(alloc, PatC::Word(1))?;
+    let body = Expr::Word(9);
+    let equations = alone(alloc, EqC { pats, body })?;
+    let name = Text::from_bytes(alloc, b"f")?;
+    let params = alone(alloc, Ty::Int(32))?;
+    Ok(FunC {
+        name,
         line: 1,
-        params: alone(alloc, Ty::Int(32))?,
+        params,
         gives: Ty::Int(32),
-        equations: alone(alloc, equation)?,
-    };
-    let mut core = net_core(alloc, Vec::new(alloc), Vec::new(alloc));
-    core.funs.push(function)?;
-    Ok(core)
+        equations,
+    })
 }
 
 fn called(alloc: Global, argument: u64) -> Result<Outcome, AllocError> {
-    let core = one_function(alloc)?;
+    let mut core = no_net(alloc);
+    core.funs.push(of_one(alloc)?)?;
     let call = Expr::Call(0, alone(alloc, Expr::Word(argument))?);
     eval_plain(alloc, &core, &List::new(alloc), &call)
 }

@@ -6,15 +6,19 @@ use hume_base::{List, Value};
 use std::alloc::{AllocError, Global};
 use std::test::Fail;
 
-fn counting(alloc: Global) -> Result<Core, AllocError> {
+// A box that gives what it takes and 1 more, and what it takes.
+fn counter(alloc: Global) -> Result<NodeC, AllocError> {
     let more = prim(alloc, Op::Add, Expr::Var(0), Expr::Word(1))?;
-    let outs = vec![in alloc; Some(more), Some(Expr::Var(0))]?;
-    let rules = vec![in alloc; rule(one_var(alloc)?, outs)]?;
-    let counter = a_box(alloc, (1, 2), false, rules, Vec::new(alloc))?;
-    let nodes = vec![in alloc; counter, output(alloc)?]?;
+    let outs = pair(alloc, Some(more), Some(Expr::Var(0)))?;
+    let rules = alone(alloc, rule(one_var(alloc)?, outs))?;
+    a_box(alloc, (1, 2), false, rules, List::new(alloc))
+}
+
+fn counting(alloc: Global) -> Result<Core, AllocError> {
     let mut back = wire((0, 0), (0, 0));
     back.initial = Some(Value::Word(0));
-    let wires = vec![in alloc; back, wire((0, 1), (1, 0))]?;
+    let wires = pair(alloc, back, wire((0, 1), (1, 0)))?;
+    let nodes = with_streams(alloc, alone(alloc, counter(alloc)?)?, (0, 1))?;
     Ok(net_core(alloc, nodes, wires))
 }
 
@@ -28,15 +32,18 @@ fn a_box_wired_to_itself_counts(rt: HostRuntime) -> Result<(), Fail> {
 }
 
 fn chain(alloc: Global) -> Result<Core, AllocError> {
-    let mut nodes = vec![in alloc; passing(alloc)?, passing(alloc)?, passing(alloc)?]?;
-    nodes.push(input(alloc)?)?;
-    nodes.push(output(alloc)?)?;
-    let wires = vec![in alloc;
-        wire((3, 0), (0, 0)),
-        wire((0, 0), (1, 0)),
-        wire((1, 0), (2, 0)),
-        wire((2, 0), (4, 0)),
-    ]?;
+    let mut boxes = List::new(alloc);
+    for _box in 0..3 {
+        boxes.push(passing(alloc)?)?;
+    }
+    let nodes = with_streams(alloc, boxes, (1, 1))?;
+    let rows = [
+        [(3, 0), (0, 0)],
+        [(0, 0), (1, 0)],
+        [(1, 0), (2, 0)],
+        [(2, 0), (4, 0)],
+    ];
+    let wires = wires(alloc, &rows)?;
     Ok(net_core(alloc, nodes, wires))
 }
 
@@ -59,28 +66,27 @@ fn a_value_goes_on_by_one_wire_in_a_superstep(rt: HostRuntime) -> Result<(), Fai
 
 // A box that gives each value twice, of which a box that takes nothing never takes the second.
 fn blocked(alloc: Global) -> Result<Core, AllocError> {
-    let both = vec![in alloc; Some(Expr::Var(0)), Some(Expr::Var(0))]?;
-    let doubling = vec![in alloc; rule(one_var(alloc)?, both)]?;
-    let doubling = a_box(alloc, (1, 2), false, doubling, Vec::new(alloc))?;
-    let nodes = vec![in alloc;
-        doubling,
-        idle(alloc)?,
-        input(alloc)?,
-        output(alloc)?,
-        output(alloc)?,
-    ]?;
-    let wires = vec![in alloc;
-        wire((2, 0), (0, 0)),
-        wire((0, 0), (3, 0)),
-        wire((0, 1), (1, 0)),
-        wire((1, 0), (4, 0)),
-    ]?;
+    let boxes = pair(alloc, doubling(alloc)?, idle(alloc)?)?;
+    let nodes = with_streams(alloc, boxes, (1, 2))?;
+    let rows = [
+        [(2, 0), (0, 0)],
+        [(0, 0), (3, 0)],
+        [(0, 1), (1, 0)],
+        [(1, 0), (4, 0)],
+    ];
+    let wires = wires(alloc, &rows)?;
     Ok(net_core(alloc, nodes, wires))
 }
 
+fn doubling(alloc: Global) -> Result<NodeC, AllocError> {
+    let both = pair(alloc, Some(Expr::Var(0)), Some(Expr::Var(0)))?;
+    let rules = alone(alloc, rule(one_var(alloc)?, both))?;
+    a_box(alloc, (1, 2), false, rules, List::new(alloc))
+}
+
 fn idle(alloc: Global) -> Result<NodeC, AllocError> {
-    let idle = rule(vec![in alloc; InPat::Star]?, vec![in alloc; None]?);
-    a_box(alloc, (1, 1), false, vec![in alloc; idle]?, Vec::new(alloc))
+    let rules = alone(alloc, rule(alone(alloc, InPat::Star)?, alone(alloc, None)?))?;
+    a_box(alloc, (1, 1), false, rules, List::new(alloc))
 }
 
 #[test]
@@ -103,17 +109,21 @@ fn a_blocked_box_writes_neither_output_and_stays_blocked(rt: HostRuntime) -> Res
     Ok(())
 }
 
-// One rule, whose patterns are a variable and the other one, and which gives the variable.
-fn first_and(alloc: Global, second: InPat) -> Result<Vec<RuleC>, AllocError> {
-    let pats = vec![in alloc; InPat::Built(PatC::Var), second]?;
-    Ok(vec![in alloc; rule(pats, one_out(alloc, Expr::Var(0))?)]?)
+fn variable() -> InPat {
+    InPat::Built(PatC::Var)
+}
+
+// A rule of a pattern for each of two inputs, which gives its only variable.
+fn giving(alloc: Global, first: InPat, second: InPat) -> Result<RuleC, AllocError> {
+    let pats = pair(alloc, first, second)?;
+    Ok(rule(pats, one_out(alloc, Expr::Var(0))?))
 }
 
 #[test]
 fn a_star_takes_nothing(rt: HostRuntime) -> Result<(), Fail> {
     let alloc = rt.alloc();
-    let rules = first_and(alloc, InPat::Star)?;
-    let core = two_inputs(alloc, false, rules, Vec::new(alloc))?;
+    let rules = alone(alloc, giving(alloc, variable(), InPat::Star)?)?;
+    let core = two_inputs(alloc, false, rules, List::new(alloc))?;
     let net = after(alloc, &core, &[(1, &[1, 2]), (2, &[7])], 4)?;
     assert!(rt; has_taken(&net, 3, &[1, 2]));
     assert!(rt; wires_hold(&net, &[None, Some(7), None]));
@@ -122,21 +132,16 @@ fn a_star_takes_nothing(rt: HostRuntime) -> Result<(), Fail> {
 
 // A box whose second input gets its values by way of another box.
 fn one_box_later(alloc: Global) -> Result<Core, AllocError> {
-    let rules = first_and(alloc, InPat::AnyStar)?;
-    let waiting = a_box(alloc, (2, 1), false, rules, Vec::new(alloc))?;
-    let nodes = vec![in alloc;
-        waiting,
-        passing(alloc)?,
-        input(alloc)?,
-        input(alloc)?,
-        output(alloc)?,
-    ]?;
-    let wires = vec![in alloc;
-        wire((2, 0), (0, 0)),
-        wire((3, 0), (1, 0)),
-        wire((1, 0), (0, 1)),
-        wire((0, 0), (4, 0)),
-    ]?;
+    let rules = alone(alloc, giving(alloc, variable(), InPat::AnyStar)?)?;
+    let taking = a_box(alloc, (2, 1), false, rules, List::new(alloc))?;
+    let nodes = with_streams(alloc, pair(alloc, taking, passing(alloc)?)?, (2, 1))?;
+    let rows = [
+        [(2, 0), (0, 0)],
+        [(3, 0), (1, 0)],
+        [(1, 0), (0, 1)],
+        [(0, 0), (4, 0)],
+    ];
+    let wires = wires(alloc, &rows)?;
     Ok(net_core(alloc, nodes, wires))
 }
 
@@ -156,11 +161,10 @@ fn an_any_star_takes_what_is_there_and_does_not_wait(rt: HostRuntime) -> Result<
     Ok(())
 }
 
-fn either(alloc: Global) -> Result<Vec<RuleC>, AllocError> {
-    let mut rules = first_and(alloc, InPat::Star)?;
-    let pats = vec![in alloc; InPat::Star, InPat::Built(PatC::Var)]?;
-    rules.push(rule(pats, one_out(alloc, Expr::Var(0))?))?;
-    Ok(rules)
+fn either(alloc: Global) -> Result<List<RuleC>, AllocError> {
+    let first = giving(alloc, variable(), InPat::Star)?;
+    let second = giving(alloc, InPat::Star, variable())?;
+    pair(alloc, first, second)
 }
 
 #[test]
@@ -168,7 +172,7 @@ fn a_fair_box_takes_turns_and_another_does_not(rt: HostRuntime) -> Result<(), Fa
     let alloc = rt.alloc();
     let orders = [(true, [1, 10, 2, 20, 3]), (false, [1, 2, 3, 4, 10])];
     for (fair, wanted) in orders {
-        let core = two_inputs(alloc, fair, either(alloc)?, Vec::new(alloc))?;
+        let core = two_inputs(alloc, fair, either(alloc)?, List::new(alloc))?;
         let net = after(
             alloc,
             &core,
@@ -180,10 +184,10 @@ fn a_fair_box_takes_turns_and_another_does_not(rt: HostRuntime) -> Result<(), Fa
     Ok(())
 }
 
-fn three_turns(alloc: Global) -> Result<Vec<RuleC>, AllocError> {
-    let mut rules = Vec::new(alloc);
+fn three_turns(alloc: Global) -> Result<List<RuleC>, AllocError> {
+    let mut rules = List::new(alloc);
     for word in 1..4 {
-        let pats = vec![in alloc; InPat::Star, InPat::Star]?;
+        let pats = pair(alloc, InPat::Star, InPat::Star)?;
         rules.push(rule(pats, one_out(alloc, Expr::Word(word))?))?;
     }
     Ok(rules)
@@ -192,21 +196,21 @@ fn three_turns(alloc: Global) -> Result<Vec<RuleC>, AllocError> {
 #[test]
 fn the_rule_that_fired_goes_last_of_three(rt: HostRuntime) -> Result<(), Fail> {
     let alloc = rt.alloc();
-    let core = two_inputs(alloc, true, three_turns(alloc)?, Vec::new(alloc))?;
+    let core = two_inputs(alloc, true, three_turns(alloc)?, List::new(alloc))?;
     let net = after(alloc, &core, &[], 5)?;
     assert!(rt; has_taken(&net, 3, &[1, 2, 3, 1]));
     Ok(())
 }
 
-fn handling(alloc: Global, exn: u8, bound: bool, out: Expr) -> Result<Vec<HandC>, AllocError> {
-    let result = Res::Outs(List::from_vec(one_out(alloc, out)?));
-    Ok(vec![in alloc; HandC { exn, bound, result }]?)
+fn handling(alloc: Global, exn: u8, bound: bool, out: Expr) -> Result<List<HandC>, AllocError> {
+    let result = Res::Outs(one_out(alloc, out)?);
+    alone(alloc, HandC { exn, bound, result })
 }
 
 fn dividing(alloc: Global) -> Result<Core, AllocError> {
-    let pats = vec![in alloc; InPat::Built(PatC::Var), InPat::Built(PatC::Var)]?;
+    let pats = pair(alloc, variable(), variable())?;
     let quotient = prim(alloc, Op::Div, Expr::Var(0), Expr::Var(1))?;
-    let rules = vec![in alloc; rule(pats, one_out(alloc, quotient)?)]?;
+    let rules = alone(alloc, rule(pats, one_out(alloc, quotient)?))?;
     let handlers = handling(alloc, DIV_ZERO, false, Expr::Word(0))?;
     two_inputs(alloc, false, rules, handlers)
 }
@@ -220,16 +224,20 @@ fn a_handler_gives_the_outputs_and_the_inputs_stay_taken(rt: HostRuntime) -> Res
     Ok(())
 }
 
-// A box that raises an exception with its input and 1, and handles it by twice what the exception carries.
-fn throwing(alloc: Global) -> Result<Core, AllocError> {
+// A rule that raises an exception with its first input and 1.
+fn raising(alloc: Global) -> Result<RuleC, AllocError> {
     let more = prim(alloc, Op::Add, Expr::Var(0), Expr::Word(1))?;
-    let throwing = RuleC {
-        pats: List::from_vec(vec![in alloc; InPat::Built(PatC::Var), InPat::AnyStar]?),
-        result: Res::Raise(3, Some(more)),
-    };
+    let pats = pair(alloc, variable(), InPat::AnyStar)?;
+    let result = Res::Raise(3, Some(more));
+    Ok(RuleC { pats, result })
+}
+
+// And a handler that gives twice what the exception carries.
+fn throwing(alloc: Global) -> Result<Core, AllocError> {
     let double = prim(alloc, Op::Add, Expr::Var(0), Expr::Var(0))?;
     let handlers = handling(alloc, 3, true, double)?;
-    two_inputs(alloc, false, vec![in alloc; throwing]?, handlers)
+    let rules = alone(alloc, raising(alloc)?)?;
+    two_inputs(alloc, false, rules, handlers)
 }
 
 #[test]

@@ -94,10 +94,9 @@ fn words_of(numbers: [i64; 2]) -> [u64; 2] {
 fn computing(alloc: Global, op: Op, ty: Ty, operand: i64) -> Result<Core, AllocError> {
     let operand = Expr::Word(word_of_int(operand));
     let out = Expr::Prim(op, ty, pair(alloc, Expr::Var(0), operand)?);
-    let rules = vec![in alloc; rule(one_var(alloc)?, one_out(alloc, out)?)]?;
-    let the_box = a_box(alloc, (1, 1), false, rules, Vec::new(alloc))?;
-    let nodes = vec![in alloc; the_box, input(alloc)?, output(alloc)?]?;
-    let wires = vec![in alloc; wire((1, 0), (0, 0)), wire((0, 0), (2, 0))]?;
+    let boxes = alone(alloc, one_in_one_out(alloc, out)?)?;
+    let nodes = with_streams(alloc, boxes, (1, 1))?;
+    let wires = wires(alloc, &[[(1, 0), (0, 0)], [(0, 0), (2, 0)]])?;
     Ok(net_core(alloc, nodes, wires))
 }
 

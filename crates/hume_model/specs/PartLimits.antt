@@ -1,0 +1,80 @@
+-- How many parts tuples, vectors and `case`s may have in patterns, expressions and results.
+use Rattle.std.specs.Prelude.{◌≡◌, nat_le, ◌&&◌, Bool, true, List, length, Option, Some, None}
+use Rattle.std.specs.List.{list_all}
+use Rattle.hume_model.specs.declared.core_tree.PatC.{PatC, fold-PatC}
+use Rattle.hume_model.specs.declared.core_tree.PatC.TheOpen.{PatC-F}
+use Rattle.hume_model.specs.declared.core_tree.Expr.{Expr, fold-Expr}
+use Rattle.hume_model.specs.declared.core_tree.Expr.TheOpen.{Expr-F}
+use Rattle.hume_model.specs.declared.core_tree.InPat.{InPat}
+use Rattle.hume_model.specs.declared.core_tree.InPat.TheVariants.{Built}
+use Rattle.hume_model.specs.declared.core_tree.Res.{Res, fold-Res}
+use Rattle.hume_model.specs.declared.core_tree.Res.TheOpen.{Res-F}
+use Rattle.hume_model.specs.declared.core_tree.EqC.{EqC}
+use Rattle.hume_model.specs.declared.core_tree.RuleC.{RuleC}
+use Rattle.hume_model.specs.Calls.{all_true, if_there}
+use Rattle.hume_model.specs.TypeLimits.{is_between}
+
+-- a tuple has 2 to 16 parts, each of which is as it should be
+abbrev pub is_tuple : List Bool → Bool
+is_tuple parts = is_between 2 16 (length parts) && all_true parts
+
+-- a vector has 1 to 1,024 elements
+abbrev pub is_vector : List Bool → Bool
+is_vector parts = is_between 1 1024 (length parts) && all_true parts
+
+-- one level of a pattern, with whether its parts are as they should be
+abbrev pub pattern_step : PatC-F Bool → Bool
+pattern_step (PatC-F.Con place parts) = all_true parts
+pattern_step (PatC-F.Tuple parts) = is_tuple parts
+pattern_step _ = true
+
+abbrev pub is_written_pattern : PatC → Bool
+is_written_pattern = fold-PatC Bool pattern_step
+
+-- a `case` has an alternative
+abbrev pub are_alternatives : List (PatC × Bool) → Bool
+are_alternatives arms = nat_le 1 (length arms) && list_all (λ (arm : PatC × Bool). is_written_pattern arm.0 && arm.1) arms
+
+-- one level of an expression
+abbrev pub expression_step : Expr-F Bool → Bool
+expression_step (Expr-F.Word word) = true
+expression_step (Expr-F.Var number) = true
+expression_step (Expr-F.Con place parts) = all_true parts
+expression_step (Expr-F.Tuple parts) = is_tuple parts
+expression_step (Expr-F.Vect parts) = is_vector parts
+expression_step (Expr-F.Prim op ty parts) = all_true parts
+expression_step (Expr-F.Index count vector place) = vector && place
+expression_step (Expr-F.Update count vector place item) = vector && (place && item)
+expression_step (Expr-F.If test when_true when_false) = test && (when_true && when_false)
+expression_step (Expr-F.Case part ty arms) = part && are_alternatives arms
+expression_step (Expr-F.Let part body) = part && body
+expression_step (Expr-F.Call function parts) = all_true parts
+expression_step (Expr-F.Raise exn part) = if_there part
+
+abbrev pub is_written : Expr → Bool
+is_written = fold-Expr Bool expression_step
+
+abbrev pub is_written_if_there : Option Expr → Bool
+is_written_if_there None = true
+is_written_if_there (Some e) = is_written e
+
+-- one level of a result
+abbrev pub result_step : Res-F Bool → Bool
+result_step (Res-F.Outs outs) = list_all is_written_if_there outs
+result_step (Res-F.If test when_true when_false) = is_written test && (when_true && when_false)
+result_step (Res-F.Case part ty arms) = is_written part && are_alternatives arms
+result_step (Res-F.Let part body) = is_written part && body
+result_step (Res-F.Raise exn part) = is_written_if_there part
+
+abbrev pub is_written_result : Res → Bool
+is_written_result = fold-Res Bool result_step
+
+abbrev pub is_written_position : InPat → Bool
+is_written_position (Built p) = is_written_pattern p
+is_written_position _ = true
+
+abbrev pub is_written_equation : EqC → Bool
+is_written_equation equation = list_all is_written_pattern equation.pats && is_written equation.body
+
+abbrev pub is_written_rule : RuleC → Bool
+is_written_rule rule = list_all is_written_position rule.pats && is_written_result rule.result
