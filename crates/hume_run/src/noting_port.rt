@@ -113,10 +113,13 @@ pub(crate) fn noted_run(
 ) -> Result<(Status, String), Stop> {
     let log = Rc::new(alloc, RefCell::new(String::new(alloc)))?;
     let mut ports: Vec<Box<dyn Port>> = Vec::new(alloc);
-    for (name, bytes) in [("p", source), ("i", input), ("o", b""), ("std_out", b"")] {
-        let port = NotingPort::make(alloc, &log, name, bytes, failing)?;
-        ports.push(Box::new(alloc, port)?)?;
-    }
+    ports.push(Box::new(alloc, NotingPort::make(alloc, &log, "p", source, failing)?)?)?;
+    ports.push(Box::new(alloc, NotingPort::make(alloc, &log, "i", input, failing)?)?)?;
+    ports.push(Box::new(alloc, NotingPort::make(alloc, &log, "o", b"", failing)?)?)?;
+    ports.push(Box::new(
+        alloc,
+        NotingPort::make(alloc, &log, "std_out", b"", failing)?,
+    )?)?;
     let words = run_words(alloc, "4")?;
     let status = hume(alloc, &words, &mut ports);
     Ok((status, noted(&log, alloc)))
