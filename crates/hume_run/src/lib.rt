@@ -8,12 +8,16 @@ mod fault_tests;
 mod input;
 #[cfg(test)]
 mod input_tests;
+#[cfg(test)]
+mod last_call_tests;
 mod laws;
 #[cfg(test)]
 mod line_tests;
 mod line_value;
 mod lines;
 mod net_run;
+#[cfg(test)]
+mod noting_port;
 mod numbers;
 mod one_box;
 mod order;

@@ -2,7 +2,7 @@
 use hume_ports::{Fail, MemPort, Port};
 use std::alloc::{AllocError, Global};
 
-pub const ADD_ONE: &[u8] = b"box b in (x :: int 32) out (y :: int 32)
+pub(crate) const ADD_ONE: &[u8] = b"box b in (x :: int 32) out (y :: int 32)
 match (x) -> (x + 1) ;
 stream s from \"i\" ;
 stream t to \"o\" ;
@@ -10,7 +10,7 @@ wire s to b.x ;
 wire b.y to t ;
 ";
 
-pub const TIMES_THREE: &[u8] = b"box b in (x :: int 32) out (y :: int 32)
+pub(crate) const TIMES_THREE: &[u8] = b"box b in (x :: int 32) out (y :: int 32)
 match (x) -> (x * 3) ;
 stream s from \"i\" ;
 stream t to \"o\" ;
@@ -18,7 +18,7 @@ wire s to b.x ;
 wire b.y to t ;
 ";
 
-pub const DIVIDED: &[u8] = b"box b in (x :: int 32) out (y :: int 32)
+pub(crate) const DIVIDED: &[u8] = b"box b in (x :: int 32) out (y :: int 32)
 match (x) -> (x / 1) ;
 stream s from \"i\" ;
 stream t to \"o\" ;
@@ -26,7 +26,7 @@ wire s to b.x ;
 wire b.y to t ;
 ";
 
-pub const INPUT_IS_SOURCE: &[u8] = b"box b in (x :: int 32) out (y :: int 32)
+pub(crate) const INPUT_IS_SOURCE: &[u8] = b"box b in (x :: int 32) out (y :: int 32)
 match (x) -> (x + 1) ;
 stream s from \"p\" ;
 stream t to \"o\" ;
@@ -34,7 +34,7 @@ wire s to b.x ;
 wire b.y to t ;
 ";
 
-pub fn run_words(alloc: Global, steps: &str) -> Result<Vec<String>, AllocError> {
+pub(crate) fn run_words(alloc: Global, steps: &str) -> Result<Vec<String>, AllocError> {
     let mut words = Vec::new(alloc);
     for word in ["run", steps, "1", "p", "i", "o"] {
         words.push(String::from_str(alloc, word)?)?;
@@ -42,11 +42,11 @@ pub fn run_words(alloc: Global, steps: &str) -> Result<Vec<String>, AllocError> 
     Ok(words)
 }
 
-pub fn memory(alloc: Global, name: &str, bytes: &[u8]) -> Result<MemPort, AllocError> {
+pub(crate) fn memory(alloc: Global, name: &str, bytes: &[u8]) -> Result<MemPort, AllocError> {
     MemPort::make(alloc, name, bytes, 2, 200, &[])
 }
 
-pub fn failing(
+pub(crate) fn failing(
     alloc: Global,
     name: &str,
     bytes: &[u8],
@@ -64,6 +64,6 @@ fn written(ports: &[Box<dyn Port>], at: usize) -> Option<&[u8]> {
     }
 }
 
-pub fn is_written(ports: &[Box<dyn Port>], at: usize, bytes: &[u8]) -> bool {
+pub(crate) fn is_written(ports: &[Box<dyn Port>], at: usize, bytes: &[u8]) -> bool {
     written(ports, at) == Some(bytes)
 }
