@@ -8,6 +8,7 @@ use Rattle.hume_base.specs.declared.symbol.Symbol.TheVariants as symbol
 use Rattle.hume_base.specs.declared.token.Kind.{Kind}
 use Rattle.hume_base.specs.declared.token.Kind.TheVariants.{Word, Sign}
 use Rattle.hume_base.specs.declared.token.Token.{Token}
+use Rattle.hume_ast.specs.declared.tree.Pat.{Pat}
 use Rattle.hume_ast.specs.declared.tree.BinOp.{BinOp}
 use Rattle.hume_ast.specs.declared.tree.Exp.{Exp, roll-Exp, out-Exp, roll-out-Exp, out-roll-Exp}
 use Rattle.hume_ast.specs.declared.tree.Exp.TheVariants as tree
@@ -16,14 +17,15 @@ use Rattle.hume_ast.specs.declared.tree.Exp.TheOpen.{Exp-F}
 use Rattle.hume_ast.specs.Depth.{exp_depth, deepest}
 use Rattle.hume_ast.proofs.Depths.{some_depth}
 use Rattle.hume_parse.specs.Gives.{kinds, Fails}
+use Rattle.hume_parse.specs.Found.{alternatives_depth}
 use Rattle.hume_parse.specs.declared.fault.Fault.{Fault}
-use Rattle.hume_parse.specs.Readers.{Reader, ◌>>=◌, next, behind, is_word, is_sign, made, both, closed, listed, alternatives, pick, many, maybe, lower_name, upper_name}
-use Rattle.hume_parse.specs.Types.{types}
-use Rattle.hume_parse.specs.Patterns.{patterns, is_upper}
-use Rattle.hume_parse.specs.Expressions.{exps, ExpReaders, expressions_with, at_level, let_of, if_of, case_of, alternative, raise_of, minus_ways, next_operator, one_operand, with_operator, operands, chain, sum_layer, starts_atom, is_lower, update_of, exp_in_parens, tail_ways, exp_leaf, app_of, con_exp_of}
-use Rattle.hume_parse.proofs.Local.{bind_ok, chosen_ok}
+use Rattle.hume_grammar.specs.Readers.{Reader, ◌>>=◌, next, behind, is_word, is_sign, made, both, closed, listed, alternatives, pick, many, maybe, lower_name, upper_name}
+use Rattle.hume_grammar.specs.Types.{types}
+use Rattle.hume_grammar.specs.Patterns.{patterns, is_upper}
+use Rattle.hume_grammar.specs.Expressions.{exps, ExpReaders, expressions_with, at_level, let_of, if_of, case_of, alternative, raise_of, minus_ways, next_operator, one_operand, with_operator, operands, chain, comparison, sum_layer, starts_atom, is_lower, update_of, exp_in_parens, tail_ways, exp_leaf, app_of, con_exp_of}
+use Rattle.hume_grammar.proofs.Local.{bind_ok, chosen_ok}
 use Rattle.hume_parse.proofs.Loops.{made_twice, kinds_length, fails_on}
-use Rattle.hume_parse.proofs.Chains.{turn_at, stop_at}
+use Rattle.hume_grammar.proofs.Chains.{turn_at, stop_at}
 
 pub exp_let : (n : ℕ) (ks : List Kind) → 1 < n → next (is_word word.Let) ks ≡ true → (exps n).whole ks ≡ made roll-Exp (made let_of (both (closed (pick lower_name) (Sign symbol.Equals)) (both (closed (exps (n - 1)).whole (Word word.In)) (exps (n - 1)).whole))) (behind ks)
 unfolding expressions_with
@@ -192,8 +194,20 @@ level_unary l p e = rw e
 pub level_app : (l : ℕ) (p : ExpReaders) → l ≡ 9 → at_level l p ≡ p.app
 level_app l p e = rw e
 
-pub ruleset exp_steps = (exp_let, exp_let_one, exp_if, exp_if_one, exp_case, exp_case_one, exp_raise, exp_or, unary_minus, unary_not, unary_not_one, unary_plain, app_lower, app_upper, app_update, app_update_one, app_star, app_atom, atom_true, atom_false, atom_open, atom_open_one, atom_angles, atom_angles_one, atom_leaf, unary_zero, atom_zero, level_comparison, level_unary, level_app, rolls-Let, rolls-If, rolls-Case, rolls-Raise, rolls-Neg, rolls-Num, rolls-App, rolls-Con, rolls-Update, rolls-Cast, rolls-Vect)
-
+pub ruleset whole_steps = (exp_let, exp_let_one, exp_if, exp_if_one, exp_case, exp_case_one, exp_raise, exp_or)
+pub ruleset unary_steps = (unary_minus, unary_not, unary_not_one, unary_plain, unary_zero)
+pub ruleset minus_steps = (rolls-Num, rolls-Neg)
+pub ruleset app_steps = (app_lower, app_upper, app_update, app_update_one, app_star, app_atom, rolls-App, rolls-Con)
+pub ruleset atom_steps = (atom_true, atom_false, atom_open, atom_open_one, atom_angles, atom_angles_one, atom_leaf, atom_zero)
+pub ruleset let_steps = (rolls-Let)
+pub ruleset if_steps = (rolls-If)
+pub ruleset case_steps = (rolls-Case)
+pub ruleset raise_steps = (rolls-Raise)
+pub ruleset update_steps = (rolls-Update)
+pub ruleset cast_steps = (rolls-Cast)
+pub ruleset vect_steps = (rolls-Vect)
+pub ruleset level_steps = (level_comparison, level_unary, level_app)
+pub ruleset list_steps = (kinds_length)
 pub ruleset leaf_steps = (rolls-App, rolls-Con, rolls-Num, rolls-Letter, kinds_length)
 
 pub parens_one : (first : Exp) (others : List Exp) → others ≡ [] → roll-Exp (exp_in_parens (first, (None, others))) ≡ tree.Paren first
@@ -333,10 +347,18 @@ unfolding expressions_with
 comparison_none zero ks k h w = absurd (omega (arith, h))
 comparison_none (suc m) ks k h w = rw (unrolled_err (sum_layer m (types 64) (exps m)) ks k w)
 
-pub ruleset chain_steps = (exp_steps, chain_first, chain_none, right_on, right_deep, some_depth, comparison_one, comparison_two, comparison_none)
+pub ruleset chain_steps = (chain_first, chain_none)
+pub ruleset right_steps = (right_on, right_deep, some_depth)
+pub ruleset comparison_steps = (comparison_one, comparison_two, comparison_none, some_depth)
 
 pub deeper : (es fs : List Exp) (e : Exp) → fs ≡ es ++ e ∷ [] → deepest (map exp_depth fs) ≡ max (exp_depth e) (deepest (map exp_depth es))
 deeper es fs e is = ap (λ l. deepest (map exp_depth l)) is ∙ last es where
   last : (es : List Exp) → deepest (map exp_depth (es ++ e ∷ [])) ≡ max (exp_depth e) (deepest (map exp_depth es))
+  last [] = refl
+  last (d ∷ es) = omega (arith, last es)
+
+pub deeper_alternative : (es fs : List (Pat × Exp)) (a : Pat × Exp) → fs ≡ es ++ a ∷ [] → alternatives_depth fs ≡ max (exp_depth a.1) (alternatives_depth es)
+deeper_alternative es fs a is = ap alternatives_depth is ∙ last es where
+  last : (es : List (Pat × Exp)) → alternatives_depth (es ++ a ∷ []) ≡ max (exp_depth a.1) (alternatives_depth es)
   last [] = refl
   last (d ∷ es) = omega (arith, last es)

@@ -1,14 +1,4 @@
-pub mod Local
-pub mod TokensApart
-pub mod Forms
-pub mod TypesRead
-pub mod PatternsRead
-pub mod Levels
-pub mod Chains
-pub mod Atoms
-pub mod ExpressionsRead
 pub mod Loops
 pub mod TypeSteps
 pub mod PatternSteps
 pub mod ExpSteps
-pub mod OneSpelling

@@ -1,5 +1,2 @@
 pub mod Gives
-pub mod Readers
-pub mod Types
-pub mod Patterns
-pub mod Expressions
+pub mod Found

@@ -1,11 +1,9 @@
 //! The parser: from the tokens of a source to the one tree that they spell, or to the place where none goes on.
 #![tactic(auto)]
 
+mod expressions;
 mod fault;
-mod laws;
 mod operators;
 mod patterns;
 mod tokens;
 mod types;
-
-pub use laws::one_spelling;

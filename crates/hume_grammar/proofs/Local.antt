@@ -3,7 +3,7 @@ use Rattle.std.proofs.Common.{◌≡◌, ℕ, zero, suc, ◌<◌, ◌≤◌, Lis
 use Rattle.std.specs.Prelude.{Result, Ok, Err, Option, Some, None}
 use Rattle.std.proofs.lemmas.Bool.{cases_Bool}
 use Rattle.hume_base.specs.declared.token.Kind.{Kind}
-use Rattle.hume_parse.specs.Readers.{Reader, ◌>>=◌, fault, next, is_token, led, closed, give, both, made, choice, pick, opens, turns, many}
+use Rattle.hume_grammar.specs.Readers.{Reader, ◌>>=◌, fault, next, is_token, led, closed, give, both, made, choice, pick, opens, turns, many}
 
 -- what a step that gave something gave
 pub bind_ok : {A B : Type 0} (r : Result A ℕ) (f : A → Result B ℕ) (y : B) → (r >>= f) ≡ Ok y → (x : A) × (r ≡ Ok x) × (f x ≡ Ok y)

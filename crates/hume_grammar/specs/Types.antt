@@ -6,7 +6,7 @@ use Rattle.hume_base.specs.declared.token.Kind.{Kind}
 use Rattle.hume_base.specs.declared.token.Kind.TheVariants.{Word, Sign}
 use Rattle.hume_ast.specs.declared.tree.TyExp.{TyExp, roll-TyExp}
 use Rattle.hume_ast.specs.declared.tree.TyExp.TheOpen.{TyExp-F}
-use Rattle.hume_parse.specs.Readers.{Reader, fault, is_word, is_sign, led, closed, give, both, made, alternatives, any_token, pick, opens, several, number_of, upper_name}
+use Rattle.hume_grammar.specs.Readers.{Reader, fault, is_word, is_sign, led, closed, give, both, made, alternatives, any_token, pick, opens, several, number_of, upper_name}
 
 abbrev pub vector_of : ℕ × TyExp → TyExp-F TyExp
 vector_of parts = TyExp-F.Vector parts.0 parts.1

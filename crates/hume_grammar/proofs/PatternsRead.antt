@@ -10,12 +10,12 @@ use Rattle.hume_ast.specs.declared.tree.Pat.{Pat, roll-Pat, out-Pat, map-Pat, fo
 use Rattle.hume_ast.specs.declared.tree.Pat.TheOpen.{Pat-F}
 use Rattle.hume_ast.specs.Spelling.{spell_pat, spelled_pat}
 use Rattle.hume_ast.specs.Fits.{Each, PatFits, PatParts, pat_level}
-use Rattle.hume_parse.specs.Readers.{Reader, fault, led, made, both, closed, many, alternatives, pick, next, is_sign, number_of, upper_name}
-use Rattle.hume_parse.specs.Patterns.{pat_leaf, starts_pat, is_upper, pat_in_parens, parens_pat, pat_ways, con_of, con_pat, PatReaders, whole_ways, patterns, input_ways, input_pattern}
-use Rattle.hume_parse.proofs.Local.{Local, local_made, local_opens, local_fault, local_pick}
-use Rattle.hume_parse.proofs.TokensApart.{some_same}
-use Rattle.hume_parse.proofs.TypesRead.{number_reads, upper_reads}
-use Rattle.hume_parse.proofs.Forms.{Reads, Anything, All, Sound, led_reads, closed_reads, both_reads, many_reads, made_reads, made_sound, made_complete, opens_sound, opened, leaf_sound, leaf_local, ending, enclosed, beside_map, alternatives_sound, alternatives_local, choice_sound, shrinks}
+use Rattle.hume_grammar.specs.Readers.{Reader, fault, led, made, both, closed, many, alternatives, pick, next, is_sign, number_of, upper_name}
+use Rattle.hume_grammar.specs.Patterns.{pat_leaf, starts_pat, is_upper, pat_in_parens, parens_pat, pat_ways, con_of, con_pat, PatReaders, whole_ways, patterns, input_ways, input_pattern}
+use Rattle.hume_grammar.proofs.Local.{Local, local_made, local_opens, local_fault, local_pick}
+use Rattle.hume_grammar.proofs.TokensApart.{some_same}
+use Rattle.hume_grammar.proofs.TypesRead.{number_reads, upper_reads}
+use Rattle.hume_grammar.proofs.Forms.{Reads, Anything, All, Sound, led_reads, closed_reads, both_reads, many_reads, made_reads, made_sound, made_complete, opens_sound, opened, leaf_sound, leaf_local, ending, enclosed, beside_map, alternatives_sound, alternatives_local, choice_sound, shrinks}
 
 -- a pattern's tokens, seen at its first level
 abbrev pat_spell : Pat-F Pat → List Kind

@@ -11,13 +11,13 @@ use Rattle.hume_ast.specs.declared.tree.Exp.{Exp}
 use Rattle.hume_ast.specs.declared.tree.Exp.TheOpen.{Exp-F}
 use Rattle.hume_ast.specs.Spelling.{spelled_exp, spelled_ty, separated}
 use Rattle.hume_ast.specs.Fits.{Each, OneOrMore, ExpFits, TypeFits, exp_level}
-use Rattle.hume_parse.specs.Readers.{Reader, led, both, closed, many, listed, alternatives, pick, next, is_sign, lower_name, upper_name}
-use Rattle.hume_parse.specs.Expressions.{exp_leaf, starts_atom, Tail, cast_tail, parts_tail, exp_in_parens, tail_ways, parens_exp, vect_exp, atom_ways, app_of, con_exp_of, app_exp, con_exp, update_of, update_exp, app_ways}
-use Rattle.hume_parse.proofs.Local.{Local, local_made, local_opens, local_pick}
-use Rattle.hume_parse.proofs.TokensApart.{some_same}
-use Rattle.hume_parse.proofs.TypesRead.{upper_reads, lower_reads}
-use Rattle.hume_parse.proofs.Forms.{Reads, Anything, Sound, led_reads, closed_reads, both_reads, many_reads, listed_reads, made_sound, made_complete, opens_sound, opened, leaf_sound, leaf_local, ending, enclosed, beside_map, alternatives_sound, alternatives_local, choice_sound}
-use Rattle.hume_parse.proofs.Levels.{LayerFit, exp_spell, Stops, all_stop, no_atom_next, opens_at, atom_next, op_low}
+use Rattle.hume_grammar.specs.Readers.{Reader, led, both, closed, many, listed, alternatives, pick, next, is_sign, lower_name, upper_name}
+use Rattle.hume_grammar.specs.Expressions.{exp_leaf, starts_atom, Tail, cast_tail, parts_tail, exp_in_parens, tail_ways, parens_exp, vect_exp, atom_ways, app_of, con_exp_of, app_exp, con_exp, update_of, update_exp, app_ways}
+use Rattle.hume_grammar.proofs.Local.{Local, local_made, local_opens, local_pick}
+use Rattle.hume_grammar.proofs.TokensApart.{some_same}
+use Rattle.hume_grammar.proofs.TypesRead.{upper_reads, lower_reads}
+use Rattle.hume_grammar.proofs.Forms.{Reads, Anything, Sound, led_reads, closed_reads, both_reads, many_reads, listed_reads, made_sound, made_complete, opens_sound, opened, leaf_sound, leaf_local, ending, enclosed, beside_map, alternatives_sound, alternatives_local, choice_sound}
+use Rattle.hume_grammar.proofs.Levels.{LayerFit, exp_spell, Stops, all_stop, no_atom_next, opens_at, atom_next, op_low}
 
 pub has_room : (bound room level : ℕ) (e : Exp) → ExpFits bound room level e → 0 < room
 has_room bound zero level e f = absurd f

@@ -10,8 +10,8 @@ use Rattle.hume_base.specs.declared.symbol.Symbol.TheVariants as symbol
 use Rattle.hume_base.specs.declared.token.Kind.{Kind}
 use Rattle.hume_base.specs.declared.token.Kind.TheVariants.{Word, Sign}
 use Rattle.std.proofs.lemmas.Slice.Eq.{bytes_eq-Decides}
-use Rattle.hume_parse.specs.Readers.{next, behind, is_token, same_symbol, same_keyword, after}
-use Rattle.hume_parse.proofs.Local.{chosen_ok}
+use Rattle.hume_grammar.specs.Readers.{next, behind, is_token, same_symbol, same_keyword, after}
+use Rattle.hume_grammar.proofs.Local.{chosen_ok}
 
 symbol_of-text : (symbol : Symbol) → symbol_of (symbol_text symbol) ≡ Some symbol
 symbol_of-text symbol.OpenParen = refl

@@ -16,18 +16,18 @@ use Rattle.hume_ast.specs.Spelling.{spelled_exp, spelled_ty, spelled_pat, spell_
 use Rattle.hume_ast.specs.Fits.{OneOrMore, IfThere, ExpFits, TypeFits, PatFits, op_level, left_level, NoNumberFirst}
 use Rattle.hume_ast.specs.Depth.{exp_depth}
 use Rattle.hume_ast.proofs.Depths.{fits_depth, refit}
-use Rattle.hume_parse.specs.Readers.{Reader, ◌>>=◌, fault, after, led, give, made, both, closed, choice, listed, maybe, alternatives, pick, next, lower_name, upper_name, number_of}
-use Rattle.hume_parse.specs.Types.{types}
-use Rattle.hume_parse.specs.Patterns.{patterns}
-use Rattle.hume_parse.specs.Expressions.{starts_atom, is_number, minus_ways, unary_ways, next_operator, one_operand, comparison, let_of, let_exp, if_of, if_exp, case_of, case_exp, alternative, raise_of, exp_ways, ExpReaders, atom_layer, app_layer, index_layer, unary_layer, term_layer, sum_layer, comparison_layer, conjunction_layer, disjunction_layer, whole_layer, expressions_with, expressions, at_level}
-use Rattle.hume_parse.proofs.Local.{Local, Splits, bind_ok, chosen, local_made, local_opens, local_led, local_bind, local_give, local_fault, local_as, give_empty}
-use Rattle.hume_parse.proofs.TokensApart.{after_ok}
-use Rattle.hume_parse.proofs.TypesRead.{number_reads, upper_reads, lower_reads, types_read}
-use Rattle.hume_parse.proofs.PatternsRead.{PatEnds, patterns_read}
-use Rattle.hume_parse.proofs.Forms.{Reads, Anything, Sound, along, led_reads, closed_reads, both_reads, listed_reads, maybe_reads, maybe_spell, made_reads, made_sound, made_complete, opens_sound, opened, choice_sound, alternatives_sound, respelled, ending, alternatives_local}
-use Rattle.hume_parse.proofs.Levels.{LayerFit, exp_spell, exp_spelled, spelled_out, Stops, stops_above, all_stop, no_atom_next, opens_at, layer_opens, opening, atom_next, not_next, op_high, is_next, operator_stops, no_operator}
-use Rattle.hume_parse.proofs.Atoms.{atom_reads, app_layer_reads, has_room}
-use Rattle.hume_parse.proofs.Chains.{rolled_fit, chain_reads, operand_sound, operand_complete, local_operand}
+use Rattle.hume_grammar.specs.Readers.{Reader, ◌>>=◌, fault, after, led, give, made, both, closed, choice, listed, maybe, alternatives, pick, next, lower_name, upper_name, number_of}
+use Rattle.hume_grammar.specs.Types.{types}
+use Rattle.hume_grammar.specs.Patterns.{patterns}
+use Rattle.hume_grammar.specs.Expressions.{starts_atom, is_number, minus_ways, unary_ways, next_operator, one_operand, comparison, let_of, let_exp, if_of, if_exp, case_of, case_exp, alternative, raise_of, exp_ways, ExpReaders, atom_layer, app_layer, index_layer, unary_layer, term_layer, sum_layer, comparison_layer, conjunction_layer, disjunction_layer, whole_layer, expressions_with, expressions, at_level}
+use Rattle.hume_grammar.proofs.Local.{Local, Splits, bind_ok, chosen, local_made, local_opens, local_led, local_bind, local_give, local_fault, local_as, give_empty}
+use Rattle.hume_grammar.proofs.TokensApart.{after_ok}
+use Rattle.hume_grammar.proofs.TypesRead.{number_reads, upper_reads, lower_reads, types_read}
+use Rattle.hume_grammar.proofs.PatternsRead.{PatEnds, patterns_read}
+use Rattle.hume_grammar.proofs.Forms.{Reads, Anything, Sound, along, led_reads, closed_reads, both_reads, listed_reads, maybe_reads, maybe_spell, made_reads, made_sound, made_complete, opens_sound, opened, choice_sound, alternatives_sound, respelled, ending, alternatives_local}
+use Rattle.hume_grammar.proofs.Levels.{LayerFit, exp_spell, exp_spelled, spelled_out, Stops, stops_above, all_stop, no_atom_next, opens_at, layer_opens, opening, atom_next, not_next, op_high, is_next, operator_stops, no_operator}
+use Rattle.hume_grammar.proofs.Atoms.{atom_reads, app_layer_reads, has_room}
+use Rattle.hume_grammar.proofs.Chains.{rolled_fit, chain_reads, operand_sound, operand_complete, local_operand}
 
 no_number : (ks ls : List Kind) → next is_number (ks ++ ls) ≡ false → NoNumberFirst ks
 no_number [] ls h = tt
@@ -491,3 +491,6 @@ all_shrink bound room level ks x e = pick_level (level == 2) (level == 3) (level
 
 pub atom_shrink : (bound room : ℕ) (ks : List Kind) (x : Exp × List Kind) → (expressions bound room).atom ks ≡ Ok x → length x.1 < length ks
 atom_shrink bound room = level_shrinks bound room 10 (expressions bound room).atom (omega arith) (expressions_read bound room).atom
+
+pub alternatives_of : (bound room : ℕ) → Reads (λ (a : Pat × Exp). spelled_pat a.0 ++ Sign symbol.Arrow ∷ spelled_exp a.1) (λ (a : Pat × Exp). PatFits bound 1 a.0 × ExpFits bound room 1 a.1) (Stops 1) (alternative (patterns bound).whole (expressions bound room).whole)
+alternatives_of bound room = let h = expressions_read bound room in alternative_reads bound room (patterns bound).whole (expressions bound room).whole (expressions bound room).atom (disjunction_layer room (types bound) (expressions bound room)) (patterns_read bound).whole h.whole h.atom (disjunction_now bound room (types bound) (patterns bound).whole (types_read bound) (patterns_read bound).whole (expressions bound room) h)

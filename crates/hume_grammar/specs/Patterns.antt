@@ -6,7 +6,7 @@ use Rattle.hume_base.specs.declared.token.Kind.{Kind}
 use Rattle.hume_base.specs.declared.token.Kind.TheVariants.{Lower, Upper, Number, Letter, Word, Sign}
 use Rattle.hume_ast.specs.declared.tree.Pat.{Pat, roll-Pat}
 use Rattle.hume_ast.specs.declared.tree.Pat.TheOpen.{Pat-F}
-use Rattle.hume_parse.specs.Readers.{Reader, fault, is_word, is_sign, led, closed, give, both, made, alternatives, any_token, pick, opens, many, number_of, upper_name}
+use Rattle.hume_grammar.specs.Readers.{Reader, fault, is_word, is_sign, led, closed, give, both, made, alternatives, any_token, pick, opens, many, number_of, upper_name}
 
 -- a pattern of one token, if the token says all of it
 abbrev pub pat_leaf : Kind → Option (Pat-F Pat)

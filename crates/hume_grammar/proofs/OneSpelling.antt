@@ -8,11 +8,11 @@ use Rattle.hume_ast.specs.declared.tree.Exp.{Exp}
 use Rattle.hume_ast.specs.Spelling.{spelled_ty, spelled_pat, spelled_exp}
 use Rattle.hume_ast.specs.Fits.{TypeFits, PatFits, ExpFits}
 use Rattle.hume_ast.proofs.Depths.{fits_depth, refit}
-use Rattle.hume_parse.specs.Readers.{Reader}
-use Rattle.hume_parse.proofs.Forms.{Reads}
-use Rattle.hume_parse.proofs.TypesRead.{types_read}
-use Rattle.hume_parse.proofs.PatternsRead.{patterns_read}
-use Rattle.hume_parse.proofs.ExpressionsRead.{expressions_read}
+use Rattle.hume_grammar.specs.Readers.{Reader}
+use Rattle.hume_grammar.proofs.Forms.{Reads}
+use Rattle.hume_grammar.proofs.TypesRead.{types_read}
+use Rattle.hume_grammar.proofs.PatternsRead.{patterns_read}
+use Rattle.hume_grammar.proofs.ExpressionsRead.{expressions_read}
 
 pair_same : {A : Type 0} (a b : A) (rest : List Kind) → ◌≡◌ {A = Result (A × List Kind) ℕ} (Ok (a, rest)) (Ok (b, rest)) → a ≡ b
 pair_same {A = A} a b rest e = let pairs : (a, rest) ≡ (b, rest) = cc in ap (λ (y : A × List Kind). y.0) pairs

@@ -9,9 +9,9 @@ use Rattle.hume_base.specs.declared.token.Kind.TheVariants.{Sign}
 use Rattle.hume_base.specs.declared.symbol.Symbol.{Symbol}
 use Rattle.hume_ast.specs.Fits.{Each, OneOrMore, IfThere}
 use Rattle.hume_ast.specs.Spelling.{preceded, separated, beside}
-use Rattle.hume_parse.specs.Readers.{Reader, ◌>>=◌, next, after, led, closed, give, both, made, choice, alternatives, picked, pick, opens, many, cons, listed, several, maybe, is_sign}
-use Rattle.hume_parse.proofs.Local.{Local, bind_ok, chosen, local_fault, local_led, local_closed, local_give, local_both, local_made, local_choice, local_pick, local_many, many_stop, many_turn}
-use Rattle.hume_parse.proofs.TokensApart.{IsFixed, after_ok, after_is, same_symbol-refl}
+use Rattle.hume_grammar.specs.Readers.{Reader, ◌>>=◌, next, after, led, closed, give, both, made, choice, alternatives, picked, pick, opens, many, cons, listed, several, maybe, is_sign}
+use Rattle.hume_grammar.proofs.Local.{Local, bind_ok, chosen, local_fault, local_led, local_closed, local_give, local_both, local_made, local_choice, local_pick, local_many, many_stop, many_turn}
+use Rattle.hume_grammar.proofs.TokensApart.{IsFixed, after_ok, after_is, same_symbol-refl}
 
 -- The reader gives the fit thing that is spelled at the front, wherever what follows ends it.
 pub record Reads {A : Type 0} (spell : A → List Kind) (Fit : A → Type 0) (Ends : List Kind → Type 0) (p : Reader A) : Type 0 where

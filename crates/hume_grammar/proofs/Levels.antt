@@ -12,9 +12,9 @@ use Rattle.hume_ast.specs.declared.tree.Exp.{Exp, roll-Exp, out-Exp, map-Exp, fo
 use Rattle.hume_ast.specs.declared.tree.Exp.TheOpen.{Exp-F}
 use Rattle.hume_ast.specs.Spelling.{spell_exp, spelled_exp, operator_token}
 use Rattle.hume_ast.specs.Fits.{ExpFits, ExpParts, TypeFits, PatFits, exp_level, op_level, left_level}
-use Rattle.hume_parse.specs.Readers.{next, is_token}
-use Rattle.hume_parse.specs.Expressions.{starts_atom, operator_of, if_level, next_operator}
-use Rattle.hume_parse.proofs.TokensApart.{some_same, is_token-true}
+use Rattle.hume_grammar.specs.Readers.{next, is_token}
+use Rattle.hume_grammar.specs.Expressions.{starts_atom, operator_of, if_level, next_operator}
+use Rattle.hume_grammar.proofs.TokensApart.{some_same, is_token-true}
 
 pub operator_is : (k : Kind) (o : BinOp) → operator_of k ≡ Some o → k ≡ operator_token o
 operator_is (Word word.Or) o e = ap operator_token (some_same op.Or o e)

@@ -1,5 +1,5 @@
-use Rattle.hume_parse.proofs.OneSpelling.{one_type, one_pattern, one_expression}
-use Rattle.hume_parse.proofs.laws.one_spelling.Goals as goal
+use Rattle.hume_grammar.proofs.OneSpelling.{one_type, one_pattern, one_expression}
+use Rattle.hume_grammar.proofs.laws.one_spelling.Goals as goal
 
 pub returns-clause-types : goal.returns-clause-types
 returns-clause-types c = one_type

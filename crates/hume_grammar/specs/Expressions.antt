@@ -12,9 +12,9 @@ use Rattle.hume_ast.specs.declared.tree.Exp.{Exp, roll-Exp}
 use Rattle.hume_ast.specs.declared.tree.Exp.TheOpen.{Exp-F}
 use Rattle.hume_ast.specs.Fits.{op_level}
 use Rattle.hume_ast.specs.Depth.{exp_depth}
-use Rattle.hume_parse.specs.Readers.{Reader, ◌>>=◌, fault, behind, is_word, is_sign, led, closed, give, both, made, alternatives, any_token, pick, opens, many, listed, maybe, number_of, lower_name, upper_name}
-use Rattle.hume_parse.specs.Types.{types}
-use Rattle.hume_parse.specs.Patterns.{is_upper, patterns}
+use Rattle.hume_grammar.specs.Readers.{Reader, ◌>>=◌, fault, behind, is_word, is_sign, led, closed, give, both, made, alternatives, any_token, pick, opens, many, listed, maybe, number_of, lower_name, upper_name}
+use Rattle.hume_grammar.specs.Types.{types}
+use Rattle.hume_grammar.specs.Patterns.{is_upper, patterns}
 
 -- an expression of one token, if the token says all of it
 abbrev pub exp_leaf : Kind → Option (Exp-F Exp)

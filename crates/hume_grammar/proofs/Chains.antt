@@ -10,11 +10,11 @@ use Rattle.hume_ast.specs.Spelling.{spelled_exp, operator_token}
 use Rattle.hume_ast.specs.Fits.{ExpFits, ExpParts, TypeFits, PatFits, exp_level, op_level, left_level}
 use Rattle.hume_ast.specs.Depth.{exp_depth}
 use Rattle.hume_ast.proofs.Depths.{fits_depth, refit, parts_wider}
-use Rattle.hume_parse.specs.Readers.{Reader, ◌>>=◌, fault, behind}
-use Rattle.hume_parse.specs.Expressions.{next_operator, with_operator, one_operand, operands_by, operands, chain}
-use Rattle.hume_parse.proofs.Local.{Local, Splits, bind_ok, bind_same, chosen, chosen_ok, local_bind, local_behind, local_as, splits_as, splits_bind, local_fault, local_give, fault_empty, give_empty}
-use Rattle.hume_parse.proofs.Forms.{Reads, along}
-use Rattle.hume_parse.proofs.Levels.{LayerFit, exp_spell, exp_spelled, spelled_out, Stops, stops_above, operator_next, is_next, operator_stops, no_operator}
+use Rattle.hume_grammar.specs.Readers.{Reader, ◌>>=◌, fault, behind}
+use Rattle.hume_grammar.specs.Expressions.{next_operator, with_operator, one_operand, operands_by, operands, chain}
+use Rattle.hume_grammar.proofs.Local.{Local, Splits, bind_ok, bind_same, chosen, chosen_ok, local_bind, local_behind, local_as, splits_as, splits_bind, local_fault, local_give, fault_empty, give_empty}
+use Rattle.hume_grammar.proofs.Forms.{Reads, along}
+use Rattle.hume_grammar.proofs.Levels.{LayerFit, exp_spell, exp_spelled, spelled_out, Stops, stops_above, operator_next, is_next, operator_stops, no_operator}
 
 pub rolled_fit : (bound room level : ℕ) (x : Exp-F Exp) → LayerFit bound room level x → ExpFits bound (suc room) level (roll-Exp x)
 rolled_fit bound room level x f = subst (LayerFit bound room level) (sym (out-roll-Exp x)) f

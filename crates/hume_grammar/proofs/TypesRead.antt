@@ -9,11 +9,11 @@ use Rattle.hume_ast.specs.declared.tree.TyExp.{TyExp, roll-TyExp, out-TyExp, map
 use Rattle.hume_ast.specs.declared.tree.TyExp.TheOpen.{TyExp-F}
 use Rattle.hume_ast.specs.Spelling.{spell_ty, spelled_ty, separated}
 use Rattle.hume_ast.specs.Fits.{Each, TypeFits, TypeParts}
-use Rattle.hume_parse.specs.Readers.{Reader, led, both, closed, several, alternatives, pick, number_of, upper_name, lower_name, port_name}
-use Rattle.hume_parse.specs.Types.{vector_of, vector_type, tuple_type, type_ways, types}
-use Rattle.hume_parse.proofs.Local.{Local, local_made, local_opens, local_fault}
-use Rattle.hume_parse.proofs.TokensApart.{some_same, IsFixed}
-use Rattle.hume_parse.proofs.Forms.{Reads, Anything, All, Sound, pick_reads, led_reads, closed_reads, both_reads, made_reads, made_sound, made_complete, opens_sound, opened, leaf_sound, leaf_local, several_reads, alternatives_sound, alternatives_local}
+use Rattle.hume_grammar.specs.Readers.{Reader, led, both, closed, several, alternatives, pick, number_of, upper_name, lower_name, port_name}
+use Rattle.hume_grammar.specs.Types.{vector_of, vector_type, tuple_type, type_ways, types}
+use Rattle.hume_grammar.proofs.Local.{Local, local_made, local_opens, local_fault}
+use Rattle.hume_grammar.proofs.TokensApart.{some_same, IsFixed}
+use Rattle.hume_grammar.proofs.Forms.{Reads, Anything, All, Sound, pick_reads, led_reads, closed_reads, both_reads, made_reads, made_sound, made_complete, opens_sound, opened, leaf_sound, leaf_local, several_reads, alternatives_sound, alternatives_local}
 
 number_is : (k : Kind) (n : ℕ) → number_of k ≡ Some n → (k ≡ Number n) × Unit {0}
 number_is (Number m) n e = (ap Number (some_same m n e), tt)

@@ -1,0 +1,10 @@
+pub mod Local
+pub mod TokensApart
+pub mod Forms
+pub mod TypesRead
+pub mod PatternsRead
+pub mod Levels
+pub mod Chains
+pub mod Atoms
+pub mod ExpressionsRead
+pub mod OneSpelling

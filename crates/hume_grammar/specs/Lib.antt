@@ -1,0 +1,4 @@
+pub mod Readers
+pub mod Types
+pub mod Patterns
+pub mod Expressions
