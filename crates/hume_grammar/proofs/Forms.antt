@@ -274,3 +274,17 @@ module _ {A : Type 0} {spell : A → List Kind} {Fit : A → Type 0} {Ends : Lis
 
   pub maybe_reads : Reads (maybe_spell spell) (IfThere Fit) (λ rest. (next test rest ≡ false) × Ends rest) (maybe test p)
   maybe_reads = record { sound = maybe_sound; complete = maybe_complete; local = local_choice test (made Some p) (give None) (local_made Some p reads.local) (local_give None) }
+
+-- told in another way: as other things that are spelled the same
+pub retold_sound : {A : Type 0} (spell : A → List Kind) (Fit : A → Type 0) (p : Reader A) → Sound spell Fit p → (other : A → List Kind) (Fit2 : A → Type 0) → ((a : A) → Fit a → Fit2 a × (other a ≡ spell a)) → Sound other Fit2 p
+retold_sound spell Fit p h other Fit2 there ks x e =
+    let s = h ks x e in
+    let w = there x.0 s.0 in
+    (w.0, s.1 ∙ ap (λ m. m ++ x.1) (sym w.1))
+
+pub retold : {A : Type 0} {spell : A → List Kind} {Fit : A → Type 0} {Ends : List Kind → Type 0} {p : Reader A} → Reads spell Fit Ends p → (other : A → List Kind) (Fit2 : A → Type 0) → ((a : A) → Fit a → Fit2 a × (other a ≡ spell a)) → ((a : A) → Fit2 a → Fit a) → Reads other Fit2 Ends p
+retold {spell = spell} {Fit = Fit} {p = p} r other Fit2 there back = record {
+  sound = retold_sound spell Fit p r.sound other Fit2 there;
+  complete = λ a rest f e. ap (λ m. p (m ++ rest)) (there a (back a f)).1 ∙ r.complete a rest (back a f) e;
+  local = r.local;
+}

@@ -7,4 +7,6 @@ pub mod Levels
 pub mod Chains
 pub mod Atoms
 pub mod ExpressionsRead
+pub mod DeclarationParts
+pub mod DeclarationsRead
 pub mod OneSpelling

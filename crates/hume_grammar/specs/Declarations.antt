@@ -81,9 +81,12 @@ handler bound = made handler_of (both (pick upper_name) (both (closed (maybe is_
 abbrev pub handlers : ℕ → Reader (List (List ℕ × Option Pat × Exp))
 handlers bound = choice (is_word word.Handle) (led (Word word.Handle) (listed symbol.Bar (handler bound))) (give [])
 
+abbrev pub order_ways : List ((Kind → Bool) × Reader Bool)
+order_ways = (is_word word.Fair, led (Word word.Fair) (give true)) ∷ (any_token, led (Word word.Match) (give false)) ∷ []
+
 -- whether the rules of a box are fair
 abbrev pub order : Reader Bool
-order = alternatives ((is_word word.Fair, led (Word word.Fair) (give true)) ∷ (any_token, led (Word word.Match) (give false)) ∷ [])
+order = alternatives order_ways
 
 abbrev pub Rules : Type 0
 Rules = List (List Pat × Exp) × List (List ℕ × Option Pat × Exp)
@@ -104,9 +107,12 @@ box_of parts = BoxD parts.0 parts.1.0.0 parts.1.0.1 parts.1.1.0 parts.1.1.1.0 pa
 abbrev pub box_decl : ℕ → Reader Decl
 box_decl bound = made box_of (led (Word word.Box) (both (closed (pick lower_name) (Word word.In)) (both (sides bound) (rules bound))))
 
+abbrev pub way_ways : List ((Kind → Bool) × Reader Bool)
+way_ways = (is_word word.From, led (Word word.From) (give true)) ∷ (any_token, led (Word word.To) (give false)) ∷ []
+
 -- whether a stream comes in
 abbrev pub way : Reader Bool
-way = alternatives ((is_word word.From, led (Word word.From) (give true)) ∷ (any_token, led (Word word.To) (give false)) ∷ [])
+way = alternatives way_ways
 
 abbrev pub stream_of : List ℕ × (Bool × List ℕ) → Decl
 stream_of parts = Stream parts.0 parts.1.0 parts.1.1
