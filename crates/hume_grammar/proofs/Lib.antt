@@ -9,4 +9,6 @@ pub mod Atoms
 pub mod ExpressionsRead
 pub mod DeclarationParts
 pub mod DeclarationsRead
+pub mod LinesRead
+pub mod AllLinesRead
 pub mod OneSpelling
