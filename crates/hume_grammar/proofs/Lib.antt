@@ -11,4 +11,6 @@ pub mod DeclarationParts
 pub mod DeclarationsRead
 pub mod LinesRead
 pub mod AllLinesRead
+pub mod Grouping
+pub mod ProgramsRead
 pub mod OneSpelling
