@@ -13,4 +13,5 @@ pub mod LinesRead
 pub mod AllLinesRead
 pub mod Grouping
 pub mod ProgramsRead
+pub mod StandingFor
 pub mod OneSpelling

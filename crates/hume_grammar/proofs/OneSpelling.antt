@@ -1,15 +1,14 @@
 -- What is spelled the same is the same.
-use Rattle.std.proofs.Common.{◌≡◌, ℕ, max, List, [], ◌∷◌, ◌++◌, refl, sym, ap, ◌∙◌, arith}
+use Rattle.std.proofs.Common.{◌≡◌, ℕ, max, List, [], ◌++◌, refl, sym, ap, ◌∙◌, arith}
 use Rattle.std.specs.Prelude.{Result, Ok}
 use Rattle.hume_base.specs.declared.token.Kind.{Kind}
 use Rattle.hume_base.specs.declared.token.Token.{Token}
 use Rattle.hume_ast.specs.declared.tree.TyExp.{TyExp}
 use Rattle.hume_ast.specs.declared.tree.Pat.{Pat}
 use Rattle.hume_ast.specs.declared.tree.Exp.{Exp}
-use Rattle.hume_ast.specs.declared.tree.Decl.{Decl}
 use Rattle.hume_ast.specs.declared.tree.Program.{Program}
-use Rattle.hume_ast.specs.Spelling.{spelled_ty, spelled_pat, spelled_exp, spelled_decl, spelled_decls, spelled}
-use Rattle.hume_ast.specs.Fits.{Each, TypeFits, PatFits, ExpFits, DeclFits, DeclsFit, IsProper}
+use Rattle.hume_ast.specs.Spelling.{spelled_ty, spelled_pat, spelled_exp, spelled}
+use Rattle.hume_ast.specs.Fits.{TypeFits, PatFits, ExpFits, IsProper}
 use Rattle.hume_ast.specs.Places.{unplaced, placed, StandsFor}
 use Rattle.hume_ast.proofs.Depths.{fits_depth, refit}
 use Rattle.hume_ast.proofs.Wider.{decls_wider}
@@ -18,7 +17,8 @@ use Rattle.hume_grammar.proofs.Forms.{Reads}
 use Rattle.hume_grammar.proofs.TypesRead.{types_read}
 use Rattle.hume_grammar.proofs.PatternsRead.{patterns_read}
 use Rattle.hume_grammar.proofs.ExpressionsRead.{expressions_read}
-use Rattle.hume_grammar.proofs.ProgramsRead.{all_tokens, program_reads}
+use Rattle.hume_grammar.proofs.ProgramsRead.{program_reads}
+use Rattle.hume_grammar.proofs.StandingFor.{tokens_of, unplaced_fit}
 
 pair_same : {A : Type 0} (a b : A) (rest : List Kind) → ◌≡◌ {A = Result (A × List Kind) ℕ} (Ok (a, rest)) (Ok (b, rest)) → a ≡ b
 pair_same {A = A} a b rest e = let pairs : (a, rest) ≡ (b, rest) = cc in ap (λ (y : A × List Kind). y.0) pairs
@@ -39,14 +39,6 @@ one_expression bound m n e f fe ff is =
     same (expressions_read bound room).whole tt e f
     (refit bound m room 1 e (omega (arith, fits_depth bound m 1 e fe)) fe)
     (refit bound n room 1 f (omega (arith, fits_depth bound n 1 f ff)) ff) is
-
-tokens_of : (decls : List (ℕ × Decl)) → spelled_decls decls ≡ all_tokens (unplaced decls)
-tokens_of [] = refl
-tokens_of (d ∷ decls) = ap (λ m. spelled_decl d.1 ++ m) (tokens_of decls)
-
-unplaced_fit : (bound : ℕ) (decls : List (ℕ × Decl)) → DeclsFit bound decls → Each (DeclFits bound) (unplaced decls)
-unplaced_fit bound [] f = tt
-unplaced_fit bound (d ∷ decls) f = (f.0, unplaced_fit bound decls f.1)
 
 pub one_program : (p q : Program) → IsProper p → IsProper q → spelled p ≡ spelled q → unplaced p.decls ≡ unplaced q.decls
 one_program p q fp fq is =
