@@ -1,3 +1,4 @@
 pub mod Spelling
 pub mod Fits
 pub mod Depth
+pub mod Parts

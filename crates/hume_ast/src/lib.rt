@@ -3,6 +3,8 @@
 #![tactic(auto)]
 
 mod laws;
+mod spell_tokens;
+mod spell_types;
 mod tree;
 
 pub use laws::depth_decides;

@@ -1,0 +1,46 @@
+-- What is spelled, step by step.
+use Rattle.std.proofs.Common.{◌≡◌, ℕ, zero, suc, ◌<◌, ◌+◌, List, [], ◌∷◌, ◌++◌, length, map, take, get_or, refl, sym, ap, ◌∙◌, arith, append_assoc, append-nil}
+use Rattle.std.specs.Prelude.{Some, slice_get}
+use Rattle.std.proofs.lemmas.Grind.{common_steps}
+use Rattle.std.proofs.lemmas.Option.{slice_get_read}
+use Rattle.hume_base.specs.declared.symbol.Symbol.{Symbol}
+use Rattle.hume_base.specs.declared.token.Kind.{Kind}
+use Rattle.hume_base.specs.declared.token.Kind.TheVariants.{Sign}
+use Rattle.hume_ast.specs.declared.tree.TyExp.{the_lemmas as ty_lemmas}
+use Rattle.hume_ast.specs.Spelling.{separated, preceded}
+use Rattle.hume_ast.specs.Parts.{between}
+
+module _ {A : Type 0} (sign : Symbol) (spell : A → List Kind) where
+  abbrev after : List A → List Kind
+  after xs = preceded sign (map spell xs)
+
+  next_preceded : (xs : List A) (at : ℕ) (x : A) → slice_get xs at ≡ Some x → after (take (suc at) xs) ≡ after (take at xs) ++ Sign sign ∷ spell x
+  next_preceded [] at x e = cc
+  next_preceded (y ∷ xs) zero x e = let is : y ≡ x = cc in ap (λ z. Sign sign ∷ z) (append-nil (spell y)) ∙ ap (λ z. Sign sign ∷ spell z) is
+  next_preceded (y ∷ xs) (suc at) x e =
+      ap (λ ks. Sign sign ∷ (spell y ++ ks)) (next_preceded xs at x e)
+      ∙ ap (λ ks. Sign sign ∷ ks) (sym (append_assoc (spell y) (after (take at xs)) (Sign sign ∷ spell x)))
+
+  -- one part more
+  pub next_separated : (xs : List A) (at : ℕ) (x : A) → slice_get xs at ≡ Some x
+      → separated sign (map spell (take (suc at) xs)) ≡ separated sign (map spell (take at xs)) ++ (between sign at ++ spell x)
+  next_separated [] at x e = cc
+  next_separated (y ∷ xs) zero x e = let is : y ≡ x = cc in append-nil (spell y) ∙ ap spell is
+  next_separated (y ∷ xs) (suc at) x e =
+      ap (λ ks. spell y ++ ks) (next_preceded xs at x e) ∙ sym (append_assoc (spell y) (after (take at xs)) (Sign sign ∷ spell x))
+
+  pub next_part : (xs : List A) (at : ℕ) (x : A) → at < length xs → x ≡ get_or xs at x
+      → separated sign (map spell (take (at + 1) xs)) ≡ separated sign (map spell (take at xs)) ++ (between sign at ++ spell x)
+  next_part xs at x h e = let one : at + 1 ≡ suc at = omega arith in ap (λ n. separated sign (map spell (take n xs))) one ∙ next_separated xs at x (slice_get_read xs (length xs) at x refl h e)
+
+  -- a turn of a loop over parts
+  pub next_turn : (old before signed after : List Kind) (xs : List A) (at : ℕ) (x : A) → before ≡ old ++ separated sign (map spell (take at xs))
+      → signed ≡ before ++ between sign at → after ≡ signed ++ spell x → at < length xs → x ≡ get_or xs at x
+      → after ≡ old ++ separated sign (map spell (take (at + 1) xs))
+  next_turn old before signed after xs at x b s a h e =
+      let so_far = separated sign (map spell (take at xs)) in
+      a ∙ ap (λ ks. ks ++ spell x) (s ∙ ap (λ ks. ks ++ between sign at) b) ∙ append_assoc (old ++ so_far) (between sign at) (spell x)
+      ∙ append_assoc old so_far (between sign at ++ spell x) ∙ ap (λ ks. old ++ ks) (sym (next_part xs at x h e))
+
+pub ruleset type_steps = (common_steps, ty_lemmas, append_assoc)
+pub ruleset part_steps = (common_steps, append_assoc)
