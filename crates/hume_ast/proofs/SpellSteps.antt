@@ -7,7 +7,9 @@ use Rattle.hume_base.specs.declared.symbol.Symbol.{Symbol}
 use Rattle.hume_base.specs.declared.token.Kind.{Kind}
 use Rattle.hume_base.specs.declared.token.Kind.TheVariants.{Sign}
 use Rattle.hume_ast.specs.declared.tree.TyExp.{the_lemmas as ty_lemmas}
-use Rattle.hume_ast.specs.Spelling.{separated, preceded}
+use Rattle.hume_ast.specs.declared.tree.Pat.{the_lemmas as pat_lemmas}
+use Rattle.hume_ast.specs.declared.tree.Exp.{the_lemmas as exp_lemmas}
+use Rattle.hume_ast.specs.Spelling.{separated, preceded, beside}
 use Rattle.hume_ast.specs.Parts.{between}
 
 module _ {A : Type 0} (sign : Symbol) (spell : A → List Kind) where
@@ -42,5 +44,23 @@ module _ {A : Type 0} (sign : Symbol) (spell : A → List Kind) where
       a ∙ ap (λ ks. ks ++ spell x) (s ∙ ap (λ ks. ks ++ between sign at) b) ∙ append_assoc (old ++ so_far) (between sign at) (spell x)
       ∙ append_assoc old so_far (between sign at ++ spell x) ∙ ap (λ ks. old ++ ks) (sym (next_part xs at x h e))
 
+module _ {A : Type 0} (spell : A → List Kind) where
+  next_beside : (xs : List A) (at : ℕ) (x : A) → slice_get xs at ≡ Some x → beside (map spell (take (suc at) xs)) ≡ beside (map spell (take at xs)) ++ spell x
+  next_beside [] at x e = cc
+  next_beside (y ∷ xs) zero x e = let is : y ≡ x = cc in append-nil (spell y) ∙ ap spell is
+  next_beside (y ∷ xs) (suc at) x e =
+      ap (λ ks. spell y ++ ks) (next_beside xs at x e) ∙ sym (append_assoc (spell y) (beside (map spell (take at xs))) (spell x))
+
+  -- a turn of a loop over parts side by side
+  pub next_turn_beside : (old before after : List Kind) (xs : List A) (at : ℕ) (x : A) → before ≡ old ++ beside (map spell (take at xs))
+      → after ≡ before ++ spell x → at < length xs → x ≡ get_or xs at x → after ≡ old ++ beside (map spell (take (at + 1) xs))
+  next_turn_beside old before after xs at x b a h e =
+      let one : at + 1 ≡ suc at = omega arith in
+      a ∙ ap (λ ks. ks ++ spell x) b ∙ append_assoc old (beside (map spell (take at xs))) (spell x)
+      ∙ ap (λ ks. old ++ ks) (sym (next_beside xs at x (slice_get_read xs (length xs) at x refl h e)) ∙ ap (λ n. beside (map spell (take n xs))) (sym one))
+
 pub ruleset type_steps = (common_steps, ty_lemmas, append_assoc)
+pub ruleset pattern_steps = (common_steps, pat_lemmas, append_assoc)
+pub ruleset exp_steps = (common_steps, exp_lemmas, append_assoc)
+pub ruleset case_steps = (common_steps, exp_lemmas, append_assoc)
 pub ruleset part_steps = (common_steps, append_assoc)

@@ -3,6 +3,8 @@
 #![tactic(auto)]
 
 mod laws;
+mod spell_expressions;
+mod spell_patterns;
 mod spell_tokens;
 mod spell_types;
 mod tree;
