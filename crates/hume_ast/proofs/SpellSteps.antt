@@ -1,14 +1,15 @@
 -- What is spelled, step by step.
-use Rattle.std.proofs.Common.{◌≡◌, ℕ, zero, suc, ◌<◌, ◌+◌, List, [], ◌∷◌, ◌++◌, length, map, take, get_or, refl, sym, ap, ◌∙◌, arith, append_assoc, append-nil}
+use Rattle.std.proofs.Common.{◌≡◌, ℕ, zero, suc, ◌<◌, ◌+◌, List, [], ◌∷◌, ◌++◌, length, map, max, take, get_or, refl, sym, ap, ◌∙◌, arith, append_assoc, append-nil}
 use Rattle.std.specs.Prelude.{Some, slice_get}
 use Rattle.std.proofs.lemmas.Grind.{common_steps}
 use Rattle.std.proofs.lemmas.Option.{slice_get_read}
+use denote.Param.Weighed.{most}
 use Rattle.hume_base.specs.declared.symbol.Symbol.{Symbol}
 use Rattle.hume_base.specs.declared.token.Kind.{Kind}
 use Rattle.hume_base.specs.declared.token.Kind.TheVariants.{Sign}
 use Rattle.hume_ast.specs.declared.tree.TyExp.{the_lemmas as ty_lemmas}
-use Rattle.hume_ast.specs.declared.tree.Pat.{the_lemmas as pat_lemmas}
-use Rattle.hume_ast.specs.declared.tree.Exp.{the_lemmas as exp_lemmas}
+use Rattle.hume_ast.specs.declared.tree.Pat.{Pat, the_lemmas as pat_lemmas}
+use Rattle.hume_ast.specs.declared.tree.Exp.{Exp, size-Exp, the_lemmas as exp_lemmas}
 use Rattle.hume_ast.specs.Spelling.{separated, preceded, beside}
 use Rattle.hume_ast.specs.Parts.{between}
 
@@ -58,6 +59,10 @@ module _ {A : Type 0} (spell : A → List Kind) where
       let one : at + 1 ≡ suc at = omega arith in
       a ∙ ap (λ ks. ks ++ spell x) b ∙ append_assoc old (beside (map spell (take at xs))) (spell x)
       ∙ ap (λ ks. old ++ ks) (sym (next_beside xs at x (slice_get_read xs (length xs) at x refl h e)) ∙ ap (λ n. beside (map spell (take n xs))) (sym one))
+
+-- how deep alternatives are, as the prover counts
+abbrev pub alternatives_size : List (Pat × Exp) → ℕ
+alternatives_size alternatives = most (λ alternative. max 0 (max (size-Exp alternative.1) 0)) alternatives
 
 pub ruleset type_steps = (common_steps, ty_lemmas, append_assoc)
 pub ruleset pattern_steps = (common_steps, pat_lemmas, append_assoc)

@@ -92,19 +92,20 @@ fn spell_alternatives(alternatives: &[(Pat, Exp)], out: &mut List<Kind>) -> Resu
 {
     for at in 0..alternatives.len() {
         sign_between(out, Symbol::Bar, at)?;
-        spell_alternative(&alternatives[at], out)?;
+        let alternative = &alternatives[at];
+        spell_alternative(&alternative.0, &alternative.1, out)?;
     }
     Ok(())
 }
 
 #[cycle(spell_expressions)]
 #[tactic(auto, using(crate::proofs::SpellSteps::part_steps))]
-fn spell_alternative(alternative: &(Pat, Exp), out: &mut List<Kind>) -> Result<(), AllocError>
-    ensures { OnOk result (out.new ≡ out.old ++ spelled_alternative alternative.now) }
+fn spell_alternative(pattern: &Pat, exp: &Exp, out: &mut List<Kind>) -> Result<(), AllocError>
+    ensures { OnOk result (out.new ≡ out.old ++ spelled_alternative (pattern.now, exp.now)) }
 {
-    spell_pattern(&alternative.0, out)?;
+    spell_pattern(pattern, out)?;
     sign(out, Symbol::Arrow)?;
-    spell_exp(&alternative.1, out)
+    spell_exp(exp, out)
 }
 
 #[cycle(spell_expressions)]
@@ -176,12 +177,12 @@ fn spell_cast(inner: &Exp, ty: &TyExp, out: &mut List<Kind>) -> Result<(), Alloc
 /// Adds the tokens of expressions with commas between them, and a sign at either end.
 #[cycle(spell_expressions)]
 #[tactic(auto, using(crate::proofs::SpellSteps::part_steps))]
-fn spell_listed(open: Symbol, exps: &[Exp], close: Symbol, out: &mut List<Kind>) -> Result<(), AllocError>
-    ensures { OnOk result (out.new ≡ out.old ++ (Sign open ∷ (separated Comma (map spelled_exp exps.now) ++ Sign close ∷ []))) }
+fn spell_listed(opening: Symbol, exps: &[Exp], closing: Symbol, out: &mut List<Kind>) -> Result<(), AllocError>
+    ensures { OnOk result (out.new ≡ out.old ++ (Sign opening ∷ (separated Comma (map spelled_exp exps.now) ++ Sign closing ∷ []))) }
 {
-    sign(out, open)?;
+    sign(out, opening)?;
     spell_exps(exps, out)?;
-    sign(out, close)
+    sign(out, closing)
 }
 
 /// Adds the tokens of expressions, with commas between them.
