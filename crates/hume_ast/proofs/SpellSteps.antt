@@ -5,13 +5,17 @@ use Rattle.std.proofs.lemmas.Grind.{common_steps}
 use Rattle.std.proofs.lemmas.Option.{slice_get_read}
 use denote.Param.Weighed.{most}
 use Rattle.hume_base.specs.declared.symbol.Symbol.{Symbol}
+use Rattle.hume_base.specs.declared.symbol.Symbol.TheVariants as symbol
+use Rattle.hume_base.specs.declared.keyword.Keyword.TheVariants as word
 use Rattle.hume_base.specs.declared.token.Kind.{Kind}
-use Rattle.hume_base.specs.declared.token.Kind.TheVariants.{Sign}
+use Rattle.hume_base.specs.declared.token.Kind.TheVariants.{Sign, Word}
 use Rattle.hume_ast.specs.declared.tree.TyExp.{the_lemmas as ty_lemmas}
 use Rattle.hume_ast.specs.declared.tree.Pat.{Pat, the_lemmas as pat_lemmas}
-use Rattle.hume_ast.specs.declared.tree.Exp.{Exp, size-Exp, the_lemmas as exp_lemmas}
-use Rattle.hume_ast.specs.Spelling.{separated, preceded, beside}
-use Rattle.hume_ast.specs.Parts.{between}
+use Rattle.hume_ast.specs.declared.tree.Exp.{Exp, Case, size-Exp, fold-roll-Exp, the_lemmas as exp_lemmas}
+use Rattle.hume_ast.specs.declared.tree.Exp.TheOpen.{Exp-F}
+use Rattle.hume_ast.specs.declared.tree.Exp.TheVariants.{rolls-Case}
+use Rattle.hume_ast.specs.Spelling.{separated, preceded, beside, spell_alternative, spell_exp, spelled_exp}
+use Rattle.hume_ast.specs.Parts.{between, spelled_alternative}
 
 module _ {A : Type 0} (sign : Symbol) (spell : A → List Kind) where
   abbrev after : List A → List Kind
@@ -64,8 +68,19 @@ module _ {A : Type 0} (spell : A → List Kind) where
 abbrev pub alternatives_size : List (Pat × Exp) → ℕ
 alternatives_size alternatives = most (λ alternative. max 0 (max (size-Exp alternative.1) 0)) alternatives
 
+alternatives_spelled : (alternatives : List (Pat × Exp))
+    → map spell_alternative (map (λ (alternative : Pat × Exp). (alternative.0, spelled_exp alternative.1)) alternatives) ≡ map spelled_alternative alternatives
+alternatives_spelled [] = refl
+alternatives_spelled (alternative ∷ alternatives) = ap (λ parts. spelled_alternative alternative ∷ parts) (alternatives_spelled alternatives)
+
+pub case_spelled : (subject : Exp) (alternatives : List (Pat × Exp)) → spelled_exp (Case subject alternatives)
+    ≡ Word word.Case ∷ (spelled_exp subject ++ Word word.Of ∷ (separated symbol.Bar (map spelled_alternative alternatives) ++ Word word.End ∷ []))
+case_spelled subject alternatives =
+    ap spelled_exp (sym (rolls-Case subject alternatives)) ∙ fold-roll-Exp (List Kind) spell_exp (Exp-F.Case subject alternatives)
+    ∙ ap (λ parts. Word word.Case ∷ (spelled_exp subject ++ Word word.Of ∷ (separated symbol.Bar parts ++ Word word.End ∷ []))) (alternatives_spelled alternatives)
+
 pub ruleset type_steps = (common_steps, ty_lemmas, append_assoc)
 pub ruleset pattern_steps = (common_steps, pat_lemmas, append_assoc)
 pub ruleset exp_steps = (common_steps, exp_lemmas, append_assoc)
-pub ruleset case_steps = (common_steps, exp_lemmas, append_assoc)
+pub ruleset case_steps = (common_steps, case_spelled, append_assoc)
 pub ruleset part_steps = (common_steps, append_assoc)
