@@ -1,6 +1,6 @@
 -- What is spelled, step by step.
 use Rattle.std.proofs.Common.{◌≡◌, ℕ, zero, suc, ◌<◌, ◌+◌, List, [], ◌∷◌, ◌++◌, length, map, max, take, get_or, refl, sym, ap, ◌∙◌, arith, append_assoc, append-nil}
-use Rattle.std.specs.Prelude.{Some, slice_get}
+use Rattle.std.specs.Prelude.{Option, Some, slice_get}
 use Rattle.std.proofs.lemmas.Grind.{common_steps}
 use Rattle.std.proofs.lemmas.Option.{slice_get_read}
 use denote.Param.Weighed.{most}
@@ -14,7 +14,7 @@ use Rattle.hume_ast.specs.declared.tree.Pat.{Pat, the_lemmas as pat_lemmas}
 use Rattle.hume_ast.specs.declared.tree.Exp.{Exp, Case, size-Exp, fold-roll-Exp, the_lemmas as exp_lemmas}
 use Rattle.hume_ast.specs.declared.tree.Exp.TheOpen.{Exp-F}
 use Rattle.hume_ast.specs.declared.tree.Exp.TheVariants.{rolls-Case}
-use Rattle.hume_ast.specs.Spelling.{separated, preceded, beside, spell_alternative, spell_exp, spelled_exp}
+use Rattle.hume_ast.specs.Spelling.{separated, preceded, beside, spell_alternative, spell_exp, spelled_exp, spelled_handler, spelled_handlers}
 use Rattle.hume_ast.specs.Parts.{between, spelled_alternative}
 
 module _ {A : Type 0} (sign : Symbol) (spell : A → List Kind) where
@@ -80,7 +80,18 @@ case_spelled subject alternatives =
     ∙ ap (λ parts. Word word.Case ∷ (spelled_exp subject ++ Word word.Of ∷ (separated symbol.Bar parts ++ Word word.End ∷ []))) (alternatives_spelled alternatives)
 
 pub ruleset type_steps = (common_steps, ty_lemmas, append_assoc)
+
 pub ruleset pattern_steps = (common_steps, pat_lemmas, append_assoc)
+
 pub ruleset exp_steps = (common_steps, exp_lemmas, append_assoc)
+
 pub ruleset case_steps = (common_steps, case_spelled, append_assoc)
+
 pub ruleset part_steps = (common_steps, append_assoc)
+
+pub some_handlers : (handlers : List (List ℕ × Option Pat × Exp)) → 0 < length handlers
+    → spelled_handlers handlers ≡ Word word.Handle ∷ separated symbol.Bar (map spelled_handler handlers)
+some_handlers [] h = absurd (omega arith)
+some_handlers (handler ∷ handlers) h = refl
+
+pub ruleset handler_steps = (common_steps, some_handlers, append_assoc)

@@ -40,9 +40,19 @@ pub fn spell_exp(exp: &Exp, out: &mut List<Kind>) -> Result<(), AllocError>
         Exp::Letter(byte) => letter(out, *byte),
         Exp::Truth(holds) => truth(out, *holds),
         Exp::Paren(inner) => spell_in_parens(inner, out),
-        Exp::Tuple(parts) => spell_listed(Symbol::OpenParen, parts.as_slice(), Symbol::CloseParen, out),
+        Exp::Tuple(parts) => spell_listed(
+            Symbol::OpenParen,
+            parts.as_slice(),
+            Symbol::CloseParen,
+            out,
+        ),
         Exp::Cast(inner, ty) => spell_cast(inner, ty, out),
-        Exp::Vect(items) => spell_listed(Symbol::OpenAngles, items.as_slice(), Symbol::CloseAngles, out),
+        Exp::Vect(items) => spell_listed(
+            Symbol::OpenAngles,
+            items.as_slice(),
+            Symbol::CloseAngles,
+            out,
+        ),
         Exp::Star => sign(out, Symbol::Star),
     }
 }
@@ -75,7 +85,11 @@ fn spell_if(test: &Exp, first: &Exp, second: &Exp, out: &mut List<Kind>) -> Resu
 
 #[cycle(spell_expressions)]
 #[tactic(auto, using(crate::proofs::SpellSteps::case_steps))]
-fn spell_case(subject: &Exp, alternatives: &[(Pat, Exp)], out: &mut List<Kind>) -> Result<(), AllocError>
+fn spell_case(
+    subject: &Exp,
+    alternatives: &[(Pat, Exp)],
+    out: &mut List<Kind>,
+) -> Result<(), AllocError>
     ensures { OnOk result (out.new ≡ out.old ++ spelled_exp (Case subject.now alternatives.now)) }
 {
     word(out, Keyword::Case)?;
@@ -110,7 +124,11 @@ fn spell_alternative(pattern: &Pat, exp: &Exp, out: &mut List<Kind>) -> Result<(
 
 #[cycle(spell_expressions)]
 #[tactic(auto, using(crate::proofs::SpellSteps::exp_steps))]
-fn spell_raise(name: &Text, value: &Option<Box<Exp>>, out: &mut List<Kind>) -> Result<(), AllocError>
+fn spell_raise(
+    name: &Text,
+    value: &Option<Box<Exp>>,
+    out: &mut List<Kind>,
+) -> Result<(), AllocError>
     ensures { OnOk result (out.new ≡ out.old ++ spelled_exp (Raise name.now value.now)) }
 {
     word(out, Keyword::Raise)?;
@@ -123,7 +141,12 @@ fn spell_raise(name: &Text, value: &Option<Box<Exp>>, out: &mut List<Kind>) -> R
 
 #[cycle(spell_expressions)]
 #[tactic(auto, using(crate::proofs::SpellSteps::exp_steps))]
-fn spell_binary(operator: BinOp, left: &Exp, right: &Exp, out: &mut List<Kind>) -> Result<(), AllocError>
+fn spell_binary(
+    operator: BinOp,
+    left: &Exp,
+    right: &Exp,
+    out: &mut List<Kind>,
+) -> Result<(), AllocError>
     ensures { OnOk result (out.new ≡ out.old ++ (spelled_exp left.now ++ operator_token operator ∷ spelled_exp right.now)) }
 {
     spell_exp(left, out)?;
@@ -177,7 +200,12 @@ fn spell_cast(inner: &Exp, ty: &TyExp, out: &mut List<Kind>) -> Result<(), Alloc
 /// Adds the tokens of expressions with commas between them, and a sign at either end.
 #[cycle(spell_expressions)]
 #[tactic(auto, using(crate::proofs::SpellSteps::part_steps))]
-fn spell_listed(opening: Symbol, exps: &[Exp], closing: Symbol, out: &mut List<Kind>) -> Result<(), AllocError>
+fn spell_listed(
+    opening: Symbol,
+    exps: &[Exp],
+    closing: Symbol,
+    out: &mut List<Kind>,
+) -> Result<(), AllocError>
     ensures { OnOk result (out.new ≡ out.old ++ (Sign opening ∷ (separated Comma (map spelled_exp exps.now) ++ Sign closing ∷ []))) }
 {
     sign(out, opening)?;

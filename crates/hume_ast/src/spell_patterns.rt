@@ -40,7 +40,11 @@ pub fn spell_pattern(pattern: &Pat, out: &mut List<Kind>) -> Result<(), AllocErr
 
 /// Adds the tokens of patterns, with the sign between each two.
 #[cycle(spell_patterns)]
-pub fn spell_patterns(patterns: &[Pat], symbol: Symbol, out: &mut List<Kind>) -> Result<(), AllocError>
+pub fn spell_patterns(
+    patterns: &[Pat],
+    symbol: Symbol,
+    out: &mut List<Kind>,
+) -> Result<(), AllocError>
     ensures { OnOk result (out.new ≡ out.old ++ separated symbol (map spelled_pat patterns.now)) }
 {
     for at in 0..patterns.len() {
