@@ -10,6 +10,8 @@ mod spell_patterns;
 mod spell_program;
 mod spell_tokens;
 mod spell_types;
+#[cfg(test)]
+mod tests;
 mod tree;
 
 pub use laws::depth_decides;
