@@ -1,0 +1,19 @@
+ghost use Rattle.hume_parse.specs.Parsing.{IsParsed};
+
+use hume_ast::Program;
+use hume_base::Token;
+use std::alloc::Global;
+use thiserror::Error;
+
+/// Why tokens stand for no program.
+#[derive(Debug, Drop, PartialEq, Eq, Error)]
+pub enum ParseError {
+    /// No program goes on with the token at this place, in bytes; or all tokens are read, and this is the end.
+    #[error("syntax error at {0}")]
+    Syntax(u32),
+    /// Only a program that is nested too deeply goes on with the token at this place, in bytes.
+    #[error("too deep at {0}")]
+    Deep(u32),
+    #[error("out of memory")]
+    NoMemory,
+}
