@@ -1,4 +1,6 @@
-ghost use Rattle.hume_parse.specs.Parsing.{IsParsed};
+ghost use Rattle.std.specs.Prelude.{◌≡◌, ◌⊎◌, IfOk, IfErr};
+ghost use Rattle.hume_ast.specs.Places.{StandsFor};
+ghost use Rattle.hume_parse.specs.Parsing.{IsFault};
 
 use hume_ast::Program;
 use hume_base::Token;
