@@ -1,7 +1,6 @@
 -- Reading lines: declarations that stand alone, signatures and equations. So one token of look-ahead is enough.
 use Rattle.std.specs.Prelude.{ℕ, zero, suc, List, [], ◌∷◌, length, Ok}
 use Rattle.hume_base.specs.declared.symbol.Symbol.TheVariants as symbol
-use Rattle.hume_base.specs.declared.token.Kind.{Kind}
 use Rattle.hume_ast.specs.declared.tree.TyExp.{TyExp}
 use Rattle.hume_ast.specs.declared.tree.Pat.{Pat}
 use Rattle.hume_ast.specs.declared.tree.Exp.{Exp}
