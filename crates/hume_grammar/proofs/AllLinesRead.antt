@@ -51,11 +51,11 @@ module _ (bound : ℕ) where
       bind_same (line bound place (x ∷ ks)) (λ y. lines_by n bound (place_after y.0) y.1 >>= with_first y.0) (λ y. lines_by m bound (place_after y.0) y.1 >>= with_first y.0)
       (λ y e. let less = line_shrinks bound place (x ∷ ks) y e in ap (λ r. r >>= with_first y.0) (enough n m (place_after y.0) y.1 (omega arith) (omega arith)))
 
-  lines_end : (place : Place) → lines bound place [] ≡ no_lines place []
+  pub lines_end : (place : Place) → lines bound place [] ≡ no_lines place []
   unfolding lines
   lines_end place = refl
 
-  lines_turn : (place : Place) (ks : List Kind) → 0 < length ks → lines bound place ks ≡ (line bound place ks >>= λ x. lines bound (place_after x.0) x.1 >>= λ others. Ok (x.0 ∷ others.0, others.1))
+  pub lines_turn : (place : Place) (ks : List Kind) → 0 < length ks → lines bound place ks ≡ (line bound place ks >>= λ x. lines bound (place_after x.0) x.1 >>= λ others. Ok (x.0 ∷ others.0, others.1))
   unfolding lines
   lines_turn place [] h = absurd (omega (arith, h))
   lines_turn place (k ∷ ks) h =

@@ -148,7 +148,7 @@ module _ (bound : ℕ) where
   abbrev pub PortFits : List ℕ × TyExp → Type 0
   PortFits port = TypeFits bound port.1
 
-  port_reads : Reads spelled_port PortFits Anything (port bound)
+  pub port_reads : Reads spelled_port PortFits Anything (port bound)
   port_reads = retold (both_reads (closed_reads lower_reads (Sign symbol.DoubleColon) tt (λ rest. tt)) (types_read bound) (λ b rest f e. tt)) spelled_port PortFits (λ p f. (f.1, refl)) (λ p f. (tt, f))
 
   pub ports_reads : Reads spelled_ports (OneOrMore PortFits) Anything (ports bound)
@@ -158,7 +158,7 @@ module _ (bound : ℕ) where
   rule_reads = respelled (both_reads (closed_reads (in_commas_reads (inputs_read bound) (λ rest. refl) (λ rest. refl)) (Sign symbol.Arrow) tt (λ rest. tt)) exp_reads (λ b rest f e. tt))
       spelled_rule (λ r. sym (append_assoc (in_parens (separated symbol.Comma (map spelled_pat r.0))) (Sign symbol.Arrow ∷ []) (spelled_exp r.1)))
 
-  handler_reads : Reads spelled_handler (HandlerFits bound) (Stops 1) (handler bound)
+  pub handler_reads : Reads spelled_handler (HandlerFits bound) (Stops 1) (handler bound)
   handler_reads = made_reads (both_reads upper_reads (both_reads (closed_reads maybe_carried (Sign symbol.Arrow) tt (λ rest. refl)) exp_reads (λ b rest f e. tt)) (λ b rest f e. tt))
       handler_of spelled_handler (HandlerFits bound) (λ a f. f.1)
       (λ a f. ap (λ m. Upper a.0 ∷ m) (sym (append_assoc (spelled_carried a.1.0) (Sign symbol.Arrow ∷ []) (spelled_exp a.1.1))))

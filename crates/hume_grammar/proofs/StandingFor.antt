@@ -46,7 +46,7 @@ standing_read tokens p f = ap (program 64) (sym f.1 ∙ tokens_of p.decls) ∙ p
 abbrev pub NoneGoesOn : ℕ → List Kind → List Kind → Type 0
 NoneGoesOn bound front rest = (decls : List (ℕ × Decl)) (others : List Kind) → DeclsFit bound decls → SameNext rest others → spelled_decls decls ≡ front ++ others → ⊥
 
-no_both : {A : Type 0} (r : Result A ℕ) (a : A) (n : ℕ) → r ≡ Ok a → r ≡ Err n → ⊥
+pub no_both : {A : Type 0} (r : Result A ℕ) (a : A) (n : ℕ) → r ≡ Ok a → r ≡ Err n → ⊥
 no_both r a n e f = let clash : ◌≡◌ {A = Result _ ℕ} (Ok a) (Err n) = sym e ∙ f in cc
 
 none_goes_on : (bound : ℕ) (front rest : List Kind) → ((others : List Kind) → SameNext rest others → program bound (front ++ others) ≡ Err (length others)) → NoneGoesOn bound front rest

@@ -2,3 +2,8 @@ pub mod Loops
 pub mod TypeSteps
 pub mod PatternSteps
 pub mod ExpSteps
+pub mod DeclSteps
+pub mod BoxSteps
+pub mod LineSteps
+pub mod Running
+pub mod Faults

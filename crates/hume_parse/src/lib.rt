@@ -1,9 +1,17 @@
 //! The parser: from the tokens of a source to the one tree that they spell, or to the place where none goes on.
 #![tactic(auto)]
 
+mod boxes;
+mod declarations;
 mod expressions;
 mod fault;
+mod functions;
+mod lines;
 mod operators;
+mod parser;
 mod patterns;
+mod program;
 mod tokens;
 mod types;
+
+pub use parser::{ParseError, parse};
