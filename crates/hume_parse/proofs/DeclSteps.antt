@@ -1,6 +1,6 @@
 -- Reading declarations, step by step, as the code goes.
 use Rattle.std.proofs.Common.{◌≡◌, ℕ, List, [], ◌∷◌, ◌<◌, length, Bool, true, false, refl, ap}
-use Rattle.std.specs.Prelude.{Result, Ok, Err, Option, Some, None}
+use Rattle.std.specs.Prelude.{Ok, Err, Some, None}
 use Rattle.hume_base.specs.declared.keyword.Keyword.TheVariants as word
 use Rattle.hume_base.specs.declared.symbol.Symbol.TheVariants as symbol
 use Rattle.hume_base.specs.declared.token.Kind.{Kind}
@@ -10,7 +10,7 @@ use Rattle.hume_ast.specs.declared.tree.TyExp.{TyExp}
 use Rattle.hume_parse.specs.Gives.{kinds}
 use Rattle.hume_grammar.specs.Readers.{Reader, ◌>>=◌, next, behind, is_word, is_sign, after, led, made, both, closed, listed, maybe, pick, lower_name, upper_name, port_name}
 use Rattle.hume_grammar.specs.Types.{types}
-use Rattle.hume_grammar.specs.Declarations.{whole_decl, sum_of, constructor, exn_of, starts_type, box_of, sides, rules, stream_of, way, wire_of, wire_end, first_value, expression, order, handlers, handler, is_carried, carried_pat}
+use Rattle.hume_grammar.specs.Declarations.{whole_decl, sum_of, constructor, exn_of, starts_type, box_of, sides, rules, stream_of, way, wire_of, wire_end, first_value, expression}
 use Rattle.hume_grammar.proofs.TypesRead.{types_read}
 use Rattle.hume_grammar.proofs.DeclarationParts.{first_type}
 use Rattle.hume_grammar.proofs.Forms.{shrinks}

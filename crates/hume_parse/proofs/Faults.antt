@@ -1,23 +1,18 @@
 -- What is told of a fault is right.
-use Rattle.std.proofs.Common.{◌≡◌, ◌⊎◌, inl, inr, ℕ, ◌-◌, List, [], ◌∷◌, ◌++◌, length, map, take, drop, refl, sym, ap, ◌∙◌, subst, arith, length-append, append_assoc}
-use Rattle.std.specs.Prelude.{Ok, Err}
+use Rattle.std.proofs.Common.{◌≡◌, ◌⊎◌, inl, inr, ℕ, ◌-◌, List, [], ◌∷◌, ◌++◌, length, take, drop, refl, sym, ap, ◌∙◌, subst, arith, length-append, append_assoc}
+use Rattle.std.specs.Prelude.{Err}
 use Rattle.std.proofs.lemmas.List.{take_at, drop_at, take-map, drop-map, map-append, take-append-drop}
-use Rattle.hume_base.specs.declared.token.Kind.{Kind}
 use Rattle.hume_base.specs.declared.token.Token.{Token}
-use Rattle.hume_ast.specs.declared.tree.Program.{Program}
-use Rattle.hume_ast.specs.Fits.{IsFit}
-use Rattle.hume_ast.specs.Spelling.{spelled}
-use Rattle.hume_ast.specs.Places.{kinds, unplaced, StandsFor}
+use Rattle.hume_ast.specs.Places.{kinds, unplaced}
 use Rattle.hume_parse.specs.Gives.{Fails}
 use Rattle.hume_parse.specs.declared.fault.Fault.{Fault}
 use Rattle.hume_parse.specs.declared.fault.Fault.TheVariants as fault
-use Rattle.hume_parse.specs.declared.parser.ParseError.{ParseError}
 use Rattle.hume_parse.specs.declared.parser.ParseError.TheVariants.{NoMemory}
 use Rattle.hume_parse.specs.Parsing.{IsNoProgram, BeginsNone, IsWrongToken, IsFault}
 use Rattle.hume_parse.specs.Told.{place_of, told_syntax, told_deep, told}
 use Rattle.hume_grammar.specs.Programs.{program}
 use Rattle.hume_grammar.proofs.Local.{SameNext}
-use Rattle.hume_grammar.proofs.StandingFor.{standing_read, no_both, NoneGoesOn, program_refused}
+use Rattle.hume_grammar.proofs.StandingFor.{standing_read, no_both, program_refused}
 use Rattle.hume_parse.proofs.Loops.{kinds_length}
 
 no_program : (tokens : List Token) (n : ℕ) → program 64 (kinds tokens) ≡ Err n → IsNoProgram tokens

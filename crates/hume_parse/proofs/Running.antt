@@ -1,7 +1,7 @@
 -- Reading a program line by line: what the loop keeps.
-use Rattle.std.proofs.Common.{◌≡◌, ℕ, ◌+◌, ◌-◌, ◌<◌, List, [], ◌∷◌, ◌++◌, length, map, drop, true, false, refl, sym, ap, ◌∙◌, arith, length-append, append_assoc, append-nil}
+use Rattle.std.proofs.Common.{◌≡◌, ℕ, ◌-◌, ◌<◌, List, [], ◌∷◌, ◌++◌, length, map, drop, true, false, refl, sym, ap, ◌∙◌, arith, length-append, append_assoc, append-nil}
 use Rattle.std.specs.Prelude.{Result, Ok, Err, Option, Some, None}
-use Rattle.std.proofs.lemmas.List.{drop_at, drop-drop, drop-map, map-append}
+use Rattle.std.proofs.lemmas.List.{drop-drop, map-append}
 use Rattle.hume_base.specs.declared.token.Kind.{Kind}
 use Rattle.hume_base.specs.declared.token.Token.{Token}
 use Rattle.hume_base.specs.declared.symbol.Symbol.TheVariants as symbol
@@ -10,7 +10,7 @@ use Rattle.hume_ast.specs.declared.tree.Pat.{Pat}
 use Rattle.hume_ast.specs.declared.tree.Exp.{Exp}
 use Rattle.hume_ast.specs.declared.tree.Decl.{Decl}
 use Rattle.hume_ast.specs.declared.tree.Decl.TheVariants.{Fun}
-use Rattle.hume_ast.specs.Spelling.{spelled_equation, spelled_decl, spelled_decls, separated, spelled_ty, beside}
+use Rattle.hume_ast.specs.Spelling.{spelled_equation, spelled_decl, separated, spelled_ty, beside}
 use Rattle.hume_ast.specs.Places.{unplaced, placed, first_place}
 use Rattle.hume_parse.specs.declared.fault.Fault.{Fault}
 use Rattle.hume_parse.specs.declared.program.OpenFunction.{OpenFunction}
@@ -24,7 +24,6 @@ use Rattle.hume_grammar.specs.Programs.{Gathered, with_line, gathered, program}
 use Rattle.hume_grammar.proofs.LinesRead.{spelled_line, MayStand, line_reads}
 use Rattle.hume_grammar.proofs.AllLinesRead.{lines_end, lines_turn}
 use Rattle.hume_grammar.proofs.ProgramsRead.{all_tokens}
-use Rattle.hume_grammar.proofs.StandingFor.{tokens_of}
 use Rattle.hume_parse.proofs.Loops.{kinds_length, fails_on}
 
 abbrev Equations : Type 0
@@ -161,17 +160,17 @@ line_tokens place (Equation parts) progress h = by progress.function h where
       ∙ ap (λ m. front ++ m) (grown f)
       ∙ sym (append_assoc front (all_tokens (unplaced (as_decl (Some f)))) (spelled_equation parts))
       ∙ ap (λ m. m ++ spelled_equation parts) (sym (closed_tokens progress.decls (Some f))) where
-        grown : (f : OpenFunction) → all_tokens (unplaced (as_decl (with_equation parts (Some f)))) ≡ all_tokens (unplaced (as_decl (Some f))) ++ spelled_equation parts
-        grown f =
-            append-nil (spelled_decl (Fun f.name f.types (f.equations ++ parts ∷ [])))
-            ∙ longer f
-            ∙ ap (λ m. m ++ spelled_equation parts) (sym (append-nil (spelled_decl (Fun f.name f.types f.equations))))
-
         longer : (f : OpenFunction) → spelled_decl (Fun f.name f.types (f.equations ++ parts ∷ [])) ≡ spelled_decl (Fun f.name f.types f.equations) ++ spelled_equation parts
         longer f =
             let types = separated symbol.Arrow (map spelled_ty f.types) in
             ap (λ m. Lower f.name ∷ Sign symbol.DoubleColon ∷ (types ++ Sign symbol.Semicolon ∷ m)) (equations_append f.equations parts)
             ∙ ap (λ m. Lower f.name ∷ Sign symbol.DoubleColon ∷ m) (sym (append_assoc types (Sign symbol.Semicolon ∷ beside (map spelled_equation f.equations)) (spelled_equation parts)))
+
+        grown : (f : OpenFunction) → all_tokens (unplaced (as_decl (with_equation parts (Some f)))) ≡ all_tokens (unplaced (as_decl (Some f))) ++ spelled_equation parts
+        grown f =
+            append-nil (spelled_decl (Fun f.name f.types (f.equations ++ parts ∷ [])))
+            ∙ longer f
+            ∙ ap (λ m. m ++ spelled_equation parts) (sym (append-nil (spelled_decl (Fun f.name f.types f.equations))))
 
 module _ (all : List Token) (progress : Progress) (rest : List Token) (running : Running all progress rest) where
   -- a line that is read may stand here, and its tokens are in front

@@ -42,7 +42,14 @@ pub fn box_decl(alloc: Global, rest: &[Token]) -> Result<(Decl, &[Token]), Fault
     let (sides, rest) = both_sides(alloc, rest)?;
     let (body, rest) = box_rules(alloc, rest)?;
     Ok((
-        Decl::BoxD(name, sides.inputs, sides.outputs, body.fair, body.rules, body.handlers),
+        Decl::BoxD(
+            name,
+            sides.inputs,
+            sides.outputs,
+            body.fair,
+            body.rules,
+            body.handlers,
+        ),
         rest,
     ))
 }
@@ -103,7 +110,14 @@ fn box_rules(alloc: Global, rest: &[Token]) -> Result<(Rules, &[Token]), Fault>
     let (rules, rest) = rule_list(alloc, rest)?;
     let (handlers, rest) = handlers(alloc, rest)?;
     let rest = after_sign(rest, Symbol::Semicolon)?;
-    Ok((Rules { fair, rules, handlers }, rest))
+    Ok((
+        Rules {
+            fair,
+            rules,
+            handlers,
+        },
+        rest,
+    ))
 }
 
 /// Whether the rules of a box are fair.
@@ -176,7 +190,10 @@ fn input_list(alloc: Global, tokens: &[Token]) -> Result<(List<Pat>, &[Token]), 
 
 /// The handlers of a box, if it has any.
 #[tactic(auto, using(crate::proofs::BoxSteps::handlers_steps))]
-fn handlers(alloc: Global, rest: &[Token]) -> Result<(List<(Text, Option<Pat>, Exp)>, &[Token]), Fault>
+fn handlers(
+    alloc: Global,
+    rest: &[Token],
+) -> Result<(List<(Text, Option<Pat>, Exp)>, &[Token]), Fault>
     ensures reads { Gives (λ x. (x.0, kinds x.1.now)) result (handlers_read 64 (kinds rest.now)) }
     ensures shorter { IfOk result (λ x. length x.1.now ≤ length rest.now) }
 {
@@ -187,7 +204,10 @@ fn handlers(alloc: Global, rest: &[Token]) -> Result<(List<(Text, Option<Pat>, E
 }
 
 /// One or more handlers, with `|` between each two.
-fn handler_list(alloc: Global, tokens: &[Token]) -> Result<(List<(Text, Option<Pat>, Exp)>, &[Token]), Fault>
+fn handler_list(
+    alloc: Global,
+    tokens: &[Token],
+) -> Result<(List<(Text, Option<Pat>, Exp)>, &[Token]), Fault>
     ensures reads { Gives (λ x. (x.0, kinds x.1.now)) result (listed Bar (handler_read 64) (kinds tokens.now)) }
     ensures shorter { IfOk result (λ x. length x.1.now < length tokens.now) }
 {

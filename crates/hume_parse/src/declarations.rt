@@ -10,7 +10,9 @@ ghost use Rattle.hume_grammar.specs.Declarations.{whole_decl as decl_read, sum_o
 use crate::boxes::box_decl;
 use crate::expressions::exp;
 use crate::fault::Fault;
-use crate::tokens::{after_sign, after_word, behind, lower, next_is_sign, next_is_word, port, upper};
+use crate::tokens::{
+    after_sign, after_word, behind, lower, next_is_sign, next_is_word, port, upper,
+};
 use crate::types::ty;
 use hume_ast::{Decl, Exp, TyExp};
 use hume_base::{Keyword, Kind, List, Symbol, Text, Token};
@@ -55,7 +57,10 @@ fn data_decl(alloc: Global, rest: &[Token]) -> Result<(Decl, &[Token]), Fault>
 }
 
 /// One or more constructors, with `|` between each two.
-fn constructors(alloc: Global, tokens: &[Token]) -> Result<(List<(Text, List<TyExp>)>, &[Token]), Fault>
+fn constructors(
+    alloc: Global,
+    tokens: &[Token],
+) -> Result<(List<(Text, List<TyExp>)>, &[Token]), Fault>
     ensures reads { Gives (λ x. (x.0, kinds x.1.now)) result (listed Bar (constructor_read 64) (kinds tokens.now)) }
     ensures shorter { IfOk result (λ x. length x.1.now < length tokens.now) }
 {
@@ -189,7 +194,9 @@ fn starts_type(rest: &[Token]) -> bool
         [] => false,
         [token, ..] => match token.kind {
             Kind::Upper(_) => true,
-            Kind::Word(Keyword::Bool | Keyword::Char | Keyword::Int | Keyword::Nat | Keyword::Vector) => true,
+            Kind::Word(
+                Keyword::Bool | Keyword::Char | Keyword::Int | Keyword::Nat | Keyword::Vector,
+            ) => true,
             Kind::Sign(Symbol::OpenParen) => true,
             _ => false,
         },

@@ -93,13 +93,24 @@ fn take(alloc: Global, progress: Progress, place: u32, line: Line) -> Result<Pro
         Line::Whole(decl) => {
             let mut decls = close(progress)?;
             decls.push((place, decl))?;
-            Ok(Progress { decls, function: None })
+            Ok(Progress {
+                decls,
+                function: None,
+            })
         }
         Line::Signature(name, types) => {
             let decls = close(progress)?;
             let equations = List::new(alloc);
-            let function = OpenFunction { place, name, types, equations };
-            Ok(Progress { decls, function: Some(function) })
+            let function = OpenFunction {
+                place,
+                name,
+                types,
+                equations,
+            };
+            Ok(Progress {
+                decls,
+                function: Some(function),
+            })
         }
         Line::Equation(name, patterns, exp) => {
             let Progress { decls, function } = progress;
@@ -118,17 +129,38 @@ fn take_equation(
     let Some(function) = function else {
         return Ok(None);
     };
-    let OpenFunction { place, name, types, mut equations } = function;
+    let OpenFunction {
+        place,
+        name,
+        types,
+        mut equations,
+    } = function;
     equations.push(equation)?;
-    Ok(Some(OpenFunction { place, name, types, equations }))
+    Ok(Some(OpenFunction {
+        place,
+        name,
+        types,
+        equations,
+    }))
 }
 
 /// The declarations, where no more equations come.
 fn close(progress: Progress) -> Result<List<(u32, Decl)>, AllocError>
     ensures { IfOk result (λ decls. decls ≡ closed progress) }
 {
-    let Progress { mut decls, function } = progress;
-    if let Some(OpenFunction { place, name, types, equations }) = function {
+    let Progress {
+        mut decls,
+        function,
+    } = progress;
+    if let Some(
+        OpenFunction {
+            place,
+            name,
+            types,
+            equations,
+        },
+    ) = function
+    {
         decls.push((place, Decl::Fun(name, types, equations)))?;
     }
     Ok(decls)

@@ -1,4 +1,4 @@
-use Rattle.std.proofs.Common.{sym, refl, arith, []}
+use Rattle.std.proofs.Common.{sym, refl, arith}
 use Rattle.std.proofs.lemmas.Result.{err_from_is_err_and}
 use Rattle.hume_grammar.specs.Types.{types}
 use Rattle.hume_grammar.specs.Declarations.{starts_type}
