@@ -3,7 +3,7 @@ ghost use Rattle.hume_base.specs.declared.keyword.Keyword.TheVariants.{In, Then,
 ghost use Rattle.hume_base.specs.declared.symbol.Symbol.TheVariants.{Equals, Comma, CloseParen, CloseAngles, Bar};
 ghost use Rattle.hume_base.specs.declared.token.Kind.TheVariants.{Word, Sign};
 ghost use Rattle.hume_ast.specs.Depth.{exp_depth, deepest};
-ghost use Rattle.hume_ast.specs.declared.tree.Exp.{roll-Exp, out-Exp, Let, If, Cast, Update, Binary};
+ghost use Rattle.hume_ast.specs.declared.tree.Exp.{roll-Exp, out-Exp};
 ghost use Rattle.hume_ast.specs.declared.tree.Exp.TheOpen.{Exp-F};
 ghost use Rattle.hume_parse.specs.Gives.{Gives, kinds};
 ghost use Rattle.hume_parse.specs.Found.{found, found_two, found_list, found_alternative, found_alternatives, alternatives_depth};
@@ -16,10 +16,11 @@ use crate::fault::Fault;
 use crate::operators::{next_is_lower, next_is_number, next_operator, starts_atom};
 use crate::patterns::{next_is_upper, pattern};
 use crate::tokens::{after_sign, after_word, behind, lower, next_is_sign, next_is_word, number, upper};
+use crate::trees::{binary_tree, cast_tree, if_tree, in_parens, let_tree, raise_tree, update_tree, with_first};
 use crate::types::ty;
 use hume_ast::{BinOp, Exp, Pat, TyExp};
 use hume_base::{Box, Keyword, Kind, List, Symbol, Text, Token};
-use std::alloc::{AllocError, Global};
+use std::alloc::Global;
 
 /// How deep types and patterns in an expression may be.
 const MAX_DEPTH: u32 = 64;
@@ -221,7 +222,7 @@ fn raise_exp(alloc: Global, rest: &[Token], room: u32) -> Result<Found<'_>, Faul
         return Ok(Found { exp: Exp::Raise(name, None), depth: 1, rest });
     }
     let value = atom(alloc, rest, room - 1)?;
-    let exp = Exp::Raise(name, Some(Box::new(alloc, value.exp)?));
+    let exp = raise_tree(alloc, name, value.exp)?;
     Ok(Found { exp, depth: 1 + value.depth, rest: value.rest })
 }
 
@@ -543,18 +544,6 @@ fn others(alloc: Global, tokens: &[Token], room: u32) -> Result<FoundList<'_>, F
     Ok(FoundList { items, depth, rest })
 }
 
-fn let_tree(alloc: Global, name: Text, value: Exp, body: Exp) -> Result<Exp, AllocError>
-    ensures { IfOk result (λ made. made ≡ Let name value body) }
-{
-    Ok(Exp::Let(name, Box::new(alloc, value)?, Box::new(alloc, body)?))
-}
-
-fn if_tree(alloc: Global, test: Exp, first: Exp, second: Exp) -> Result<Exp, AllocError>
-    ensures { IfOk result (λ made. made ≡ If test first second) }
-{
-    Ok(Exp::If(Box::new(alloc, test)?, Box::new(alloc, first)?, Box::new(alloc, second)?))
-}
-
 fn closed_type(alloc: Global, rest: &[Token]) -> Result<(TyExp, &[Token]), Fault>
     ensures reads { Gives (λ x. (x.0, kinds x.1.now)) result (closed (types 64) (Sign CloseParen) (kinds rest.now)) }
     ensures shorter { IfOk result (λ x. length x.1.now < length rest.now) }
@@ -562,43 +551,6 @@ fn closed_type(alloc: Global, rest: &[Token]) -> Result<(TyExp, &[Token]), Fault
     let (type_exp, rest) = ty(alloc, rest, MAX_DEPTH)?;
     let rest = after_sign(rest, Symbol::CloseParen)?;
     Ok((type_exp, rest))
-}
-
-fn cast_tree(alloc: Global, inner: Exp, type_exp: TyExp) -> Result<Exp, AllocError>
-    ensures { IfOk result (λ made. made ≡ Cast inner type_exp) }
-{
-    Ok(Exp::Cast(Box::new(alloc, inner)?, type_exp))
-}
-
-fn update_tree(alloc: Global, vector: Exp, at: Exp, item: Exp) -> Result<Exp, AllocError>
-    ensures { IfOk result (λ made. made ≡ Update vector at item) }
-{
-    Ok(Exp::Update(Box::new(alloc, vector)?, Box::new(alloc, at)?, Box::new(alloc, item)?))
-}
-
-fn binary_tree(alloc: Global, operator: BinOp, left: Exp, right: Exp) -> Result<Exp, AllocError>
-    ensures { IfOk result (λ made. made ≡ Binary operator left right) }
-{
-    Ok(Exp::Binary(operator, Box::new(alloc, left)?, Box::new(alloc, right)?))
-}
-
-fn with_first(alloc: Global, first: Exp, others: List<Exp>) -> Result<List<Exp>, AllocError>
-    ensures { IfOk result (λ items. items ≡ first ∷ others) }
-{
-    let mut items = List::new(alloc);
-    items.push(first)?;
-    items.append(others)?;
-    Ok(items)
-}
-
-#[tactic(auto, using(crate::proofs::ExpSteps::parens_steps))]
-fn in_parens(alloc: Global, first: Exp, others: List<Exp>) -> Result<Exp, AllocError>
-    ensures { IfOk result (λ made. made ≡ roll-Exp (exp_in_parens (first, (None, others)))) }
-{
-    if others.is_empty() {
-        return Ok(Exp::Paren(Box::new(alloc, first)?));
-    }
-    Ok(Exp::Tuple(with_first(alloc, first, others)?))
 }
 
 #[tactic(auto, using(crate::proofs::ExpSteps::leaf_steps))]
