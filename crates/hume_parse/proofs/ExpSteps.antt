@@ -227,19 +227,33 @@ pub level_app : (l : ℕ) (p : ExpReaders) → l ≡ 9 → at_level l p ≡ p.ap
 level_app l p e = rw e
 
 pub ruleset whole_steps = (exp_let, exp_let_one, exp_if, exp_if_one, exp_case, exp_case_one, exp_raise, exp_or)
+
 pub ruleset unary_steps = (unary_minus, unary_not, unary_not_one, unary_plain, unary_zero)
+
 pub ruleset minus_steps = (minus_number, minus_part)
+
 pub ruleset app_steps = (app_lower, app_upper, app_update, app_update_one, app_star, app_atom, rolls-App, rolls-Con)
+
 pub ruleset atom_steps = (atom_true, atom_false, atom_open, atom_open_one, atom_angles, atom_angles_one, atom_leaf, atom_zero)
+
 pub ruleset let_steps = (rolls-Let)
+
 pub ruleset if_steps = (rolls-If)
+
 pub ruleset case_steps = (rolls-Case)
+
 pub ruleset raise_steps = (rolls-Raise)
+
 pub ruleset update_steps = (rolls-Update)
+
 pub ruleset cast_steps = (rolls-Cast, parens_others)
+
 pub ruleset vect_steps = (rolls-Vect)
+
 pub ruleset level_steps = (level_comparison, level_unary, level_app)
+
 pub ruleset list_steps = (kinds_length)
+
 pub ruleset leaf_steps = (rolls-App, rolls-Con, rolls-Num, rolls-Letter, kinds_length)
 
 pub parens_one : (first : Exp) (others : List Exp) → others ≡ [] → roll-Exp (exp_in_parens (first, (None, others))) ≡ tree.Paren first
@@ -387,7 +401,9 @@ comparison_none zero ks k h w = absurd (omega (arith, h))
 comparison_none (suc m) ks k h w = rw (unrolled_err (sum_layer m (types 64) (exps m)) ks k w)
 
 pub ruleset chain_steps = (chain_first, chain_none)
+
 pub ruleset right_steps = (right_on, right_deep, some_depth)
+
 pub ruleset comparison_steps = (comparison_one, comparison_two, comparison_none, some_depth)
 
 pub deeper : (es fs : List Exp) (e : Exp) → fs ≡ es ++ e ∷ [] → deepest (map exp_depth fs) ≡ max (exp_depth e) (deepest (map exp_depth es))

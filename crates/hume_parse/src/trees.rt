@@ -18,7 +18,11 @@ pub fn let_tree(alloc: Global, name: Text, value: Exp, body: Exp) -> Result<Exp,
 pub fn if_tree(alloc: Global, test: Exp, first: Exp, second: Exp) -> Result<Exp, AllocError>
     ensures { IfOk result (λ made. made ≡ If test first second) }
 {
-    Ok(Exp::If(Box::new(alloc, test)?, Box::new(alloc, first)?, Box::new(alloc, second)?))
+    Ok(Exp::If(
+        Box::new(alloc, test)?,
+        Box::new(alloc, first)?,
+        Box::new(alloc, second)?,
+    ))
 }
 
 /// `raise name value`.
@@ -41,7 +45,11 @@ pub fn binary_tree(alloc: Global, operator: BinOp, left: Exp, right: Exp) -> Res
 pub fn update_tree(alloc: Global, vector: Exp, at: Exp, item: Exp) -> Result<Exp, AllocError>
     ensures { IfOk result (λ made. made ≡ Update vector at item) }
 {
-    Ok(Exp::Update(Box::new(alloc, vector)?, Box::new(alloc, at)?, Box::new(alloc, item)?))
+    Ok(Exp::Update(
+        Box::new(alloc, vector)?,
+        Box::new(alloc, at)?,
+        Box::new(alloc, item)?,
+    ))
 }
 
 /// `(inner as type)`.
