@@ -6,4 +6,5 @@ mod fault;
 mod operators;
 mod patterns;
 mod tokens;
+mod trees;
 mod types;
