@@ -3,7 +3,7 @@ ghost use Rattle.hume_base.specs.declared.keyword.Keyword.TheVariants.{In, Then,
 ghost use Rattle.hume_base.specs.declared.symbol.Symbol.TheVariants.{Equals, Comma, CloseParen, CloseAngles, Bar};
 ghost use Rattle.hume_base.specs.declared.token.Kind.TheVariants.{Word, Sign};
 ghost use Rattle.hume_ast.specs.Depth.{exp_depth, deepest};
-ghost use Rattle.hume_ast.specs.declared.tree.Exp.{roll-Exp, out-Exp, Let, If, Cast, Update, Binary};
+ghost use Rattle.hume_ast.specs.declared.tree.Exp.{roll-Exp, out-Exp};
 ghost use Rattle.hume_ast.specs.declared.tree.Exp.TheOpen.{Exp-F};
 ghost use Rattle.hume_parse.specs.Gives.{Gives, kinds};
 ghost use Rattle.hume_parse.specs.Found.{found, found_two, found_list, found_alternative, found_alternatives, alternatives_depth};
@@ -15,11 +15,16 @@ ghost use Rattle.hume_grammar.specs.Expressions.{exps, at_level, let_of, if_of, 
 use crate::fault::Fault;
 use crate::operators::{next_is_lower, next_is_number, next_operator, starts_atom};
 use crate::patterns::{next_is_upper, pattern};
-use crate::tokens::{after_sign, after_word, behind, lower, next_is_sign, next_is_word, number, upper};
+use crate::tokens::{
+    after_sign, after_word, behind, lower, next_is_sign, next_is_word, number, upper,
+};
+use crate::trees::{
+    binary_tree, cast_tree, if_tree, in_parens, let_tree, raise_tree, update_tree, with_first,
+};
 use crate::types::ty;
 use hume_ast::{BinOp, Exp, Pat, TyExp};
 use hume_base::{Box, Keyword, Kind, List, Symbol, Text, Token};
-use std::alloc::{AllocError, Global};
+use std::alloc::Global;
 
 /// How deep types and patterns in an expression may be.
 const MAX_DEPTH: u32 = 64;
@@ -116,7 +121,11 @@ fn let_exp(alloc: Global, rest: &[Token], room: u32) -> Result<Found<'_>, Fault>
     let body = exp(alloc, rest, room - 1)?;
     let depth = 1 + value.depth.max(body.depth);
     let exp = let_tree(alloc, name, value.exp, body.exp)?;
-    Ok(Found { exp, depth, rest: body.rest })
+    Ok(Found {
+        exp,
+        depth,
+        rest: body.rest,
+    })
 }
 
 #[cycle(expressions)]
@@ -133,7 +142,11 @@ fn if_exp(alloc: Global, rest: &[Token], room: u32) -> Result<Found<'_>, Fault>
     let found = branches(alloc, rest, room - 1)?;
     let depth = 1 + test.depth.max(found.depth);
     let exp = if_tree(alloc, test.exp, found.first, found.second)?;
-    Ok(Found { exp, depth, rest: found.rest })
+    Ok(Found {
+        exp,
+        depth,
+        rest: found.rest,
+    })
 }
 
 #[cycle(expressions)]
@@ -148,7 +161,12 @@ fn branches(alloc: Global, rest: &[Token], room: u32) -> Result<FoundTwo<'_>, Fa
     let rest = after_word(first.rest, Keyword::Else)?;
     let second = exp(alloc, rest, room)?;
     let depth = first.depth.max(second.depth);
-    Ok(FoundTwo { first: first.exp, second: second.exp, depth, rest: second.rest })
+    Ok(FoundTwo {
+        first: first.exp,
+        second: second.exp,
+        depth,
+        rest: second.rest,
+    })
 }
 
 #[cycle(expressions)]
@@ -171,7 +189,11 @@ fn case_exp(alloc: Global, rest: &[Token], room: u32) -> Result<Found<'_>, Fault
 
 #[cycle(expressions)]
 #[tactic(auto, using(crate::proofs::ExpSteps::list_steps))]
-fn case_alternatives(alloc: Global, tokens: &[Token], room: u32) -> Result<FoundAlternatives<'_>, Fault>
+fn case_alternatives(
+    alloc: Global,
+    tokens: &[Token],
+    room: u32,
+) -> Result<FoundAlternatives<'_>, Fault>
     requires some { 0 < room }
     ensures reads { Gives found_alternatives result (listed Bar (alternative (patterns 64).whole (exps room).whole) (kinds tokens.now)) }
     ensures deep { IfOk result (λ f. f.depth ≡ alternatives_depth f.items) }
@@ -204,7 +226,12 @@ fn case_alternative(alloc: Global, rest: &[Token], room: u32) -> Result<FoundAlt
     let (pattern, rest) = pattern(alloc, rest, MAX_DEPTH)?;
     let rest = after_sign(rest, Symbol::Arrow)?;
     let body = exp(alloc, rest, room)?;
-    Ok(FoundAlternative { pattern, exp: body.exp, depth: body.depth, rest: body.rest })
+    Ok(FoundAlternative {
+        pattern,
+        exp: body.exp,
+        depth: body.depth,
+        rest: body.rest,
+    })
 }
 
 #[cycle(expressions)]
@@ -218,11 +245,19 @@ fn raise_exp(alloc: Global, rest: &[Token], room: u32) -> Result<Found<'_>, Faul
 {
     let (name, rest) = upper(rest)?;
     if !starts_atom(rest) {
-        return Ok(Found { exp: Exp::Raise(name, None), depth: 1, rest });
+        return Ok(Found {
+            exp: Exp::Raise(name, None),
+            depth: 1,
+            rest,
+        });
     }
     let value = atom(alloc, rest, room - 1)?;
-    let exp = Exp::Raise(name, Some(Box::new(alloc, value.exp)?));
-    Ok(Found { exp, depth: 1 + value.depth, rest: value.rest })
+    let exp = raise_tree(alloc, name, value.exp)?;
+    Ok(Found {
+        exp,
+        depth: 1 + value.depth,
+        rest: value.rest,
+    })
 }
 
 #[cycle(expressions)]
@@ -271,12 +306,24 @@ fn chain(alloc: Global, tokens: &[Token], level: u32, room: u32) -> Result<Found
         depth = found.depth;
         rest = found.rest;
     }
-    Ok(Found { exp: left, depth, rest })
+    Ok(Found {
+        exp: left,
+        depth,
+        rest,
+    })
 }
 
 #[cycle(expressions)]
 #[tactic(auto, using(crate::proofs::ExpSteps::right_steps))]
-fn with_right(alloc: Global, operator: BinOp, left: Exp, depth: u32, rest: &[Token], level: u32, room: u32) -> Result<Found<'_>, Fault>
+fn with_right(
+    alloc: Global,
+    operator: BinOp,
+    left: Exp,
+    depth: u32,
+    rest: &[Token],
+    level: u32,
+    room: u32,
+) -> Result<Found<'_>, Fault>
     requires some { 0 < room }
     requires low { 2 ≤ level }
     requires high { level ≤ 8 }
@@ -294,7 +341,11 @@ fn with_right(alloc: Global, operator: BinOp, left: Exp, depth: u32, rest: &[Tok
     let right = operand(alloc, behind(rest), level + 1, room - 1)?;
     let depth = 1 + depth.max(right.depth);
     let exp = binary_tree(alloc, operator, left, right.exp)?;
-    Ok(Found { exp, depth, rest: right.rest })
+    Ok(Found {
+        exp,
+        depth,
+        rest: right.rest,
+    })
 }
 
 #[cycle(expressions)]
@@ -336,7 +387,11 @@ fn unary(alloc: Global, rest: &[Token], room: u32) -> Result<Found<'_>, Fault>
         }
         let part = unary(alloc, behind(rest), room - 1)?;
         let exp = Exp::Not(Box::new(alloc, part.exp)?);
-        return Ok(Found { exp, depth: 1 + part.depth, rest: part.rest });
+        return Ok(Found {
+            exp,
+            depth: 1 + part.depth,
+            rest: part.rest,
+        });
     }
     operand(alloc, rest, 8, room)
 }
@@ -352,11 +407,19 @@ fn minus(alloc: Global, rest: &[Token], room: u32) -> Result<Found<'_>, Fault>
 {
     if next_is_number(rest) {
         let (amount, rest) = number(rest)?;
-        return Ok(Found { exp: Exp::Num(true, amount), depth: 1, rest });
+        return Ok(Found {
+            exp: Exp::Num(true, amount),
+            depth: 1,
+            rest,
+        });
     }
     let part = unary(alloc, rest, room - 1)?;
     let exp = Exp::Neg(Box::new(alloc, part.exp)?);
-    Ok(Found { exp, depth: 1 + part.depth, rest: part.rest })
+    Ok(Found {
+        exp,
+        depth: 1 + part.depth,
+        rest: part.rest,
+    })
 }
 
 #[cycle(expressions)]
@@ -371,12 +434,20 @@ fn app(alloc: Global, rest: &[Token], room: u32) -> Result<Found<'_>, Fault>
     if next_is_lower(rest) {
         let (name, rest) = lower(rest)?;
         let found = arguments(alloc, rest, room - 1)?;
-        return Ok(Found { exp: Exp::App(name, found.items), depth: 1 + found.depth, rest: found.rest });
+        return Ok(Found {
+            exp: Exp::App(name, found.items),
+            depth: 1 + found.depth,
+            rest: found.rest,
+        });
     }
     if next_is_upper(rest) {
         let (name, rest) = upper(rest)?;
         let found = arguments(alloc, rest, room - 1)?;
-        return Ok(Found { exp: Exp::Con(name, found.items), depth: 1 + found.depth, rest: found.rest });
+        return Ok(Found {
+            exp: Exp::Con(name, found.items),
+            depth: 1 + found.depth,
+            rest: found.rest,
+        });
     }
     if next_is_word(rest, Keyword::Update) {
         if room == 1 {
@@ -385,7 +456,11 @@ fn app(alloc: Global, rest: &[Token], room: u32) -> Result<Found<'_>, Fault>
         return update(alloc, behind(rest), room);
     }
     if next_is_sign(rest, Symbol::Star) {
-        return Ok(Found { exp: Exp::Star, depth: 1, rest: behind(rest) });
+        return Ok(Found {
+            exp: Exp::Star,
+            depth: 1,
+            rest: behind(rest),
+        });
     }
     atom(alloc, rest, room)
 }
@@ -424,7 +499,11 @@ fn update(alloc: Global, rest: &[Token], room: u32) -> Result<Found<'_>, Fault>
     let item = atom(alloc, at.rest, room - 1)?;
     let depth = 1 + vector.depth.max(at.depth.max(item.depth));
     let exp = update_tree(alloc, vector.exp, at.exp, item.exp)?;
-    Ok(Found { exp, depth, rest: item.rest })
+    Ok(Found {
+        exp,
+        depth,
+        rest: item.rest,
+    })
 }
 
 #[cycle(expressions)]
@@ -439,10 +518,18 @@ fn atom(alloc: Global, rest: &[Token], room: u32) -> Result<Found<'_>, Fault>
         return Err(Fault::Deep(rest.len()));
     }
     if next_is_word(rest, Keyword::True) {
-        return Ok(Found { exp: Exp::Truth(true), depth: 1, rest: behind(rest) });
+        return Ok(Found {
+            exp: Exp::Truth(true),
+            depth: 1,
+            rest: behind(rest),
+        });
     }
     if next_is_word(rest, Keyword::False) {
-        return Ok(Found { exp: Exp::Truth(false), depth: 1, rest: behind(rest) });
+        return Ok(Found {
+            exp: Exp::Truth(false),
+            depth: 1,
+            rest: behind(rest),
+        });
     }
     if next_is_sign(rest, Symbol::OpenParen) {
         if room == 1 {
@@ -472,12 +559,20 @@ fn parens(alloc: Global, rest: &[Token], room: u32) -> Result<Found<'_>, Fault>
     if next_is_word(first.rest, Keyword::As) {
         let (type_exp, rest) = closed_type(alloc, behind(first.rest))?;
         let exp = cast_tree(alloc, first.exp, type_exp)?;
-        return Ok(Found { exp, depth: 1 + first.depth, rest });
+        return Ok(Found {
+            exp,
+            depth: 1 + first.depth,
+            rest,
+        });
     }
     let found = closed_others(alloc, first.rest, room - 1)?;
     let depth = 1 + first.depth.max(found.depth);
     let exp = in_parens(alloc, first.exp, found.items)?;
-    Ok(Found { exp, depth, rest: found.rest })
+    Ok(Found {
+        exp,
+        depth,
+        rest: found.rest,
+    })
 }
 
 #[cycle(expressions)]
@@ -490,7 +585,11 @@ fn closed_others(alloc: Global, rest: &[Token], room: u32) -> Result<FoundList<'
 {
     let found = others(alloc, rest, room)?;
     let rest = after_sign(found.rest, Symbol::CloseParen)?;
-    Ok(FoundList { items: found.items, depth: found.depth, rest })
+    Ok(FoundList {
+        items: found.items,
+        depth: found.depth,
+        rest,
+    })
 }
 
 #[cycle(expressions)]
@@ -504,7 +603,11 @@ fn vect(alloc: Global, rest: &[Token], room: u32) -> Result<Found<'_>, Fault>
 {
     let found = several(alloc, rest, room - 1)?;
     let rest = after_sign(found.rest, Symbol::CloseAngles)?;
-    Ok(Found { exp: Exp::Vect(found.items), depth: 1 + found.depth, rest })
+    Ok(Found {
+        exp: Exp::Vect(found.items),
+        depth: 1 + found.depth,
+        rest,
+    })
 }
 
 #[cycle(expressions)]
@@ -519,7 +622,11 @@ fn several(alloc: Global, rest: &[Token], room: u32) -> Result<FoundList<'_>, Fa
     let found = others(alloc, first.rest, room)?;
     let depth = first.depth.max(found.depth);
     let items = with_first(alloc, first.exp, found.items)?;
-    Ok(FoundList { items, depth, rest: found.rest })
+    Ok(FoundList {
+        items,
+        depth,
+        rest: found.rest,
+    })
 }
 
 #[cycle(expressions)]
@@ -543,18 +650,6 @@ fn others(alloc: Global, tokens: &[Token], room: u32) -> Result<FoundList<'_>, F
     Ok(FoundList { items, depth, rest })
 }
 
-fn let_tree(alloc: Global, name: Text, value: Exp, body: Exp) -> Result<Exp, AllocError>
-    ensures { IfOk result (λ made. made ≡ Let name value body) }
-{
-    Ok(Exp::Let(name, Box::new(alloc, value)?, Box::new(alloc, body)?))
-}
-
-fn if_tree(alloc: Global, test: Exp, first: Exp, second: Exp) -> Result<Exp, AllocError>
-    ensures { IfOk result (λ made. made ≡ If test first second) }
-{
-    Ok(Exp::If(Box::new(alloc, test)?, Box::new(alloc, first)?, Box::new(alloc, second)?))
-}
-
 fn closed_type(alloc: Global, rest: &[Token]) -> Result<(TyExp, &[Token]), Fault>
     ensures reads { Gives (λ x. (x.0, kinds x.1.now)) result (closed (types 64) (Sign CloseParen) (kinds rest.now)) }
     ensures shorter { IfOk result (λ x. length x.1.now < length rest.now) }
@@ -562,43 +657,6 @@ fn closed_type(alloc: Global, rest: &[Token]) -> Result<(TyExp, &[Token]), Fault
     let (type_exp, rest) = ty(alloc, rest, MAX_DEPTH)?;
     let rest = after_sign(rest, Symbol::CloseParen)?;
     Ok((type_exp, rest))
-}
-
-fn cast_tree(alloc: Global, inner: Exp, type_exp: TyExp) -> Result<Exp, AllocError>
-    ensures { IfOk result (λ made. made ≡ Cast inner type_exp) }
-{
-    Ok(Exp::Cast(Box::new(alloc, inner)?, type_exp))
-}
-
-fn update_tree(alloc: Global, vector: Exp, at: Exp, item: Exp) -> Result<Exp, AllocError>
-    ensures { IfOk result (λ made. made ≡ Update vector at item) }
-{
-    Ok(Exp::Update(Box::new(alloc, vector)?, Box::new(alloc, at)?, Box::new(alloc, item)?))
-}
-
-fn binary_tree(alloc: Global, operator: BinOp, left: Exp, right: Exp) -> Result<Exp, AllocError>
-    ensures { IfOk result (λ made. made ≡ Binary operator left right) }
-{
-    Ok(Exp::Binary(operator, Box::new(alloc, left)?, Box::new(alloc, right)?))
-}
-
-fn with_first(alloc: Global, first: Exp, others: List<Exp>) -> Result<List<Exp>, AllocError>
-    ensures { IfOk result (λ items. items ≡ first ∷ others) }
-{
-    let mut items = List::new(alloc);
-    items.push(first)?;
-    items.append(others)?;
-    Ok(items)
-}
-
-#[tactic(auto, using(crate::proofs::ExpSteps::parens_steps))]
-fn in_parens(alloc: Global, first: Exp, others: List<Exp>) -> Result<Exp, AllocError>
-    ensures { IfOk result (λ made. made ≡ roll-Exp (exp_in_parens (first, (None, others)))) }
-{
-    if others.is_empty() {
-        return Ok(Exp::Paren(Box::new(alloc, first)?));
-    }
-    Ok(Exp::Tuple(with_first(alloc, first, others)?))
 }
 
 #[tactic(auto, using(crate::proofs::ExpSteps::leaf_steps))]
@@ -611,10 +669,26 @@ fn leaf(alloc: Global, rest: &[Token], room: u32) -> Result<Found<'_>, Fault>
 {
     match rest {
         [token, after @ ..] => match &token.kind {
-            Kind::Lower(name) => Ok(Found { exp: Exp::App(name.copy()?, List::new(alloc)), depth: 1, rest: after }),
-            Kind::Upper(name) => Ok(Found { exp: Exp::Con(name.copy()?, List::new(alloc)), depth: 1, rest: after }),
-            Kind::Number(amount) => Ok(Found { exp: Exp::Num(false, *amount), depth: 1, rest: after }),
-            Kind::Letter(byte) => Ok(Found { exp: Exp::Letter(*byte), depth: 1, rest: after }),
+            Kind::Lower(name) => Ok(Found {
+                exp: Exp::App(name.copy()?, List::new(alloc)),
+                depth: 1,
+                rest: after,
+            }),
+            Kind::Upper(name) => Ok(Found {
+                exp: Exp::Con(name.copy()?, List::new(alloc)),
+                depth: 1,
+                rest: after,
+            }),
+            Kind::Number(amount) => Ok(Found {
+                exp: Exp::Num(false, *amount),
+                depth: 1,
+                rest: after,
+            }),
+            Kind::Letter(byte) => Ok(Found {
+                exp: Exp::Letter(*byte),
+                depth: 1,
+                rest: after,
+            }),
             _ => Err(Fault::Syntax(rest.len())),
         },
         [] => Err(Fault::Syntax(rest.len())),
@@ -630,7 +704,8 @@ fn begins_part(rest: &[Token]) -> bool
         [token, ..] => match token.kind {
             Kind::Lower(_) | Kind::Upper(_) | Kind::Number(_) | Kind::Letter(_) => true,
             Kind::Word(Keyword::True | Keyword::False | Keyword::Not | Keyword::Update) => true,
-            Kind::Sign(Symbol::OpenParen | Symbol::OpenAngles | Symbol::Minus | Symbol::Star) => true,
+            Kind::Sign(Symbol::OpenParen | Symbol::OpenAngles | Symbol::Minus | Symbol::Star) =>
+                true,
             _ => false,
         },
     }

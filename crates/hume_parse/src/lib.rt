@@ -12,6 +12,7 @@ mod parser;
 mod patterns;
 mod program;
 mod tokens;
+mod trees;
 mod types;
 
 pub use parser::{ParseError, parse};

@@ -4,7 +4,7 @@ use Rattle.hume_base.specs.declared.symbol.Symbol.TheVariants.{Comma, Bar}
 use Rattle.hume_grammar.specs.Expressions.{exps, at_level, starts_atom}
 use Rattle.hume_parse.proofs.Loops.{parts_stop, parts_turn, parts_fail, beside_stop, beside_turn, beside_fail}
 use Rattle.hume_grammar.proofs.ExpressionsRead.{expressions_read, atom_shrink, all_shrink, alternatives_of}
-use Rattle.hume_parse.proofs.ExpSteps.{chain_stop, chain_turn, chain_fail, deeper, deeper_alternative}
+use Rattle.hume_parse.proofs.ExpSteps.{chain_stop, chain_turn, chain_fail, deeper, deeper_alternative, parens_fails, update_fails}
 use Rattle.hume_parse.proofs.expressions.+expressions.Goals as goal
 
 pub arguments-returns-in_err-item-clause-reads : goal.arguments-returns-in_err-item-clause-reads
@@ -70,3 +70,13 @@ chain-operands-preserved t c = record {
 
 pub chain-returns-clause-reads : goal.chain-returns-clause-reads
 chain-returns-clause-reads t c = chain_stop c.args.level (c.args.room - 1) (at_level (c.args.level + 1) (exps (c.args.room - 1))) (all_shrink 64 (c.args.room - 1) (c.args.level + 1)) _ _ _ c.operands.invariant.reads (sym c.in_default.ensures.is)
+
+pub parens-returns-in_err-found-clause-reads : goal.parens-returns-in_err-found-clause-reads
+parens-returns-in_err-found-clause-reads t c =
+    let p = err_from_is_err_and c.from_residual-in_err-found.result c.from_residual-in_err-found.ensures.1 in
+    rw (p.1, p.2) (parens_fails _ (exps (c.args.room - 1)).whole _ _ _ c.in_ok-first.ensures.reads (sym c.if-next_is_word.ensures.is) c.in_err-found.ensures.reads)
+
+pub update-returns-in_err-item-clause-reads : goal.update-returns-in_err-item-clause-reads
+update-returns-in_err-item-clause-reads t c =
+    let p = err_from_is_err_and c.from_residual-in_err-item.result c.from_residual-in_err-item.ensures.1 in
+    rw (p.1, p.2) (update_fails _ (exps (c.args.room - 1)).atom _ _ _ _ _ c.in_ok-vector.ensures.reads c.in_ok-at.ensures.reads c.in_err-item.ensures.reads)
