@@ -1,3 +1,5 @@
 pub mod Spelling
 pub mod Fits
 pub mod Depth
+pub mod Places
+pub mod Parts

@@ -8,22 +8,24 @@ use Rattle.hume_base.specs.declared.symbol.Symbol.TheVariants as symbol
 use Rattle.hume_base.specs.declared.token.Kind.{Kind}
 use Rattle.hume_base.specs.declared.token.Kind.TheVariants.{Word, Sign}
 use Rattle.hume_base.specs.declared.token.Token.{Token}
+use Rattle.hume_ast.specs.declared.tree.Pat.{Pat}
 use Rattle.hume_ast.specs.declared.tree.BinOp.{BinOp}
-use Rattle.hume_ast.specs.declared.tree.Exp.{Exp, roll-Exp, out-Exp, roll-out-Exp, out-roll-Exp}
+use Rattle.hume_ast.specs.declared.tree.Exp.{Exp, roll-Exp, out-Exp, roll-out-Exp, out-roll-Exp, fold-roll-Exp}
 use Rattle.hume_ast.specs.declared.tree.Exp.TheVariants as tree
 use Rattle.hume_ast.specs.declared.tree.Exp.TheVariants.{rolls-Let, rolls-If, rolls-Case, rolls-Raise, rolls-Binary, rolls-Neg, rolls-Not, rolls-App, rolls-Con, rolls-Update, rolls-Num, rolls-Letter, rolls-Truth, rolls-Paren, rolls-Tuple, rolls-Cast, rolls-Vect, rolls-Star}
 use Rattle.hume_ast.specs.declared.tree.Exp.TheOpen.{Exp-F}
-use Rattle.hume_ast.specs.Depth.{exp_depth, deepest}
+use Rattle.hume_ast.specs.Depth.{exp_depth, deepest, depth_step}
 use Rattle.hume_ast.proofs.Depths.{some_depth}
 use Rattle.hume_parse.specs.Gives.{kinds, Fails}
+use Rattle.hume_parse.specs.Found.{alternatives_depth}
 use Rattle.hume_parse.specs.declared.fault.Fault.{Fault}
-use Rattle.hume_parse.specs.Readers.{Reader, ◌>>=◌, next, behind, is_word, is_sign, made, both, closed, listed, alternatives, pick, many, maybe, lower_name, upper_name}
-use Rattle.hume_parse.specs.Types.{types}
-use Rattle.hume_parse.specs.Patterns.{patterns, is_upper}
-use Rattle.hume_parse.specs.Expressions.{exps, ExpReaders, expressions_with, at_level, let_of, if_of, case_of, alternative, raise_of, minus_ways, next_operator, one_operand, with_operator, operands, chain, sum_layer, starts_atom, is_lower, update_of, exp_in_parens, tail_ways, exp_leaf, app_of, con_exp_of}
-use Rattle.hume_parse.proofs.Local.{bind_ok, chosen_ok}
+use Rattle.hume_grammar.specs.Readers.{Reader, ◌>>=◌, next, behind, is_word, is_sign, made, both, closed, led, listed, alternatives, pick, many, maybe, lower_name, number_of, upper_name}
+use Rattle.hume_grammar.specs.Types.{types}
+use Rattle.hume_grammar.specs.Patterns.{patterns, is_upper}
+use Rattle.hume_grammar.specs.Expressions.{exps, ExpReaders, expressions_with, at_level, let_of, if_of, case_of, alternative, raise_of, minus_ways, next_operator, one_operand, with_operator, operands, chain, comparison, sum_layer, starts_atom, is_lower, is_number, update_of, exp_in_parens, parts_tail, tail_ways, exp_leaf, app_of, con_exp_of}
+use Rattle.hume_grammar.proofs.Local.{bind_ok, chosen_ok}
 use Rattle.hume_parse.proofs.Loops.{made_twice, kinds_length, fails_on}
-use Rattle.hume_parse.proofs.Chains.{turn_at, stop_at}
+use Rattle.hume_grammar.proofs.Chains.{turn_at, stop_at}
 
 pub exp_let : (n : ℕ) (ks : List Kind) → 1 < n → next (is_word word.Let) ks ≡ true → (exps n).whole ks ≡ made roll-Exp (made let_of (both (closed (pick lower_name) (Sign symbol.Equals)) (both (closed (exps (n - 1)).whole (Word word.In)) (exps (n - 1)).whole))) (behind ks)
 unfolding expressions_with
@@ -175,6 +177,38 @@ atom_leaf zero ks h a b c d = absurd (omega (arith, h))
 atom_leaf (suc n) [] h a b c d = refl
 atom_leaf (suc n) (k ∷ ks) h a b c d = rw (a, b, c, d)
 
+pub minus_number : (child : Reader Exp) (ks : List Kind) → next is_number ks ≡ true → made roll-Exp (alternatives (minus_ways child)) ks ≡ made (tree.Num true) (pick number_of) ks
+minus_number child [] t = cc
+minus_number child (k ∷ ks) t = rw t (made_twice (pick number_of) (k ∷ ks) (Exp-F.Num true) roll-Exp (tree.Num true) (rolls-Num true))
+
+unary_end : (n : ℕ) → (exps n).unary [] ≡ Err 0
+unfolding expressions_with
+unary_end zero = refl
+unary_end (suc n) = refl
+
+pub minus_part : (n : ℕ) (ks : List Kind) → next is_number ks ≡ false → made roll-Exp (alternatives (minus_ways (exps n).unary)) ks ≡ made tree.Neg (exps n).unary ks
+minus_part n [] t = rw (unary_end n)
+minus_part n (k ∷ ks) t = rw t (made_twice (exps n).unary (k ∷ ks) Exp-F.Neg roll-Exp tree.Neg rolls-Neg)
+
+pub update_fails : (f : Fault) (p : Reader Exp) (ks ls ms : List Kind) (a b : Exp) → p ks ≡ Ok (a, ls) → p ls ≡ Ok (b, ms) → Fails f (p ms) → Fails f (made roll-Exp (made update_of (both p (both p p))) ks)
+update_fails f p ks ls ms a b e g h = fails_on f (p ms) (made roll-Exp (made update_of (both p (both p p))) ks) (λ n w. rw (e, g, w)) h
+
+others_by : (first : Exp) (r : Result (List Exp × List Kind) ℕ) → made roll-Exp (made exp_in_parens (λ ks. made parts_tail (λ ls. r) [] >>= λ b. Ok ((first, b.0), b.1))) [] ≡ made (λ others. roll-Exp (exp_in_parens (first, (None, others)))) (λ ks. r) []
+others_by first (Ok x) = refl
+others_by first (Err n) = refl
+
+pub parens_others : (p : Reader Exp) (ks ls : List Kind) (first : Exp) → p ks ≡ Ok (first, ls) → next (is_word word.As) ls ≡ false
+    → made roll-Exp (made exp_in_parens (both p (alternatives (tail_ways (types 64) p)))) ks ≡ made (λ others. roll-Exp (exp_in_parens (first, (None, others)))) (closed (many (is_sign symbol.Comma) (led (Sign symbol.Comma) p)) (Sign symbol.CloseParen)) ls
+unfolding many
+parens_others p ks [] first e t = rw e
+parens_others p ks (l ∷ ls) first e t = rw (e, t) (others_by first (closed (many (is_sign symbol.Comma) (led (Sign symbol.Comma) p)) (Sign symbol.CloseParen) (l ∷ ls)))
+
+pub parens_fails : (f : Fault) (p : Reader Exp) (ks ls : List Kind) (first : Exp) → p ks ≡ Ok (first, ls) → next (is_word word.As) ls ≡ false
+    → Fails f (closed (many (is_sign symbol.Comma) (led (Sign symbol.Comma) p)) (Sign symbol.CloseParen) ls) → Fails f (made roll-Exp (made exp_in_parens (both p (alternatives (tail_ways (types 64) p)))) ks)
+parens_fails f p ks ls first e t h =
+    fails_on f (closed (many (is_sign symbol.Comma) (led (Sign symbol.Comma) p)) (Sign symbol.CloseParen) ls) (made roll-Exp (made exp_in_parens (both p (alternatives (tail_ways (types 64) p)))) ks)
+    (λ n w. parens_others p ks ls first e t ∙ ap (λ (r : Result (List Exp × List Kind) ℕ). made (λ others. roll-Exp (exp_in_parens (first, (None, others)))) (λ (l : List Kind). r) []) w) h
+
 pub unary_zero : (n : ℕ) (ts : List Token) → n ≡ 0 → (exps n).unary (kinds ts) ≡ Err (length ts)
 unfolding expressions_with
 unary_zero n ts e = rw e (ap Err (kinds_length ts))
@@ -192,7 +226,33 @@ level_unary l p e = rw e
 pub level_app : (l : ℕ) (p : ExpReaders) → l ≡ 9 → at_level l p ≡ p.app
 level_app l p e = rw e
 
-pub ruleset exp_steps = (exp_let, exp_let_one, exp_if, exp_if_one, exp_case, exp_case_one, exp_raise, exp_or, unary_minus, unary_not, unary_not_one, unary_plain, app_lower, app_upper, app_update, app_update_one, app_star, app_atom, atom_true, atom_false, atom_open, atom_open_one, atom_angles, atom_angles_one, atom_leaf, unary_zero, atom_zero, level_comparison, level_unary, level_app, rolls-Let, rolls-If, rolls-Case, rolls-Raise, rolls-Neg, rolls-Num, rolls-App, rolls-Con, rolls-Update, rolls-Cast, rolls-Vect)
+pub ruleset whole_steps = (exp_let, exp_let_one, exp_if, exp_if_one, exp_case, exp_case_one, exp_raise, exp_or)
+
+pub ruleset unary_steps = (unary_minus, unary_not, unary_not_one, unary_plain, unary_zero)
+
+pub ruleset minus_steps = (minus_number, minus_part)
+
+pub ruleset app_steps = (app_lower, app_upper, app_update, app_update_one, app_star, app_atom, rolls-App, rolls-Con)
+
+pub ruleset atom_steps = (atom_true, atom_false, atom_open, atom_open_one, atom_angles, atom_angles_one, atom_leaf, atom_zero)
+
+pub ruleset let_steps = (rolls-Let)
+
+pub ruleset if_steps = (rolls-If)
+
+pub ruleset case_steps = (rolls-Case)
+
+pub ruleset raise_steps = (rolls-Raise)
+
+pub ruleset update_steps = (rolls-Update)
+
+pub ruleset cast_steps = (rolls-Cast, parens_others)
+
+pub ruleset vect_steps = (rolls-Vect)
+
+pub ruleset level_steps = (level_comparison, level_unary, level_app)
+
+pub ruleset list_steps = (kinds_length)
 
 pub ruleset leaf_steps = (rolls-App, rolls-Con, rolls-Num, rolls-Letter, kinds_length)
 
@@ -203,7 +263,14 @@ pub parens_more : (first : Exp) (others : List Exp) → (others ≡ [] → ⊥) 
 parens_more first [] e = absurd (e refl)
 parens_more first (other ∷ others) e = rolls-Tuple (first ∷ other ∷ others)
 
-pub ruleset parens_steps = (parens_one, parens_more)
+pub raise_depth : (name : List ℕ) (value : Exp) → exp_depth (tree.Raise name (Some value)) ≡ 1 + exp_depth value
+raise_depth name value = ap exp_depth (sym (rolls-Raise name (Some value))) ∙ fold-roll-Exp ℕ depth_step (Exp-F.Raise name (Some value))
+
+-- the one in parentheses is the deepest
+pub one_depth : (first : Exp) (others : List Exp) → others ≡ [] → max (exp_depth first) (deepest (map exp_depth others)) ≡ exp_depth first
+one_depth first others e = omega (arith, ap (λ l. deepest (map exp_depth l)) e)
+
+pub ruleset parens_steps = (parens_one, parens_more, one_depth)
 
 -- what is rolled, and what it was before
 pub unrolled : (p : Reader (Exp-F Exp)) (ks ls : List Kind) (e : Exp) → made roll-Exp p ks ≡ Ok (e, ls) → p ks ≡ Ok (out-Exp e, ls)
@@ -333,10 +400,20 @@ unfolding expressions_with
 comparison_none zero ks k h w = absurd (omega (arith, h))
 comparison_none (suc m) ks k h w = rw (unrolled_err (sum_layer m (types 64) (exps m)) ks k w)
 
-pub ruleset chain_steps = (exp_steps, chain_first, chain_none, right_on, right_deep, some_depth, comparison_one, comparison_two, comparison_none)
+pub ruleset chain_steps = (chain_first, chain_none)
+
+pub ruleset right_steps = (right_on, right_deep, some_depth)
+
+pub ruleset comparison_steps = (comparison_one, comparison_two, comparison_none, some_depth)
 
 pub deeper : (es fs : List Exp) (e : Exp) → fs ≡ es ++ e ∷ [] → deepest (map exp_depth fs) ≡ max (exp_depth e) (deepest (map exp_depth es))
 deeper es fs e is = ap (λ l. deepest (map exp_depth l)) is ∙ last es where
   last : (es : List Exp) → deepest (map exp_depth (es ++ e ∷ [])) ≡ max (exp_depth e) (deepest (map exp_depth es))
+  last [] = refl
+  last (d ∷ es) = omega (arith, last es)
+
+pub deeper_alternative : (es fs : List (Pat × Exp)) (a : Pat × Exp) → fs ≡ es ++ a ∷ [] → alternatives_depth fs ≡ max (exp_depth a.1) (alternatives_depth es)
+deeper_alternative es fs a is = ap alternatives_depth is ∙ last es where
+  last : (es : List (Pat × Exp)) → alternatives_depth (es ++ a ∷ []) ≡ max (exp_depth a.1) (alternatives_depth es)
   last [] = refl
   last (d ∷ es) = omega (arith, last es)

@@ -8,9 +8,9 @@ use Rattle.hume_base.specs.declared.token.Token.{Token}
 use Rattle.hume_parse.specs.Gives.{kinds, Fails}
 use Rattle.hume_parse.specs.declared.fault.Fault.{Fault}
 use Rattle.hume_parse.specs.declared.fault.Fault.TheVariants.{Memory, Syntax, Deep}
-use Rattle.hume_parse.specs.Readers.{Reader, ◌>>=◌, next, behind, is_sign, made, many, led}
-use Rattle.hume_parse.proofs.Local.{many_stop, many_turn}
-use Rattle.hume_parse.proofs.Forms.{Reads, led_reads}
+use Rattle.hume_grammar.specs.Readers.{Reader, ◌>>=◌, next, behind, is_sign, made, many, led}
+use Rattle.hume_grammar.proofs.Local.{many_stop, many_turn}
+use Rattle.hume_grammar.proofs.Forms.{Reads, led_reads}
 
 pub kinds_length : (tokens : List Token) → length (kinds tokens) ≡ length tokens
 kinds_length [] = refl

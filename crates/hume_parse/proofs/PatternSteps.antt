@@ -13,8 +13,8 @@ use Rattle.hume_ast.specs.declared.tree.Pat.TheVariants.{rolls-Name, rolls-Any, 
 use Rattle.hume_ast.specs.declared.tree.Pat.TheOpen.{Pat-F}
 use Rattle.hume_parse.specs.Gives.{kinds, Fails}
 use Rattle.hume_parse.specs.declared.fault.Fault.{Fault}
-use Rattle.hume_parse.specs.Readers.{Reader, next, behind, is_word, is_sign, after, made, both, closed, give, pick, number_of, many, led}
-use Rattle.hume_parse.specs.Patterns.{patterns, pat_leaf, is_upper, con_pat, pat_in_parens, input_pattern}
+use Rattle.hume_grammar.specs.Readers.{Reader, next, behind, is_word, is_sign, after, made, both, closed, give, pick, number_of, many, led}
+use Rattle.hume_grammar.specs.Patterns.{patterns, pat_leaf, is_upper, con_pat, pat_in_parens, input_pattern}
 use Rattle.hume_parse.proofs.Loops.{made_twice, kinds_length, fails_on}
 
 pub pat_zero : (n : ℕ) (ts : List Token) → n ≡ 0 → (patterns n).atom (kinds ts) ≡ Err (length ts)

@@ -1,5 +1,6 @@
 pub mod Gives
-pub mod Readers
-pub mod Types
-pub mod Patterns
-pub mod Expressions
+pub mod Found
+pub mod Lines
+pub mod Parsing
+pub mod Progress
+pub mod Told

@@ -1,11 +1,18 @@
 //! The parser: from the tokens of a source to the one tree that they spell, or to the place where none goes on.
 #![tactic(auto)]
 
+mod boxes;
+mod declarations;
+mod expressions;
 mod fault;
-mod laws;
+mod functions;
+mod lines;
 mod operators;
+mod parser;
 mod patterns;
+mod program;
 mod tokens;
+mod trees;
 mod types;
 
-pub use laws::one_spelling;
+pub use parser::{ParseError, parse};

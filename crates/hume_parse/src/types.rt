@@ -5,8 +5,8 @@ ghost use Rattle.hume_base.specs.declared.token.Kind.TheVariants.{Word, Sign};
 ghost use Rattle.hume_ast.specs.declared.tree.TyExp.TheOpen.{TyExp-F};
 ghost use Rattle.hume_ast.specs.declared.tree.TyExp.{roll-TyExp};
 ghost use Rattle.hume_parse.specs.Gives.{Gives, kinds};
-ghost use Rattle.hume_parse.specs.Readers.{made, both, closed, pick, number_of, several, listed};
-ghost use Rattle.hume_parse.specs.Types.{types, vector_of};
+ghost use Rattle.hume_grammar.specs.Readers.{made, both, closed, pick, number_of, several, listed};
+ghost use Rattle.hume_grammar.specs.Types.{types, vector_of};
 
 use crate::fault::Fault;
 use crate::tokens::{after_sign, after_word, behind, next_is_sign, next_is_word, number, upper};

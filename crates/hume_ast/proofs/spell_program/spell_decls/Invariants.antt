@@ -1,0 +1,6 @@
+use Rattle.std.proofs.Common.{◌≡◌, ◌++◌, take}
+use Rattle.hume_ast.specs.Spelling.{spelled_decls}
+use Rattle.hume_ast.proofs.spell_program.spell_decls.Given as goal
+
+abbrev pub invariant-loop-at : goal.invariant-loop-at
+invariant-loop-at l = l.out ≡ l.fn.out ++ spelled_decls (take l.at l.decls)

@@ -1,0 +1,146 @@
+//! The tokens of boxes.
+ghost use Rattle.std.specs.Prelude.{◌≡◌, [], ◌∷◌, ◌++◌, map, OnOk};
+ghost use Rattle.hume_base.specs.declared.token.Kind.TheVariants.{Word};
+ghost use Rattle.hume_base.specs.declared.symbol.Symbol.TheVariants.{Bar, Comma};
+ghost use Rattle.hume_ast.specs.declared.tree.Decl.TheVariants.{BoxD};
+ghost use Rattle.hume_ast.specs.Spelling.{separated, ended, order_word, spelled_decl, spelled_port, spelled_ports, spelled_rule, spelled_handler, spelled_handlers};
+
+use crate::spell_expressions::spell_exp;
+use crate::spell_patterns::{spell_pattern, spell_patterns};
+use crate::spell_tokens::{lower, sign, sign_between, upper, word};
+use crate::spell_types::spell_type;
+use crate::tree::{Exp, Pat, TyExp};
+use hume_base::{Keyword, Kind, List, Symbol, Text};
+use std::alloc::AllocError;
+
+/// Adds the tokens of a box.
+#[tactic(auto, using(crate::proofs::SpellSteps::part_steps))]
+pub fn spell_box(
+    name: &Text,
+    inputs: &[(Text, TyExp)],
+    outputs: &[(Text, TyExp)],
+    fair: bool,
+    rules: &[(List<Pat>, Exp)],
+    handlers: &[(Text, Option<Pat>, Exp)],
+    out: &mut List<Kind>,
+) -> Result<(), AllocError>
+    ensures { OnOk result (out.new ≡ out.old ++ spelled_decl (BoxD name.now inputs.now outputs.now fair rules.now handlers.now)) }
+{
+    word(out, Keyword::Box)?;
+    lower(out, name)?;
+    word(out, Keyword::In)?;
+    spell_ports(inputs, out)?;
+    word(out, Keyword::Out)?;
+    spell_ports(outputs, out)?;
+    spell_body(fair, rules, handlers, out)
+}
+
+/// Adds the tokens from the order of the rules to the end.
+#[tactic(auto, using(crate::proofs::SpellSteps::part_steps))]
+fn spell_body(
+    fair: bool,
+    rules: &[(List<Pat>, Exp)],
+    handlers: &[(Text, Option<Pat>, Exp)],
+    out: &mut List<Kind>,
+) -> Result<(), AllocError>
+    ensures { OnOk result (out.new ≡ out.old ++ Word (order_word fair) ∷ (separated Bar (map spelled_rule rules.now) ++ ended (spelled_handlers handlers.now))) }
+{
+    spell_order(fair, out)?;
+    spell_rules(rules, out)?;
+    spell_handlers(handlers, out)?;
+    sign(out, Symbol::Semicolon)
+}
+
+fn spell_order(fair: bool, out: &mut List<Kind>) -> Result<(), AllocError>
+    ensures { OnOk result (out.new ≡ out.old ++ Word (order_word fair) ∷ []) }
+{
+    word(out, if fair { Keyword::Fair } else { Keyword::Match })
+}
+
+#[tactic(auto, using(crate::proofs::SpellSteps::part_steps))]
+fn spell_ports(ports: &[(Text, TyExp)], out: &mut List<Kind>) -> Result<(), AllocError>
+    ensures { OnOk result (out.new ≡ out.old ++ spelled_ports ports.now) }
+{
+    sign(out, Symbol::OpenParen)?;
+    spell_listed_ports(ports, out)?;
+    sign(out, Symbol::CloseParen)
+}
+
+fn spell_listed_ports(ports: &[(Text, TyExp)], out: &mut List<Kind>) -> Result<(), AllocError>
+    ensures { OnOk result (out.new ≡ out.old ++ separated Comma (map spelled_port ports.now)) }
+{
+    for at in 0..ports.len() {
+        sign_between(out, Symbol::Comma, at)?;
+        spell_port(&ports[at], out)?;
+    }
+    Ok(())
+}
+
+#[tactic(auto, using(crate::proofs::SpellSteps::part_steps))]
+fn spell_port(port: &(Text, TyExp), out: &mut List<Kind>) -> Result<(), AllocError>
+    ensures { OnOk result (out.new ≡ out.old ++ spelled_port port.now) }
+{
+    lower(out, &port.0)?;
+    sign(out, Symbol::DoubleColon)?;
+    spell_type(&port.1, out)
+}
+
+fn spell_rules(rules: &[(List<Pat>, Exp)], out: &mut List<Kind>) -> Result<(), AllocError>
+    ensures { OnOk result (out.new ≡ out.old ++ separated Bar (map spelled_rule rules.now)) }
+{
+    for at in 0..rules.len() {
+        sign_between(out, Symbol::Bar, at)?;
+        spell_rule(&rules[at], out)?;
+    }
+    Ok(())
+}
+
+#[tactic(auto, using(crate::proofs::SpellSteps::part_steps))]
+fn spell_rule(rule: &(List<Pat>, Exp), out: &mut List<Kind>) -> Result<(), AllocError>
+    ensures { OnOk result (out.new ≡ out.old ++ spelled_rule rule.now) }
+{
+    sign(out, Symbol::OpenParen)?;
+    spell_patterns(rule.0.as_slice(), Symbol::Comma, out)?;
+    sign(out, Symbol::CloseParen)?;
+    sign(out, Symbol::Arrow)?;
+    spell_exp(&rule.1, out)
+}
+
+#[tactic(auto, using(crate::proofs::SpellSteps::handler_steps))]
+fn spell_handlers(
+    handlers: &[(Text, Option<Pat>, Exp)],
+    out: &mut List<Kind>,
+) -> Result<(), AllocError>
+    ensures { OnOk result (out.new ≡ out.old ++ spelled_handlers handlers.now) }
+{
+    if handlers.is_empty() {
+        return Ok(());
+    }
+    word(out, Keyword::Handle)?;
+    spell_listed_handlers(handlers, out)
+}
+
+fn spell_listed_handlers(
+    handlers: &[(Text, Option<Pat>, Exp)],
+    out: &mut List<Kind>,
+) -> Result<(), AllocError>
+    ensures { OnOk result (out.new ≡ out.old ++ separated Bar (map spelled_handler handlers.now)) }
+{
+    for at in 0..handlers.len() {
+        sign_between(out, Symbol::Bar, at)?;
+        spell_handler(&handlers[at], out)?;
+    }
+    Ok(())
+}
+
+#[tactic(auto, using(crate::proofs::SpellSteps::part_steps))]
+fn spell_handler(handler: &(Text, Option<Pat>, Exp), out: &mut List<Kind>) -> Result<(), AllocError>
+    ensures { OnOk result (out.new ≡ out.old ++ spelled_handler handler.now) }
+{
+    upper(out, &handler.0)?;
+    if let Some(pattern) = &handler.1 {
+        spell_pattern(pattern, out)?;
+    }
+    sign(out, Symbol::Arrow)?;
+    spell_exp(&handler.2, out)
+}

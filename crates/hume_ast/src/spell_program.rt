@@ -1,0 +1,26 @@
+ghost use Rattle.std.specs.Prelude.{◌≡◌, ◌++◌, map, OnOk, IfOk};
+ghost use Rattle.hume_ast.specs.Spelling.{spelled, spelled_decls};
+
+use crate::spell_declarations::spell_decl;
+use crate::tree::{Decl, Program};
+use hume_base::{Kind, List};
+use std::alloc::{AllocError, Global};
+
+/// The kinds of the tokens that the program is spelled by. The places of its declarations don't matter.
+pub fn spell(alloc: Global, program: &Program) -> Result<List<Kind>, AllocError>
+    ensures { IfOk result (λ kinds. kinds ≡ spelled program.now) }
+{
+    let mut kinds = List::new(alloc);
+    spell_decls(program.decls.as_slice(), &mut kinds)?;
+    Ok(kinds)
+}
+
+fn spell_decls(decls: &[(u32, Decl)], out: &mut List<Kind>) -> Result<(), AllocError>
+    ensures { OnOk result (out.new ≡ out.old ++ spelled_decls decls.now) }
+{
+    for at in 0..decls.len() {
+        let decl = &decls[at];
+        spell_decl(&decl.1, out)?;
+    }
+    Ok(())
+}

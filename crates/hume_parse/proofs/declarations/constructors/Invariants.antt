@@ -1,0 +1,17 @@
+use Rattle.std.proofs.Common.{◌≡◌, ◌<◌, length}
+use Rattle.hume_base.specs.declared.symbol.Symbol.TheVariants.{Bar}
+use Rattle.hume_base.specs.declared.token.Kind.TheVariants.{Sign}
+use Rattle.hume_parse.specs.Gives.{kinds}
+use Rattle.hume_grammar.specs.Readers.{listed, many, led, is_sign}
+use Rattle.hume_grammar.specs.Declarations.{constructor}
+use Rattle.hume_parse.proofs.Loops.{joined}
+use Rattle.hume_parse.proofs.declarations.constructors.Given as goal
+
+abbrev pub invariant-items : goal.invariant-items
+invariant-items l = record {
+  reads : listed Bar (constructor 64) (kinds l.fn.tokens) ≡ joined l.items (many (is_sign Bar) (led (Sign Bar) (constructor 64)) (kinds l.rest));
+  shorter : length l.rest < length l.fn.tokens;
+}
+
+abbrev pub decreases-items : goal.decreases-items
+decreases-items l = length l.rest

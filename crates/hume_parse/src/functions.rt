@@ -1,0 +1,58 @@
+ghost use Rattle.std.specs.Prelude.{◌≡◌, ◌<◌, length, IfOk};
+ghost use Rattle.hume_parse.specs.Gives.{Gives, kinds};
+ghost use Rattle.hume_grammar.specs.Declarations.{signature as signature_read, some_patterns as patterns_read, equation as equation_read};
+
+use crate::declarations::MAX_DEPTH;
+use crate::expressions::exp;
+use crate::fault::Fault;
+use crate::patterns::{pat_atom, starts_pat};
+use crate::tokens::after_sign;
+use crate::types::{ty, type_list};
+use hume_ast::{Exp, Pat, TyExp};
+use hume_base::{List, Symbol, Token};
+use std::alloc::Global;
+
+/// The types of a function, behind its name.
+pub fn signature(alloc: Global, rest: &[Token]) -> Result<(List<TyExp>, &[Token]), Fault>
+    ensures reads { Gives (λ x. (x.0, kinds x.1.now)) result (signature_read 64 (kinds rest.now)) }
+    ensures shorter { IfOk result (λ x. length x.1.now < length rest.now) }
+{
+    let rest = after_sign(rest, Symbol::DoubleColon)?;
+    let mut types = List::new(alloc);
+    let (first, rest) = ty(alloc, rest, MAX_DEPTH)?;
+    types.push(first)?;
+    let rest = after_sign(rest, Symbol::Arrow)?;
+    let (others, rest) = type_list(alloc, rest, Symbol::Arrow, MAX_DEPTH)?;
+    types.append(others)?;
+    let rest = after_sign(rest, Symbol::Semicolon)?;
+    Ok((types, rest))
+}
+
+/// The patterns and the expression of an equation, behind the name of its function.
+pub fn equation(alloc: Global, rest: &[Token]) -> Result<((List<Pat>, Exp), &[Token]), Fault>
+    ensures reads { Gives (λ x. (x.0, kinds x.1.now)) result (equation_read 64 (kinds rest.now)) }
+    ensures shorter { IfOk result (λ x. length x.1.now < length rest.now) }
+{
+    let (patterns, rest) = some_patterns(alloc, rest)?;
+    let rest = after_sign(rest, Symbol::Equals)?;
+    let found = exp(alloc, rest, MAX_DEPTH)?;
+    let rest = after_sign(found.rest, Symbol::Semicolon)?;
+    Ok(((patterns, found.exp), rest))
+}
+
+/// One or more patterns side by side.
+fn some_patterns(alloc: Global, tokens: &[Token]) -> Result<(List<Pat>, &[Token]), Fault>
+    ensures reads { Gives (λ x. (x.0, kinds x.1.now)) result (patterns_read 64 (kinds tokens.now)) }
+    ensures shorter { IfOk result (λ x. length x.1.now < length tokens.now) }
+{
+    let mut items = List::new(alloc);
+    let (first, after) = pat_atom(alloc, tokens, MAX_DEPTH)?;
+    items.push(first)?;
+    let mut rest = after;
+    'items: while starts_pat(rest) {
+        let (item, after) = pat_atom(alloc, rest, MAX_DEPTH)?;
+        items.push(item)?;
+        rest = after;
+    }
+    Ok((items, rest))
+}

@@ -1,0 +1,167 @@
+ghost use Rattle.std.specs.Prelude.{◌≡◌, ◌≢◌, [], IfOk, IsTrue, ◌↔◌};
+ghost use Rattle.hume_ast.specs.Places.{unplaced, placed, first_place as place_of_first};
+ghost use Rattle.hume_parse.specs.Gives.{Gives, kinds};
+ghost use Rattle.hume_parse.specs.Lines.{seen_line, seen_place, wants};
+ghost use Rattle.hume_parse.specs.Progress.{place_behind, with_equation, took, closed};
+ghost use Rattle.hume_grammar.specs.Programs.{program as program_read};
+
+use crate::fault::Fault;
+use crate::lines::{Line, Place, cut_line};
+use hume_ast::{Decl, Exp, Pat, TyExp};
+use hume_base::{List, Text, Token};
+use std::alloc::{AllocError, Global};
+
+/// A function whose equations are still read, with the place of its signature.
+#[derive(Drop)]
+pub struct OpenFunction {
+    pub place: u32,
+    pub name: Text,
+    pub types: List<TyExp>,
+    pub equations: List<(Text, List<Pat>, Exp)>,
+}
+
+/// What is read so far: declarations with their places, and the function whose equations are still read.
+#[derive(Drop)]
+pub struct Progress {
+    pub decls: List<(u32, Decl)>,
+    pub function: Option<OpenFunction>,
+}
+
+/// The declarations that the tokens stand for, each with the place of its first token.
+pub fn program(alloc: Global, tokens: &[Token]) -> Result<List<(u32, Decl)>, Fault>
+    ensures reads { Gives (λ decls. (unplaced decls, [])) result (program_read 64 (kinds tokens.now)) }
+    ensures places { IfOk result (λ decls. decls ≡ placed tokens.now (unplaced decls)) }
+{
+    let mut progress = Progress {
+        decls: List::new(alloc),
+        function: None,
+    };
+    let mut rest = tokens;
+    'lines: while !rest.is_empty() {
+        let at = first_place(rest);
+        let place = place_now(&progress.function);
+        let (line, after) = cut_line(alloc, place, rest)?;
+        progress = take(alloc, progress, at, line)?;
+        rest = after;
+    }
+    let place = place_now(&progress.function);
+    if is_wanting(place) {
+        return Err(Fault::Syntax(0));
+    }
+    Ok(close(progress)?)
+}
+
+fn first_place(rest: &[Token]) -> u32
+    ensures { result ≡ place_of_first rest.now }
+{
+    match rest {
+        [] => 0,
+        [token, ..] => token.place,
+    }
+}
+
+/// Where the next line stands.
+fn place_now(function: &Option<OpenFunction>) -> Place
+    ensures { seen_place result ≡ place_behind function.now }
+{
+    match function {
+        None => Place::Outside,
+        Some(function) => {
+            if function.equations.is_empty() {
+                Place::Wanting
+            } else {
+                Place::Within
+            }
+        }
+    }
+}
+
+fn is_wanting(place: Place) -> bool
+    ensures { result ≡ wants (seen_place place) }
+{
+    match place {
+        Place::Wanting => true,
+        Place::Outside | Place::Within => false,
+    }
+}
+
+/// The progress behind one more line, which begins at the place.
+fn take(alloc: Global, progress: Progress, place: u32, line: Line) -> Result<Progress, AllocError>
+    ensures { IfOk result (λ after. after ≡ took place (seen_line line) progress) }
+{
+    match line {
+        Line::Whole(decl) => {
+            let mut decls = close(progress)?;
+            decls.push((place, decl))?;
+            Ok(Progress {
+                decls,
+                function: None,
+            })
+        }
+        Line::Signature(name, types) => {
+            let decls = close(progress)?;
+            let equations = List::new(alloc);
+            let function = OpenFunction {
+                place,
+                name,
+                types,
+                equations,
+            };
+            Ok(Progress {
+                decls,
+                function: Some(function),
+            })
+        }
+        Line::Equation(name, patterns, exp) => {
+            let Progress { decls, function } = progress;
+            let function = take_equation(function, (name, patterns, exp))?;
+            Ok(Progress { decls, function })
+        }
+    }
+}
+
+fn take_equation(
+    function: Option<OpenFunction>,
+    equation: (Text, List<Pat>, Exp),
+) -> Result<Option<OpenFunction>, AllocError>
+    ensures { IfOk result (λ after. after ≡ with_equation equation function) }
+{
+    let Some(function) = function else {
+        return Ok(None);
+    };
+    let OpenFunction {
+        place,
+        name,
+        types,
+        mut equations,
+    } = function;
+    equations.push(equation)?;
+    Ok(Some(OpenFunction {
+        place,
+        name,
+        types,
+        equations,
+    }))
+}
+
+/// The declarations, where no more equations come.
+fn close(progress: Progress) -> Result<List<(u32, Decl)>, AllocError>
+    ensures { IfOk result (λ decls. decls ≡ closed progress) }
+{
+    let Progress {
+        mut decls,
+        function,
+    } = progress;
+    if let Some(
+        OpenFunction {
+            place,
+            name,
+            types,
+            equations,
+        },
+    ) = function
+    {
+        decls.push((place, Decl::Fun(name, types, equations)))?;
+    }
+    Ok(decls)
+}
