@@ -64,11 +64,16 @@ fn numbers_wrap_at_the_edges_of_their_widths(rt: HostRuntime) {
 
 #[test]
 fn division_goes_towards_0_and_leaves_the_sign_of_the_left(rt: HostRuntime) {
-    assert_eq!(rt; on_ints(Op::Div, 32, -7, 4), number(-1));
-    assert_eq!(rt; on_ints(Op::Div, 32, 7, 4), number(1));
-    assert_eq!(rt; on_ints(Op::Mod, 32, -7, 4), number(-3));
-    assert_eq!(rt; on_ints(Op::Mod, 32, 7, 4), number(3));
-    assert_eq!(rt; on_ints(Op::Div, 8, 127, -1), number(-127));
+    let rows = [
+        (Op::Div, 32, -7, 4, -1),
+        (Op::Div, 32, 7, 4, 1),
+        (Op::Mod, 32, -7, 4, -3),
+        (Op::Mod, 32, 7, 4, 3),
+        (Op::Div, 8, 127, -1, -127),
+    ];
+    for (op, bits, left, right, wanted) in rows {
+        assert_eq!(rt; on_ints(op, bits, left, right), number(wanted));
+    }
     assert_eq!(rt; on_ints(Op::Div, 8, 5, 0), Outcome::Raises(DIV_ZERO, None));
     assert_eq!(rt; on_nats(Op::Mod, 8, 5, 0), Outcome::Raises(DIV_ZERO, None));
 }
@@ -110,17 +115,23 @@ fn a_box_computes_in_the_bits_of_its_type(rt: HostRuntime) -> Result<(), Fail> {
     Ok(())
 }
 
-fn converted(ty: &Ty, value: i64) -> Outcome {
-    operate(Op::Convert, ty, &[Value::Word(word_of_int(value))])
+fn on_one(op: Op, ty: Ty, operand: i64) -> Outcome {
+    operate(op, &ty, &[Value::Word(word_of_int(operand))])
 }
 
 #[test]
 fn one_operand_is_wrapped_too(rt: HostRuntime) {
-    assert_eq!(rt; converted(&Ty::Nat(8), 300), word(44));
-    assert_eq!(rt; converted(&Ty::Int(8), 200), number(-56));
-    assert_eq!(rt; converted(&Ty::Nat(64), -1), word(18446744073709551615));
-    assert_eq!(rt; converted(&Ty::Int(63), -1), number(-1));
-    let least = [Value::Word(word_of_int(-128))];
-    assert_eq!(rt; operate(Op::Neg, &Ty::Int(8), &least), number(-128));
-    assert_eq!(rt; operate(Op::Not, &Ty::Bool, &[Value::Word(1)]), word(0));
+    let rows = [(8, 300, 44), (64, -1, 18446744073709551615)];
+    for (bits, operand, wanted) in rows {
+        assert_eq!(rt; on_one(Op::Convert, Ty::Nat(bits), operand), word(wanted));
+    }
+    let rows = [
+        (Op::Convert, 8, 200, -56),
+        (Op::Convert, 63, -1, -1),
+        (Op::Neg, 8, -128, -128),
+    ];
+    for (op, bits, operand, wanted) in rows {
+        assert_eq!(rt; on_one(op, Ty::Int(bits), operand), number(wanted));
+    }
+    assert_eq!(rt; on_one(Op::Not, Ty::Bool, 1), word(0));
 }

@@ -4,8 +4,8 @@ use Rattle.hume_base.specs.declared.types.Ty.TheVariants as ty
 use Rattle.hume_base.specs.declared.types.Types.{Types}
 use Rattle.hume_base.specs.declared.types.Value.{Value}
 use Rattle.hume_base.specs.declared.types.Value.TheVariants as value
-use Rattle.hume_base.specs.Values.{is_value_with, is_value, is_named_value}
-use Rattle.hume_base.specs.Flat.{flat_with, flat, named_words}
+use Rattle.hume_base.specs.Values.{is_value_with, is_named_value}
+use Rattle.hume_base.specs.Flat.{flat_with, named_words}
 use Rattle.hume_model.specs.Reading.{AreWordsOf}
 use Rattle.hume_model.proofs.Layers.{out-word, out-tuple, out-vector, bool-value, nat-value, tuple-value, vector-value}
 use Rattle.hume_model.proofs.WordLayers.{bool-words, nat-words, tuple-words, vector-words}
