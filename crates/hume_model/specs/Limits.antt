@@ -1,5 +1,5 @@
 -- What is asked of a whole core: its parts are sound, its wires have ends, and all is within the limits.
-use Rattle.std.specs.Prelude.{◌≡◌, ℕ, ◌≤◌, ◌<◌, true, All, List, [], ◌∷◌, codes, length, map, sum, take, Some, slice_get}
+use Rattle.std.specs.Prelude.{◌≡◌, ℕ, ◌≤◌, ◌<◌, Bool, true, false, ◌&&◌, if◌then◌else◌, All, List, [], ◌∷◌, codes, length, map, sum, take, Option, Some, None, slice_get}
 use Rattle.std.specs.List.{list_all}
 use Rattle.hume_base.specs.declared.types.Ty.{Ty}
 use Rattle.hume_base.specs.declared.types.Ty.TheVariants as shape
@@ -112,12 +112,23 @@ pub record HasFewExceptions (core : Core) : Type 0 where
   pub all : length core.exns ≤ 64
   pub each : All (IsSmallException core.types) core.exns
 
+abbrev pub is_stream : Option NodeC → Bool
+is_stream None = false
+is_stream (Some (Rules b)) = false
+is_stream (Some (From stream)) = true
+is_stream (Some (To stream)) = true
+
+-- the words that a wire counts for: none between two streams, which have no type
+abbrev pub wire_words : Core → WireC → ℕ
+wire_words core wire =
+    if is_stream (slice_get core.nodes wire.from) && is_stream (slice_get core.nodes wire.to) then 0 else size_of core.types wire.ty
+
 pub record IsWithinLimits (core : Core) : Type 0 where
   pub functions : length core.funs ≤ 256
   pub exceptions : HasFewExceptions core
   pub nodes : length core.nodes ≤ 256
   pub wires : length core.wires ≤ 1024
-  pub words : sum (map (λ (wire : WireC). size_of core.types wire.ty) core.wires) ≤ 65536
+  pub words : sum (map (wire_words core) core.wires) ≤ 65536
   pub each_data_type : (n : ℕ) (sum_type : SumDef) → slice_get core.types.sums n ≡ Some sum_type → IsSmallData core n sum_type
   pub each_function : All (IsSmallFunction core.types) core.funs
   pub each_node : All (IsSmallNode core.types) core.nodes

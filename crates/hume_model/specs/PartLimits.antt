@@ -1,5 +1,5 @@
 -- How many parts tuples, vectors and `case`s may have in patterns, expressions and results.
-use Rattle.std.specs.Prelude.{◌≡◌, nat_le, ◌&&◌, Bool, true, List, length, Option, Some, None}
+use Rattle.std.specs.Prelude.{nat_le, ◌&&◌, Bool, true, List, length, Option, Some, None}
 use Rattle.std.specs.List.{list_all}
 use Rattle.hume_model.specs.declared.core_tree.PatC.{PatC, fold-PatC}
 use Rattle.hume_model.specs.declared.core_tree.PatC.TheOpen.{PatC-F}
