@@ -23,7 +23,7 @@ use Rattle.hume_model.specs.declared.outcome.Outcome.TheVariants.{Gives, Raises}
 use Rattle.hume_model.specs.declared.outcome.Several.{Several}
 use Rattle.hume_model.specs.declared.outcome.Several.TheVariants.{All, Raised}
 use Rattle.hume_model.specs.Outcomes.{and_then, with_all, in_order, then_rest, on_match}
-use Rattle.hume_model.specs.Operations.{prim, binary, unary, gives, exact, truth, number_at, word_of_value, is_place, item_of, item_or_raise, updated}
+use Rattle.hume_model.specs.Operations.{prim, binary, unary, exact, truth, number_at, word_of_value, is_place, item_of, item_or_raise, updated}
 use Rattle.hume_model.specs.Patterns.{matches}
 use Rattle.hume_model.specs.Meaning.{Calls, eval_with, variable, first_arm, arm_with}
 use Rattle.hume_model.specs.Typing.{AreOf, HasType, HaveTypes, ArmsHaveType, is_outcome, is_raised, is_number_type, is_arithmetic, is_comparison}

@@ -5,6 +5,7 @@ pub mod Evaluation
 pub mod ExpressionTypes
 pub mod Fields
 pub mod FiringTypes
+pub mod FrontReading
 pub mod Layers
 pub mod PatternTypes
 pub mod Positions
@@ -16,5 +17,7 @@ pub mod SideTypes
 pub mod Sides
 pub mod Small
 pub mod Starts
+pub mod StartTypes
 pub mod StateTypes
 pub mod Widths
+pub mod WordReading

@@ -20,7 +20,7 @@ largest functions = most (λ (function : FunC). equations_size function.equation
 unfoldable pub rank : Core → ℕ → ℕ
 rank core bound = bound * (2 + largest core.funs)
 
-slice_get-most : {X : Type 0} (weight : X → ℕ) (xs : List X) (i : ℕ) (x : X) → slice_get xs i ≡ Some x → weight x ≤ most weight xs
+pub slice_get-most : {X : Type 0} (weight : X → ℕ) (xs : List X) (i : ℕ) (x : X) → slice_get xs i ≡ Some x → weight x ≤ most weight xs
 slice_get-most weight [] i x found = cc
 slice_get-most weight (y ∷ xs) zero x found = let e : y ≡ x = cc in rw (← e) (omega arith)
 slice_get-most weight (y ∷ xs) (suc i) x found = let later : weight x ≤ most weight xs = slice_get-most weight xs i x found in omega arith

@@ -1,6 +1,7 @@
 -- When a state has, on each wire and as each output or input to come, a value of its type.
-use Rattle.std.specs.Prelude.{◌≡◌, ℕ, true, List, Option, Some, slice_get}
+use Rattle.std.specs.Prelude.{◌≡◌, ℕ, true, List, [], Option, Some, slice_get}
 use Rattle.std.specs.List.{list_all}
+use Rattle.std.specs.Option.{unwrap_or}
 use Rattle.hume_base.specs.declared.types.Value.{Value}
 use Rattle.hume_base.specs.Values.{is_value}
 use Rattle.hume_model.specs.declared.core_tree.PortC.{PortC}
@@ -39,3 +40,12 @@ pub record IsTypedState (core : Core) (state : State) : Type 0 where
       → are_outputs core.types (port_types b.outs) outs ≡ true
   pub coming : (n : ℕ) (stream : StreamC) (w : ℕ) (wire : WireC) → slice_get core.nodes n ≡ Some (From stream) → slice_get core.wires w ≡ Some wire
       → wire.from ≡ n → list_all (is_value core.types wire.ty) (part_of state n).coming ≡ true
+
+-- the value that a wire begins with is of its type
+abbrev pub InitialsAreTyped : Core → Type 0
+InitialsAreTyped core = (w : ℕ) (wire : WireC) (v : Value) → slice_get core.wires w ≡ Some wire → wire.initial ≡ Some v → is_value core.types wire.ty v ≡ true
+
+-- the values that are to come from an input stream are of the type of its wires
+abbrev pub ComingAreTyped : Core → List (List Value) → Type 0
+ComingAreTyped core coming = (n : ℕ) (stream : StreamC) (w : ℕ) (wire : WireC) → slice_get core.nodes n ≡ Some (From stream)
+    → slice_get core.wires w ≡ Some wire → wire.from ≡ n → list_all (is_value core.types wire.ty) (unwrap_or (slice_get coming n) []) ≡ true

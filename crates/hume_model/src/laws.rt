@@ -17,8 +17,9 @@ ghost use Rattle.hume_model.specs.ResultTyping.{GivesOutputs, is_result, are_out
 ghost use Rattle.hume_model.specs.Firing.{fire};
 ghost use Rattle.hume_model.specs.BoxTyping.{BoxIsTyped, port_types};
 ghost use Rattle.hume_model.specs.declared.state.State.{State};
-ghost use Rattle.hume_model.specs.Lockstep.{superstep};
-ghost use Rattle.hume_model.specs.StateTyping.{IsTypedNet, IsTypedState};
+ghost use Rattle.hume_model.specs.Lockstep.{superstep, lockstep};
+ghost use Rattle.hume_model.specs.Start.{start};
+ghost use Rattle.hume_model.specs.StateTyping.{IsTypedNet, IsTypedState, InitialsAreTyped, ComingAreTyped};
 ghost use Rattle.hume_model.specs.WellFormed.{HasSoundParts};
 
 /// A call gives what the body of the first equation that the arguments match gives in the whole program.
@@ -56,4 +57,15 @@ pub fn firing_keeps_types()
 /// A superstep keeps types: each wire, each pending output and each input to come has a value of its type.
 pub fn supersteps_keep_types()
     ensures { (core : Core) → IsTypedNet core → (state : State) → IsTypedState core state → IsTypedState core (superstep core state) }
+{}
+
+/// The state before the first superstep has values of the right types, if the initial values and those to come do.
+pub fn starts_have_types()
+    ensures { (core : Core) → InitialsAreTyped core → (coming : List (List Value)) → ComingAreTyped core coming → IsTypedState core (start core coming) }
+{}
+
+/// And so has the state after any number of supersteps.
+pub fn locksteps_keep_types()
+    ensures { (core : Core) → IsTypedNet core → InitialsAreTyped core → (coming : List (List Value)) → ComingAreTyped core coming
+        → (k : ℕ) → IsTypedState core (lockstep core (start core coming) k) }
 {}

@@ -14,6 +14,7 @@ mod operations;
 mod outcome;
 mod patterns;
 mod phases;
+mod reading;
 mod results;
 mod start;
 mod state;
@@ -27,9 +28,10 @@ pub use core_tree::{
 };
 pub use evaluate::eval_plain;
 pub use laws::{
-    calls_unfold, evaluation_keeps_types, firing_keeps_types, results_keep_types,
-    supersteps_keep_types, what_is_taken_is_there,
+    calls_unfold, evaluation_keeps_types, firing_keeps_types, locksteps_keep_types,
+    results_keep_types, starts_have_types, supersteps_keep_types, what_is_taken_is_there,
 };
 pub use net::{Net, net_make};
 pub use outcome::{DIV_ZERO, NO_CASE, Outcome, Outputs, RANGE, Several};
+pub use reading::value_of;
 pub use state::{Firing, HalfStep, Part, State};

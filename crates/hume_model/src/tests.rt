@@ -8,7 +8,8 @@ use crate::evaluate::eval_plain;
 use crate::net::{Net, net_make};
 use crate::operations::operate;
 use crate::outcome::{DIV_ZERO, NO_CASE, Outcome, RANGE};
-use hume_base::{Box, List, Text, Ty, Types, Value, word_of_int};
+use crate::reading::read_front;
+use hume_base::{Box, ConDef, List, SumDef, Text, Ty, Types, Value, word_of_int};
 use std::alloc::{AllocError, Global};
 use std::test::Fail;
 
@@ -476,11 +477,53 @@ fn numbers_wrap_at_the_edges_of_their_widths(rt: HostRuntime) {
 #[test]
 fn division_goes_towards_0_and_leaves_the_sign_of_the_left(rt: HostRuntime) {
     assert_eq!(rt; on_ints(Op::Div, 32, -7, 4), number(-1));
+    assert_eq!(rt; on_ints(Op::Div, 32, 7, 4), number(1));
     assert_eq!(rt; on_ints(Op::Mod, 32, -7, 4), number(-3));
     assert_eq!(rt; on_ints(Op::Mod, 32, 7, 4), number(3));
     assert_eq!(rt; on_ints(Op::Div, 8, 127, -1), number(-127));
     assert_eq!(rt; on_ints(Op::Div, 8, 5, 0), Outcome::Raises(DIV_ZERO, None));
     assert_eq!(rt; on_nats(Op::Mod, 8, 5, 0), Outcome::Raises(DIV_ZERO, None));
+}
+
+// Whether a box that does the operation with each value that comes makes the wanted values of the given ones.
+fn makes(
+    alloc: Global,
+    op: Op,
+    ty: Ty,
+    operand: i64,
+    given: [i64; 2],
+    wanted: [i64; 2],
+) -> Result<bool, Fail> {
+    let core = computing(alloc, op, ty, operand)?;
+    let mut net = started(alloc, &core)?;
+    feed(&mut net, 1, &words_of(given))?;
+    steps(alloc, &mut net, 4)?;
+    Ok(has_taken(&net, 2, &words_of(wanted)))
+}
+
+fn words_of(numbers: [i64; 2]) -> [u64; 2] {
+    [word_of_int(numbers[0]), word_of_int(numbers[1])]
+}
+
+fn computing(alloc: Global, op: Op, ty: Ty, operand: i64) -> Result<Core, AllocError> {
+    let operand = Expr::Word(word_of_int(operand));
+    let out = Expr::Prim(op, ty, list(vec![in alloc; Expr::Var(0), operand]?));
+    let rules = vec![in alloc; rule(one_var(alloc)?, one_out(alloc, out)?)]?;
+    let mut nodes = vec![in alloc; a_box(alloc, (1, 1), false, rules, Vec::new(alloc))?]?;
+    nodes.push(NodeC::From(stream(alloc)?))?;
+    nodes.push(NodeC::To(stream(alloc)?))?;
+    let wires = vec![in alloc; wire((1, 0), (0, 0)), wire((0, 0), (2, 0))]?;
+    Ok(net_core(alloc, nodes, wires))
+}
+
+#[test]
+fn a_box_computes_in_the_bits_of_its_type(rt: HostRuntime) -> Result<(), Fail> {
+    let alloc = rt.alloc();
+    assert!(rt; makes(alloc, Op::Add, Ty::Nat(8), 1, [255, 0], [0, 1])?);
+    assert!(rt; makes(alloc, Op::Div, Ty::Int(8), -1, [-128, 127], [-128, -127])?);
+    assert!(rt; makes(alloc, Op::Mod, Ty::Int(32), 4, [-7, 7], [-3, 3])?);
+    assert!(rt; makes(alloc, Op::Div, Ty::Int(32), 4, [-7, 7], [-1, 1])?);
+    Ok(())
 }
 
 fn converted(ty: &Ty, value: i64) -> Outcome {
@@ -567,5 +610,38 @@ fn the_first_part_that_raises_decides(rt: HostRuntime) -> Result<(), Fail> {
         evaluated(alloc, &e)?,
         Outcome::Raises(3, Some(Value::Word(8)))
     );
+    Ok(())
+}
+
+// A data type of two constructors: one with a `nat 8` and a `bool`, and one without fields.
+fn one_data_type(alloc: Global) -> Result<Types, AllocError> {
+    let full = ConDef {
+        name: Text::from_bytes(alloc, b"Full")?,
+        fields: list(vec![in alloc; Ty::Nat(8), Ty::Bool]?),
+    };
+    let empty = ConDef {
+        name: Text::from_bytes(alloc, b"Empty")?,
+        fields: List::new(alloc),
+    };
+    let sum = SumDef {
+        name: Text::from_bytes(alloc, b"cell")?,
+        cons: list(vec![in alloc; full, empty]?),
+        words: 3,
+    };
+    Ok(Types {
+        sums: list(vec![in alloc; sum]?),
+    })
+}
+
+#[test]
+fn a_value_is_read_past_the_zeros_that_fill_data_up(rt: HostRuntime) -> Result<(), Fail> {
+    let alloc = rt.alloc();
+    let types = one_data_type(alloc)?;
+    let ty = Ty::Vector(2, Box::new(alloc, Ty::Named(0))?);
+    let (value, rest) = read_front(alloc, &types, 1, &ty, &[1, 0, 0, 0, 7, 1, 9])?;
+    let first = Value::Con(1, List::new(alloc));
+    let second = Value::Con(0, list(vec![in alloc; Value::Word(7), Value::Word(1)]?));
+    assert_eq!(rt; value, Value::Vector(list(vec![in alloc; first, second]?)));
+    assert_eq!(rt; rest.len(), 1);
     Ok(())
 }
