@@ -1,3 +1,1 @@
-pub mod Gives
-pub mod Found
 pub mod Parsing

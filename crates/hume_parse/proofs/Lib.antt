@@ -1,4 +1,0 @@
-pub mod Loops
-pub mod TypeSteps
-pub mod PatternSteps
-pub mod ExpSteps
