@@ -1,5 +1,5 @@
 -- What the parser answers.
-use Rattle.std.specs.Prelude.{◌≡◌, ◌⊎◌, ℕ, List, [], ◌∷◌, ◌++◌, Result, Ok, Err}
+use Rattle.std.specs.Prelude.{◌≡◌, ◌⊎◌, ℕ, List, [], ◌∷◌, ◌++◌}
 use Rattle.hume_base.specs.declared.token.Kind.{Kind}
 use Rattle.hume_base.specs.declared.token.Token.{Token}
 use Rattle.hume_ast.specs.declared.tree.Program.{Program}
@@ -26,10 +26,8 @@ pub record IsWrongToken (tokens : List Token) (place : ℕ) : Type 0 where
   pub here : token.place ≡ place
   pub wrong : BeginsNone (kinds (front ++ token ∷ []))
 
--- A program that is given is the one that the tokens stand for. A place is told only where they stand for none: that of
--- a wrong token, or the end.
-abbrev pub IsParsed : List Token → ℕ → Result Program ParseError → Type 0
-IsParsed tokens end (Ok program) = StandsFor tokens program
-IsParsed tokens end (Err (Syntax place)) = IsNoProgram tokens × (IsWrongToken tokens place ⊎ (place ≡ end))
-IsParsed tokens end (Err (Deep place)) = IsNoProgram tokens × IsWrongToken tokens place
-IsParsed tokens end (Err NoMemory) = Unit {0}
+-- Why the tokens stand for no program: a place is told, that of a wrong token or the end.
+abbrev pub IsFault : List Token → ℕ → ParseError → Type 0
+IsFault tokens end (Syntax place) = IsNoProgram tokens × (IsWrongToken tokens place ⊎ (place ≡ end))
+IsFault tokens end (Deep place) = IsNoProgram tokens × IsWrongToken tokens place
+IsFault tokens end NoMemory = ⊥

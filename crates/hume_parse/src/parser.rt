@@ -1,4 +1,6 @@
-ghost use Rattle.hume_parse.specs.Parsing.{IsParsed};
+ghost use Rattle.std.specs.Prelude.{◌≡◌, ◌⊎◌, IfOk, IfErr};
+ghost use Rattle.hume_ast.specs.Places.{StandsFor};
+ghost use Rattle.hume_parse.specs.Parsing.{IsFault};
 
 use hume_ast::Program;
 use hume_base::Token;
@@ -20,7 +22,8 @@ pub enum ParseError {
 
 /// The program that the tokens stand for. `end` is the place of an early end, in bytes: the length of the source.
 pub fn parse(_alloc: Global, tokens: &[Token], end: u32) -> Result<Program, ParseError>
-    ensures { IsParsed tokens.now end result }
+    ensures program { IfOk result (λ program. StandsFor tokens.now program) }
+    ensures error { IfErr result (λ error. (error ≡ ParseError.NoMemory) ⊎ IsFault tokens.now end error) }
 {
     Err(ParseError::NoMemory)
 }
