@@ -26,4 +26,6 @@ placed tokens (decl ∷ decls) = (first_place tokens, decl) ∷ placed (drop (le
 
 -- the program is fit and spelled so, and each of its declarations has the place of its first token
 abbrev pub StandsFor : List Token → Program → Type 0
-StandsFor tokens program = IsFit program × (spelled program ≡ kinds tokens) × (program.decls ≡ placed tokens (unplaced program.decls))
+StandsFor tokens program =
+    IsFit program × (spelled program ≡ kinds tokens)
+    × (program.decls ≡ placed tokens (unplaced program.decls))

@@ -1,13 +1,13 @@
 -- Line by line, until the tokens are over.
 use Rattle.std.proofs.Common.{◌≡◌, ℕ, zero, suc, ◌<◌, ◌≤◌, List, [], ◌∷◌, ◌++◌, length, refl, sym, ap, ◌∙◌, subst, arith, length-append, append_assoc}
-use Rattle.std.specs.Prelude.{Ok, Err, Result}
+use Rattle.std.specs.Prelude.{Ok, Result}
 use Rattle.std.specs.List.{flat_map}
 use Rattle.hume_base.specs.declared.token.Kind.{Kind}
-use Rattle.hume_grammar.specs.Readers.{Reader, ◌>>=◌, fault}
+use Rattle.hume_grammar.specs.Readers.{Reader, ◌>>=◌}
 use Rattle.hume_grammar.specs.Lines.{Line, Place, Outside, Wanting, Within, place_after, line, no_lines, lines_by, lines}
-use Rattle.hume_grammar.proofs.Local.{Local, Splits, bind_ok, bind_same, splits_bind, splits_as, local_give, give_empty, fault_empty}
+use Rattle.hume_grammar.proofs.Local.{Splits, bind_ok, bind_same, splits_bind, splits_as, local_give, give_empty, fault_empty}
 use Rattle.hume_grammar.proofs.LinesRead.{spelled_line, LineFits, line_reads, some_line, line_shrinks}
-use Rattle.hume_grammar.proofs.Forms.{Reads, along}
+use Rattle.hume_grammar.proofs.Forms.{Reads}
 
 -- lines may end at the place
 abbrev pub MayEnd : Place → Type 0

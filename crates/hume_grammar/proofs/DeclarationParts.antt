@@ -11,8 +11,8 @@ use Rattle.hume_ast.specs.declared.tree.Pat.{Pat, roll-Pat, out-Pat, map-Pat, ro
 use Rattle.hume_ast.specs.declared.tree.Pat.TheOpen.{Pat-F}
 use Rattle.hume_ast.specs.declared.tree.Exp.{Exp}
 use Rattle.hume_ast.specs.Spelling.{spell_ty, spelled_ty, spell_pat, spelled_pat, spelled_exp, separated, in_parens, spelled_constructor, spelled_port, spelled_ports, spelled_rule, spelled_carried, spelled_handler, spelled_handlers, order_word, way_word, spelled_end, spelled_initial, spelled_carries}
-use Rattle.hume_ast.specs.Fits.{Each, OneOrMore, IfThere, TypeFits, PatFits, ExpFits, IsCarried, CarriedFits, RuleFits, HandlerFits}
-use Rattle.hume_grammar.specs.Readers.{Reader, led, give, next, choice, listed, maybe, pick, is_word, is_sign, lower_name}
+use Rattle.hume_ast.specs.Fits.{Each, OneOrMore, IfThere, TypeFits, ExpFits, IsCarried, CarriedFits, RuleFits, HandlerFits}
+use Rattle.hume_grammar.specs.Readers.{Reader, led, give, next, listed, maybe, pick, is_word, is_sign}
 use Rattle.hume_grammar.specs.Types.{types}
 use Rattle.hume_grammar.specs.Declarations.{starts_type, expression, in_commas, constructor, port, ports, rule, carried_pat, is_carried, handler_of, handler, handlers, order_ways, order, way_ways, way, wire_end, first_value}
 use Rattle.hume_grammar.proofs.Local.{local_choice, local_give}

@@ -1,7 +1,6 @@
 -- The declarations that are read, and the parts of functions.
 use Rattle.std.proofs.Common.{◌≡◌, ℕ, ◌≤◌, List, [], ◌∷◌, ◌++◌, map, length, false, refl, sym, ap, ◌∙◌, arith, append_assoc}
 use Rattle.std.specs.Prelude.{Ok, Bool, Option, Some, None}
-use Rattle.std.specs.List.{flat_map}
 use Rattle.hume_base.specs.declared.keyword.Keyword.TheVariants as word
 use Rattle.hume_base.specs.declared.symbol.Symbol.TheVariants as symbol
 use Rattle.hume_base.specs.declared.token.Kind.{Kind}
@@ -13,16 +12,16 @@ use Rattle.hume_ast.specs.declared.tree.Decl.{Decl}
 use Rattle.hume_ast.specs.declared.tree.Decl.TheVariants.{Sum, Exn, Fun, BoxD, Stream, Wire}
 use Rattle.hume_ast.specs.Spelling.{spelled_ty, spelled_pat, spelled_exp, separated, beside, spelled_constructor, spelled_ports, spelled_rule, spelled_handlers, order_word, way_word, spelled_end, spelled_initial, spelled_carries, ended, spelled_decl}
 use Rattle.hume_ast.specs.Fits.{Each, OneOrMore, IfThere, TypeFits, PatFits, ExpFits, RuleFits, HandlerFits, DeclFits}
-use Rattle.hume_grammar.specs.Readers.{Reader, led, closed, both, listed, maybe, many, cons, alternatives, next, pick, is_sign, lower_name, upper_name, port_name}
+use Rattle.hume_grammar.specs.Readers.{led, closed, both, listed, maybe, cons, next, pick, is_sign, lower_name, upper_name, port_name}
 use Rattle.hume_grammar.specs.Types.{types}
 use Rattle.hume_grammar.specs.Patterns.{starts_pat, patterns}
-use Rattle.hume_grammar.specs.Declarations.{starts_type, constructor, sum_of, exn_of, ports, rule, handlers, order, Rules, rules, Ports, sides, box_of, way, stream_of, wire_end, first_value, wire_of, decl_ways, whole_decl, signature, some_patterns, equation}
+use Rattle.hume_grammar.specs.Declarations.{starts_type, constructor, sum_of, exn_of, Rules, rules, Ports, sides, box_of, way, stream_of, wire_end, first_value, wire_of, decl_ways, whole_decl, signature, some_patterns, equation}
 use Rattle.hume_grammar.proofs.Local.{local_made}
 use Rattle.hume_grammar.proofs.TypesRead.{upper_reads, lower_reads, port_reads, types_read}
 use Rattle.hume_grammar.proofs.PatternsRead.{PatEnds, patterns_read, first_pat}
 use Rattle.hume_grammar.proofs.Levels.{Stops}
-use Rattle.hume_grammar.proofs.DeclarationParts.{order_reads, way_reads, wire_end_reads, exp_reads, constructor_reads, carries_reads, PortFits, ports_reads, rule_reads, HandlersEnd, handlers_reads, first_value_reads}
-use Rattle.hume_grammar.proofs.Forms.{Reads, Anything, All, Sound, led_reads, closed_reads, both_reads, many_reads, listed_reads, several_reads, made_reads, made_sound, made_complete, ending, beside_map, alternatives_sound, alternatives_local, respelled}
+use Rattle.hume_grammar.proofs.DeclarationParts.{order_reads, way_reads, wire_end_reads, exp_reads, constructor_reads, carries_reads, PortFits, ports_reads, rule_reads, handlers_reads, first_value_reads}
+use Rattle.hume_grammar.proofs.Forms.{Reads, Anything, Sound, led_reads, closed_reads, both_reads, many_reads, listed_reads, several_reads, made_reads, made_sound, made_complete, ending, beside_map, alternatives_sound, alternatives_local, respelled}
 
 -- a declaration of anything but a function
 abbrev pub StandsAlone : Decl → Type 0

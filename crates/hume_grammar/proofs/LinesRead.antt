@@ -1,7 +1,6 @@
 -- The lines that are read.
-use Rattle.std.proofs.Common.{◌≡◌, ℕ, zero, suc, ◌<◌, ◌≤◌, List, [], ◌∷◌, ◌++◌, map, length, true, false, refl, sym, ap, ◌∙◌, subst, inl, inr, arith, length-append, append_assoc}
-use Rattle.std.specs.Prelude.{Ok, Result}
-use Rattle.std.specs.List.{flat_map}
+use Rattle.std.proofs.Common.{◌≡◌, ℕ, ◌<◌, ◌≤◌, List, [], ◌∷◌, ◌++◌, map, length, true, false, refl, sym, ap, ◌∙◌, inl, inr, arith, length-append, append_assoc}
+use Rattle.std.specs.Prelude.{Ok}
 use Rattle.std.proofs.lemmas.Bool.{cases_Bool}
 use Rattle.hume_base.specs.declared.symbol.Symbol.TheVariants as symbol
 use Rattle.hume_base.specs.declared.token.Kind.{Kind}
@@ -13,7 +12,7 @@ use Rattle.hume_ast.specs.declared.tree.Decl.{Decl}
 use Rattle.hume_ast.specs.declared.tree.Decl.TheVariants.{Sum, Exn, Fun, BoxD, Stream, Wire}
 use Rattle.hume_ast.specs.Spelling.{spelled_ty, spelled_pat, separated, beside, ended, spelled_equation, spelled_decl}
 use Rattle.hume_ast.specs.Fits.{Each, OneOrMore, TypeFits, PatFits, EquationFits}
-use Rattle.hume_grammar.specs.Readers.{Reader, ◌>>=◌, behind, next, choice, made, pick, is_sign, lower_name}
+use Rattle.hume_grammar.specs.Readers.{behind, next, made, pick, is_sign, lower_name}
 use Rattle.hume_grammar.specs.Patterns.{starts_pat}
 use Rattle.hume_grammar.specs.Expressions.{is_lower}
 use Rattle.hume_grammar.specs.Declarations.{whole_decl}
@@ -23,7 +22,7 @@ use Rattle.hume_grammar.proofs.TokensApart.{next_token}
 use Rattle.hume_grammar.proofs.TypesRead.{lower_reads}
 use Rattle.hume_grammar.proofs.PatternsRead.{first_pat}
 use Rattle.hume_grammar.proofs.DeclarationsRead.{StandsAlone, WholeFits, whole_decl_reads, signature_reads, equation_reads}
-use Rattle.hume_grammar.proofs.Forms.{Reads, Anything, Sound, made_sound, made_complete, choice_sound, retold_sound}
+use Rattle.hume_grammar.proofs.Forms.{Reads, Anything, Sound, made_sound, made_complete, choice_sound}
 
 -- the tokens of a line
 abbrev pub spelled_line : Line → List Kind

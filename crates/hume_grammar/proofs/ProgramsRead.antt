@@ -1,17 +1,16 @@
 -- The programs that are read.
-use Rattle.std.proofs.Common.{◌≡◌, ℕ, List, [], ◌∷◌, ◌++◌, map, length, refl, sym, ap, ◌∙◌, subst, append-nil}
+use Rattle.std.proofs.Common.{◌≡◌, ℕ, List, [], ◌++◌, map, length, refl, sym, ap, ◌∙◌, subst, append-nil}
 use Rattle.std.specs.Prelude.{Ok, Err}
 use Rattle.std.specs.List.{flat_map}
 use Rattle.hume_base.specs.declared.token.Kind.{Kind}
 use Rattle.hume_ast.specs.declared.tree.Decl.{Decl}
 use Rattle.hume_ast.specs.Spelling.{beside, spelled_decl}
 use Rattle.hume_ast.specs.Fits.{Each, DeclFits}
-use Rattle.hume_grammar.specs.Readers.{◌>>=◌}
-use Rattle.hume_grammar.specs.Lines.{Line, Outside, lines}
+use Rattle.hume_grammar.specs.Lines.{Outside, lines}
 use Rattle.hume_grammar.specs.Programs.{grouped, program}
 use Rattle.hume_grammar.proofs.Local.{Splits, SameNext, bind_ok}
 use Rattle.hume_grammar.proofs.LinesRead.{spelled_line}
-use Rattle.hume_grammar.proofs.AllLinesRead.{Over, LinesFit, lines_over, lines_read}
+use Rattle.hume_grammar.proofs.AllLinesRead.{Over, lines_over, lines_read}
 use Rattle.hume_grammar.proofs.Grouping.{all_lines, all_spelled, regrouped, all_fit, grouped_fit}
 use Rattle.hume_grammar.proofs.Forms.{Reads, made_reads}
 

@@ -42,13 +42,17 @@ abbrev pub sum_of : List ℕ × List (List ℕ × List TyExp) → Decl
 sum_of parts = Sum parts.0 parts.1
 
 abbrev pub data_decl : ℕ → Reader Decl
-data_decl bound = made sum_of (led (Word word.Data) (both (closed (pick upper_name) (Sign symbol.Equals)) (closed (listed symbol.Bar (constructor bound)) (Sign symbol.Semicolon))))
+data_decl bound = made sum_of (led (Word word.Data) (both
+    (closed (pick upper_name) (Sign symbol.Equals))
+    (closed (listed symbol.Bar (constructor bound)) (Sign symbol.Semicolon))))
 
 abbrev pub exn_of : List ℕ × Option TyExp → Decl
 exn_of parts = Exn parts.0 parts.1
 
 abbrev pub exception_decl : ℕ → Reader Decl
-exception_decl bound = made exn_of (led (Word word.Exception) (both (pick upper_name) (closed (maybe starts_type (types bound)) (Sign symbol.Semicolon))))
+exception_decl bound = made exn_of (led (Word word.Exception) (both
+    (pick upper_name)
+    (closed (maybe starts_type (types bound)) (Sign symbol.Semicolon))))
 
 abbrev pub port : ℕ → Reader (List ℕ × TyExp)
 port bound = both (closed (pick lower_name) (Sign symbol.DoubleColon)) (types bound)
@@ -75,14 +79,19 @@ abbrev pub handler_of : List ℕ × (Option Pat × Exp) → List ℕ × Option P
 handler_of parts = (parts.0, parts.1.0, parts.1.1)
 
 abbrev pub handler : ℕ → Reader (List ℕ × Option Pat × Exp)
-handler bound = made handler_of (both (pick upper_name) (both (closed (maybe is_carried (pick carried_pat)) (Sign symbol.Arrow)) (expression bound)))
+handler bound = made handler_of (both
+    (pick upper_name)
+    (both (closed (maybe is_carried (pick carried_pat)) (Sign symbol.Arrow)) (expression bound)))
 
 -- the handlers of a box, if it has any
 abbrev pub handlers : ℕ → Reader (List (List ℕ × Option Pat × Exp))
 handlers bound = choice (is_word word.Handle) (led (Word word.Handle) (listed symbol.Bar (handler bound))) (give [])
 
 abbrev pub order_ways : List ((Kind → Bool) × Reader Bool)
-order_ways = (is_word word.Fair, led (Word word.Fair) (give true)) ∷ (any_token, led (Word word.Match) (give false)) ∷ []
+order_ways =
+    (is_word word.Fair, led (Word word.Fair) (give true))
+    ∷ (any_token, led (Word word.Match) (give false))
+    ∷ []
 
 -- whether the rules of a box are fair
 abbrev pub order : Reader Bool
@@ -105,10 +114,15 @@ abbrev pub box_of : List ℕ × (Ports × (Bool × Rules)) → Decl
 box_of parts = BoxD parts.0 parts.1.0.0 parts.1.0.1 parts.1.1.0 parts.1.1.1.0 parts.1.1.1.1
 
 abbrev pub box_decl : ℕ → Reader Decl
-box_decl bound = made box_of (led (Word word.Box) (both (closed (pick lower_name) (Word word.In)) (both (sides bound) (rules bound))))
+box_decl bound = made box_of (led (Word word.Box) (both
+    (closed (pick lower_name) (Word word.In))
+    (both (sides bound) (rules bound))))
 
 abbrev pub way_ways : List ((Kind → Bool) × Reader Bool)
-way_ways = (is_word word.From, led (Word word.From) (give true)) ∷ (any_token, led (Word word.To) (give false)) ∷ []
+way_ways =
+    (is_word word.From, led (Word word.From) (give true))
+    ∷ (any_token, led (Word word.To) (give false))
+    ∷ []
 
 -- whether a stream comes in
 abbrev pub way : Reader Bool
@@ -118,7 +132,9 @@ abbrev pub stream_of : List ℕ × (Bool × List ℕ) → Decl
 stream_of parts = Stream parts.0 parts.1.0 parts.1.1
 
 abbrev pub stream_decl : Reader Decl
-stream_decl = made stream_of (led (Word word.Stream) (both (pick lower_name) (both way (closed (pick port_name) (Sign symbol.Semicolon)))))
+stream_decl = made stream_of (led (Word word.Stream) (both
+    (pick lower_name)
+    (both way (closed (pick port_name) (Sign symbol.Semicolon)))))
 
 -- an end of a wire
 abbrev pub wire_end : Reader (List ℕ × Option (List ℕ))
@@ -131,7 +147,9 @@ abbrev pub wire_of : (List ℕ × Option (List ℕ)) × ((List ℕ × Option (Li
 wire_of parts = Wire parts.0 parts.1.0 parts.1.1
 
 abbrev pub wire_decl : ℕ → Reader Decl
-wire_decl bound = made wire_of (led (Word word.Wire) (both (closed wire_end (Word word.To)) (both wire_end (closed (first_value bound) (Sign symbol.Semicolon)))))
+wire_decl bound = made wire_of (led (Word word.Wire) (both
+    (closed wire_end (Word word.To))
+    (both wire_end (closed (first_value bound) (Sign symbol.Semicolon)))))
 
 -- a declaration of anything but a function
 abbrev pub decl_ways : ℕ → List ((Kind → Bool) × Reader Decl)
@@ -156,4 +174,6 @@ some_patterns bound = made cons (both (patterns bound).atom (many starts_pat (pa
 
 -- an equation, behind the name of its function
 abbrev pub equation : ℕ → Reader (List Pat × Exp)
-equation bound = both (closed (some_patterns bound) (Sign symbol.Equals)) (closed (expression bound) (Sign symbol.Semicolon))
+equation bound = both
+    (closed (some_patterns bound) (Sign symbol.Equals))
+    (closed (expression bound) (Sign symbol.Semicolon))

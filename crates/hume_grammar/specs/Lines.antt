@@ -1,7 +1,6 @@
 -- Reading lines: declarations that stand alone, signatures and equations. So one token of look-ahead is enough.
 use Rattle.std.specs.Prelude.{ℕ, zero, suc, List, [], ◌∷◌, length, Ok}
 use Rattle.hume_base.specs.declared.symbol.Symbol.TheVariants as symbol
-use Rattle.hume_base.specs.declared.token.Kind.{Kind}
 use Rattle.hume_ast.specs.declared.tree.TyExp.{TyExp}
 use Rattle.hume_ast.specs.declared.tree.Pat.{Pat}
 use Rattle.hume_ast.specs.declared.tree.Exp.{Exp}
@@ -66,7 +65,9 @@ no_lines Within ks = Ok ([], ks)
 abbrev pub lines_by : ℕ → ℕ → Place → Reader (List Line)
 lines_by n bound place [] = no_lines place []
 lines_by zero bound place (k ∷ ks) = fault (k ∷ ks)
-lines_by (suc n) bound place (k ∷ ks) = line bound place (k ∷ ks) >>= λ x. lines_by n bound (place_after x.0) x.1 >>= λ others. Ok (x.0 ∷ others.0, others.1)
+lines_by (suc n) bound place (k ∷ ks) =
+    line bound place (k ∷ ks) >>= λ first.
+    lines_by n bound (place_after first.0) first.1 >>= λ others. Ok (first.0 ∷ others.0, others.1)
 
 -- line by line, until the tokens are over
 unfoldable pub lines : ℕ → Place → Reader (List Line)
