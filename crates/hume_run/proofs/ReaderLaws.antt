@@ -181,7 +181,7 @@ rule_told : (operator : BinOp) (amount : ℕ) → rule_in (rule_tree operator am
 rule_told operator amount =
     rw (out_name (codes "x"), out_paren (Binary operator (App (codes "x") []) (Num false amount)), out_binary operator (App (codes "x") []) (Num false amount)) (computed_told operator amount)
 
-box_told : (operator : BinOp) (amount : ℕ) → box_in (BoxD (codes "b") ((codes "x", IntType 32) ∷ []) ((codes "y", IntType 32) ∷ []) false (rule_tree operator amount ∷ []) []) ≡ Some (operator, amount)
+pub box_told : (operator : BinOp) (amount : ℕ) → box_in (BoxD (codes "b") ((codes "x", IntType 32) ∷ []) ((codes "y", IntType 32) ∷ []) false (rule_tree operator amount ∷ []) []) ≡ Some (operator, amount)
 box_told operator amount = rw (out_int 32) (rule_told operator amount)
 
 trees_told : (operator : BinOp) (parts : OneBox) → told_by (trees operator parts) ≡ Some (told_of operator parts)
