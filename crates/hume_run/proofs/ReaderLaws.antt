@@ -226,7 +226,7 @@ same_lines one other e = ap lines_in e
 one_box_told : (text : List ℕ) (program : Program) (parts : OneBox) (is : IsOneBox text program parts) → told_by (unplaced program.decls) ≡ Some (told_of is.operator parts)
 one_box_told text program parts is = ap told_by is.decls ∙ trees_told is.operator parts
 
-abbrev Decided : List ℕ → Program → Type 0
+abbrev pub Decided : List ℕ → Program → Type 0
 Decided text program = ((parts : OneBox) × IsOneBox text program parts) ⊎ ((parts : OneBox) → IsOneBox text program parts → ⊥)
 
 -- what a one-box program's parts have of what its declarations tell
@@ -277,7 +277,7 @@ one_parts text program one other a b =
     let lines : one.lines ≡ other.lines = same_lines one.lines other.lines (sym a.lines ∙ b.lines) in
     (λ i. record { input = (same i).input; op = op i; amount = (same i).amount; output = (same i).output; lines = lines i })
 
-one_accepted : (text : List ℕ) (p q : Program) → IsAccepted text p → IsAccepted text q → p ≡ q
+pub one_accepted : (text : List ℕ) (p q : Program) → IsAccepted text p → IsAccepted text q → p ≡ q
 one_accepted text p q a b =
     let same : b.tokens ≡ a.tokens = one_reading text b.tokens a.tokens b.read.0 a.read.0 in
     one_placed a.tokens p q a.spelled (subst (λ tokens. SpelledBy tokens q) same b.spelled)

@@ -5,8 +5,8 @@ ghost use Rattle.hume_run.specs.Headline.{Ends, Answers};
 ghost use Rattle.hume_run.specs.Owed.{owed_accepted, std_out};
 ghost use Rattle.hume_run.specs.Reports.{IsPlaceOf, IsReport};
 
-use crate::acceptance::{AcceptError, accept};
-use crate::refuse::refuse;
+use crate::acceptance::accept;
+use crate::refuse::end_unaccepted;
 use crate::report::{Report, one_place};
 use crate::settle::settle;
 use crate::status::Status;
@@ -19,10 +19,10 @@ pub fn check_text(alloc: Global, ports: &mut [Box<dyn Port>], text: &[u8], out: 
     ensures { (place : ℕ) (source : List ℕ) → Answers (Check place) source text.now (map view ports.old) (map view ports.new) result }
 {
     match accept(alloc, text) {
-        Ok(_) => tell_accepted(alloc, ports, out),
-        Err(AcceptError::Refused(refusal)) => refuse(alloc, ports, out, refusal),
-        Err(AcceptError::NoMemory) => Status::NoMemory,
+        Ok(_) => {}
+        Err(error) => return end_unaccepted(alloc, ports, out, error),
     }
+    tell_accepted(alloc, ports, out)
 }
 
 fn tell_accepted(alloc: Global, ports: &mut [Box<dyn Port>], out: usize) -> Status

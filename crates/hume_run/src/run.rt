@@ -11,11 +11,11 @@ ghost use Rattle.hume_run.specs.PartsOf.{parts_of};
 ghost use Rattle.hume_run.specs.Reading.{IsInputOf};
 ghost use Rattle.hume_run.specs.Reports.{IsPlaceOf};
 
-use crate::acceptance::{AcceptError, accept};
+use crate::acceptance::accept;
 use crate::box_report::box_report;
 use crate::input::{Input, InputError, read_input};
 use crate::one_box::{Parts, read_one_box};
-use crate::refuse::refuse;
+use crate::refuse::{end_unaccepted, refuse};
 use crate::settle::settle;
 use crate::status::Status;
 use crate::streams::{Streams, find_streams};
@@ -37,11 +37,11 @@ pub fn run_text(
     requires { IsPlaceOf std_out (names (map view ports.old)) out }
     ensures { (place : ℕ) → Answers (Run steps place) source.now text.now (map view ports.old) (map view ports.new) result }
 {
-    match accept(alloc, text) {
-        Ok(program) => run_program(alloc, ports, steps, source, text, &program, out),
-        Err(AcceptError::Refused(refusal)) => refuse(alloc, ports, out, refusal),
-        Err(AcceptError::NoMemory) => Status::NoMemory,
-    }
+    let program = match accept(alloc, text) {
+        Ok(program) => program,
+        Err(error) => return end_unaccepted(alloc, ports, out, error),
+    };
+    run_program(alloc, ports, steps, source, text, &program, out)
 }
 
 fn run_program(
