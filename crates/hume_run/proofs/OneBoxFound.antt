@@ -1,5 +1,5 @@
 -- From the items of a program's declarations to its parts, and back.
-use Rattle.std.proofs.Common.{◌≡◌, ℕ, zero, suc, ◌≤◌, ◌<◌, List, [], ◌∷◌, length, None, Some, true, false, refl, sym, ap, ◌∙◌, subst, codes, arith, slice_index_or}
+use Rattle.std.proofs.Common.{◌≡◌, ℕ, zero, suc, ◌≤◌, ◌<◌, List, [], ◌∷◌, length, None, Some, true, false, refl, sym, ap, ◌∙◌, codes, arith, slice_index_or}
 use Rattle.std.proofs.lemmas.Option.{same_Some}
 use Rattle.hume_base.specs.Places.{line_at}
 use Rattle.hume_ast.specs.declared.tree.TyExp.{Int as IntType}
@@ -8,9 +8,8 @@ use Rattle.hume_ast.specs.declared.tree.Decl.{Decl}
 use Rattle.hume_ast.specs.declared.tree.Decl.TheVariants.{BoxD, Stream, Wire}
 use Rattle.hume_ast.specs.declared.tree.Program.{Program}
 use Rattle.hume_ast.specs.Places.{unplaced}
-use Rattle.hume_model.specs.declared.core_tree.Op.{Op}
 use Rattle.hume_run.specs.declared.one_box.Lines.{Lines}
-use Rattle.hume_run.specs.OneBox.{OneBox, IsOneBox, operation, rule_tree, trees, line_list, decl_lines}
+use Rattle.hume_run.specs.OneBox.{OneBox, IsOneBox, operation, rule_tree, trees, decl_lines}
 use Rattle.hume_run.proofs.OneBoxReading.{Computed, box_in}
 use Rattle.hume_run.proofs.ReaderLaws.{box_told}
 

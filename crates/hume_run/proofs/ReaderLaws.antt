@@ -1,12 +1,10 @@
 -- Whether a program is a one-box program, and of which parts.
 use denote.Hole.Carrier.{roll}
-use Rattle.std.proofs.Common.{◌≡◌, ◌⊎◌, ℕ, ◌≤◌, Bool, true, false, cond, List, [], ◌∷◌, None, Some, Option, refl, sym, ap, ◌∙◌, subst, inl, inr, codes}
-use Rattle.std.specs.Prelude.{◌==◌, ◌&&◌, nat_le}
+use Rattle.std.proofs.Common.{◌≡◌, ◌⊎◌, ℕ, Bool, true, false, cond, List, [], ◌∷◌, None, Some, Option, refl, sym, ap, ◌∙◌, subst, inl, inr, codes}
+use Rattle.std.specs.Prelude.{◌&&◌, nat_le}
 use Rattle.std.specs.Str.{bytes_eq}
 use Rattle.std.proofs.lemmas.Bool.{and_parts, eqb-true, leb-true, le-leb}
 use Rattle.std.proofs.lemmas.Option.{cond_some, same_Some}
-use Rattle.hume_base.specs.declared.token.Token.{Token}
-use Rattle.hume_base.specs.Places.{line_at}
 use Rattle.hume_ast.specs.declared.tree.TyExp.{TyExp, Int as IntType, roll-TyExp, out-TyExp, roll-out-TyExp, out-roll-TyExp}
 use Rattle.hume_ast.specs.declared.tree.TyExp.TheOpen.{TyExp-F}
 use Rattle.hume_ast.specs.declared.tree.Pat.{Pat, Name, roll-Pat, out-Pat, roll-out-Pat, out-roll-Pat}
@@ -239,13 +237,16 @@ with_op : (text : List ℕ) (program : Program) (told : Told) → told_by (unpla
 with_op text program told e op o true few =
     let parts : OneBox = record { input = told.input; op = op; amount = told.amount; output = told.output; lines = lines_in (decl_lines text program) } in
     let decls : unplaced program.decls ≡ trees told.operator parts = told_trees (unplaced program.decls) told e parts refl refl refl in
-    inl (parts, record {
-      operator = told.operator;
-      op = o;
-      amount = leb-true told.amount 999999999 few;
-      decls = decls;
-      lines = five_lines text program.decls _ _ _ _ _ decls;
-    })
+    inl (
+      parts,
+      record {
+        operator = told.operator;
+        op = o;
+        amount = leb-true told.amount 999999999 few;
+        decls = decls;
+        lines = five_lines text program.decls _ _ _ _ _ decls;
+      },
+    )
 with_op text program told e op o false many = inr (λ parts is. (
     let same : told.amount ≡ parts.amount = ap (λ (t : Told). t.amount) (told_parts text program told e parts is) in
     let few : nat_le told.amount 999999999 ≡ true = ap (λ n. nat_le n 999999999) same ∙ le-leb parts.amount 999999999 is.amount in

@@ -17,7 +17,7 @@ use Rattle.hume_run.specs.declared.input.Input.{Input}
 use Rattle.hume_run.specs.declared.order.Order.{Order}
 use Rattle.hume_run.specs.declared.order.Order.TheVariants.{Run, Check}
 use Rattle.hume_run.specs.Accepted.{IsAccepted, Breaks}
-use Rattle.hume_run.specs.OneBox.{OneBox, IsOneBox, Spells, StandsFor, core_of}
+use Rattle.hume_run.specs.OneBox.{OneBox, IsOneBox, StandsFor, core_of}
 use Rattle.hume_run.specs.Owed.{Owed, IsRefusal, broken, not_built, unfit, IsOwed, owed_run, owed_refused, owed_accepted, streams, unfit_line}
 use Rattle.hume_run.specs.Headline.{Ends, Answers, AnswersFrom, source_text}
 use Rattle.hume_run.specs.BoxRuns.{RunsBox}
