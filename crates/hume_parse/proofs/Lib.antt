@@ -7,3 +7,4 @@ pub mod BoxSteps
 pub mod LineSteps
 pub mod Running
 pub mod Faults
+pub mod Answered

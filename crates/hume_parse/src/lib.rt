@@ -6,6 +6,7 @@ mod declarations;
 mod expressions;
 mod fault;
 mod functions;
+mod laws;
 mod lines;
 mod operators;
 mod parser;
@@ -15,4 +16,5 @@ mod tokens;
 mod trees;
 mod types;
 
+pub use laws::each_list_is_answered;
 pub use parser::{ParseError, parse};

@@ -1,8 +1,9 @@
--- From the parts of a run to the whole.
+-- From the parts of a call to the whole.
 use Rattle.std.proofs.Common.{◌≡◌, ℕ, Bool, true, false, ◌||◌, List, [], ◌∷◌, ◌++◌, Option, Some, None, IfSome, refl, ap, sym, ◌∙◌, subst, inl, inr}
 use Rattle.std.specs.Str.{bytes_eq}
 use Rattle.hume_base.specs.declared.rule.Refusal.{Refusal}
 use Rattle.hume_base.specs.declared.rule.Rule.TheVariants.{NotBuilt, C55}
+use Rattle.hume_ast.specs.declared.tree.Program.{Program}
 use Rattle.hume_model.specs.declared.core_tree.Core.{Core}
 use Rattle.hume_ports.specs.Port.{PortView}
 use Rattle.hume_ports.specs.Ports.{names, is_among, left_of, place_of, ForNameAt, Untouched}
@@ -13,14 +14,17 @@ use Rattle.hume_ports.proofs.Untouched.{Untouched-start, of_first-untouched}
 use Rattle.hume_run.specs.declared.status.Status.{Status}
 use Rattle.hume_run.specs.declared.status.Status.TheVariants.{Fault, NoMemory}
 use Rattle.hume_run.specs.declared.input.Input.{Input}
-use Rattle.hume_run.specs.OneBox.{OneBox, Spells, StandsFor, core_of}
-use Rattle.hume_run.specs.Owed.{Owed, IsOwed, owed_run, owed_refused, streams, unfit_line}
-use Rattle.hume_run.specs.Headline.{Ends, Runs, RunsFrom, source_text}
+use Rattle.hume_run.specs.declared.order.Order.{Order}
+use Rattle.hume_run.specs.declared.order.Order.TheVariants.{Run, Check}
+use Rattle.hume_run.specs.Accepted.{IsAccepted, Breaks}
+use Rattle.hume_run.specs.OneBox.{OneBox, IsOneBox, StandsFor, core_of}
+use Rattle.hume_run.specs.Owed.{Owed, IsRefusal, broken, not_built, unfit, IsOwed, owed_run, owed_refused, owed_accepted, streams, unfit_line}
+use Rattle.hume_run.specs.Headline.{Ends, Answers, AnswersFrom, source_text}
 use Rattle.hume_run.specs.BoxRuns.{RunsBox}
 use Rattle.hume_run.specs.Reading.{GivesInput, IsInputOf, ReadsSome, FailsToRead}
 use Rattle.hume_run.specs.Reports.{IsPlaceOf}
-use Rattle.hume_run.proofs.Reader.{parts_read}
-use Rattle.hume_run.proofs.ReaderLaws.{read_spells, none_read}
+use Rattle.hume_run.proofs.Accepting.{IsJudged, judged}
+use Rattle.hume_run.proofs.ReaderLaws.{Decided, one_box_decided, one_accepted}
 use Rattle.hume_run.proofs.Ending.{ends_without_memory}
 use Rattle.hume_run.proofs.Phases.{ends_after, ends_unread, ends_unstarted, read_touched}
 use Rattle.hume_run.proofs.Texts.{told_texts, told_by_all, texts_with, text_with, told_by_others}
@@ -86,85 +90,134 @@ pub input_of_some : (steps : ℕ) (olds mids : List PortView) (at : ℕ) (name :
     → ForNameAt at olds (λ n. GivesInput steps n olds mids input) → (text : List ℕ) × IsInputOf steps text input
 input_of_some steps olds mids at name input place given = let g = given name (meant name (names olds) at place) in (g.text, g.is_input)
 
--- ---- the run of a source
+-- ---- a call of an accepted source, or of a refused one
 
-pub not_built_runs : (steps : ℕ) (source text : List ℕ) (olds news : List PortView) (status : Status) (refusal : Refusal)
-    → ((parts : OneBox) → Spells parts text → ⊥) → refusal ≡ record { rule = NotBuilt; line = 1 }
-    → ((source : List ℕ) → Ends (owed_refused source refusal) olds news status) → Runs steps source text olds news status
-not_built_runs steps source text olds news status refusal none is ends = record {
+-- a refused source, whatever is asked
+broken_owed : (order : Order) (source text : List ℕ) (ns : List (List ℕ)) (texts : List ℕ → List ℕ) (refusal : Refusal) → Breaks text refusal
+    → IsOwed order source text ns texts (owed_refused source refusal)
+broken_owed (Run steps place) source text ns texts refusal breaks = inl (refusal, broken refusal breaks, refl)
+broken_owed (Check place) source text ns texts refusal breaks = inl (refusal, breaks, refl)
+
+-- an answer that needs nothing of the ports' texts
+abbrev owed_answers : (order : Order) (source text : List ℕ) (olds news : List PortView) (status : Status) (owed : Owed)
+    → IsOwed order source text (names olds) (told_texts olds) owed → Ends owed olds news status → Answers order source text olds news status
+owed_answers order source text olds news status owed owes ends = record {
   texts = told_texts olds;
   told = λ name other. told_by_all olds name;
-  owed = owed_refused source refusal;
-  owes = inl (refusal, inl ((λ core stands. none stands.parts stands.spelled), is), refl);
-  ends = ends source;
+  owed = owed;
+  owes = owes;
+  ends = ends;
 }
 
-pub unfit_runs : (steps : ℕ) (source text : List ℕ) (parts : OneBox) (olds news : List PortView) (status : Status) (refusal : Refusal) → Spells parts text
+pub refused_answers : (order : Order) (source text : List ℕ) (olds news : List PortView) (status : Status) (refusal : Refusal) → Breaks text refusal
+    → ((source : List ℕ) → Ends (owed_refused source refusal) olds news status) → Answers order source text olds news status
+refused_answers order source text olds news status refusal breaks ends =
+    owed_answers order source text olds news status (owed_refused source refusal) (broken_owed order source text (names olds) (told_texts olds) refusal breaks) (ends source)
+
+pub check_answers : (place : ℕ) (source text : List ℕ) (olds news : List PortView) (status : Status) (program : Program) → IsAccepted text program
+    → ((source : List ℕ) → Ends (owed_accepted source) olds news status) → Answers (Check place) source text olds news status
+check_answers place source text olds news status program accepted ends =
+    owed_answers (Check place) source text olds news status (owed_accepted source) (inr (program, accepted, refl)) (ends source)
+
+-- an accepted program that isn't a one-box program stands for no core
+no_core : (text : List ℕ) (program : Program) → IsAccepted text program → ((parts : OneBox) → IsOneBox text program parts → ⊥) → (core : Core) → StandsFor text core → ⊥
+no_core text program accepted none core stands =
+    none stands.parts (subst (λ p. IsOneBox text p stands.parts) (one_accepted text stands.spelled.program program stands.spelled.accepted accepted) stands.spelled.is)
+
+-- the core of an accepted one-box program
+stands_for : (text : List ℕ) (program : Program) (parts : OneBox) → IsAccepted text program → IsOneBox text program parts → StandsFor text (core_of parts)
+stands_for text program parts accepted is = record {
+  parts = parts;
+  spelled = record { program = program; accepted = accepted; is = is };
+  is = refl;
+}
+
+pub not_built_answers : (place steps : ℕ) (source text : List ℕ) (olds news : List PortView) (status : Status) (refusal : Refusal) (program : Program) → IsAccepted text program
+    → ((parts : OneBox) → IsOneBox text program parts → ⊥) → refusal ≡ record { rule = NotBuilt; line = 1 }
+    → ((source : List ℕ) → Ends (owed_refused source refusal) olds news status) → Answers (Run steps place) source text olds news status
+not_built_answers place steps source text olds news status refusal program accepted none is ends =
+    let refuses : IsRefusal text (names olds) source refusal = subst (IsRefusal text (names olds) source) (sym is) (not_built program accepted (no_core text program accepted none)) in
+    owed_answers (Run steps place) source text olds news status (owed_refused source refusal) (inl (refusal, refuses, refl)) (ends source)
+
+pub unfit_answers : (place steps : ℕ) (source text : List ℕ) (olds news : List PortView) (status : Status) (refusal : Refusal) (program : Program) (parts : OneBox) → IsAccepted text program
+    → IsOneBox text program parts
     → ((line : ℕ) × (unfit_line (names olds) source [] (streams (core_of parts)) ≡ Some line) × (refusal ≡ record { rule = C55; line = line }))
-    → ((source : List ℕ) → Ends (owed_refused source refusal) olds news status) → Runs steps source text olds news status
-unfit_runs steps source text parts olds news status refusal spells unfit ends = record {
-  texts = told_texts olds;
-  told = λ name other. told_by_all olds name;
-  owed = owed_refused source refusal;
-  owes = inl (refusal, inr (core_of parts, record { parts = parts; spelled = spells; is = refl }, unfit.0, unfit.1, unfit.2), refl);
-  ends = ends source;
-}
+    → ((source : List ℕ) → Ends (owed_refused source refusal) olds news status) → Answers (Run steps place) source text olds news status
+unfit_answers place steps source text olds news status refusal program parts accepted is found ends =
+    let refuses : IsRefusal text (names olds) source refusal =
+    subst (IsRefusal text (names olds) source) (sym found.2) (unfit (core_of parts) (stands_for text program parts accepted is) found.0 found.1) in
+    owed_answers (Run steps place) source text olds news status (owed_refused source refusal) (inl (refusal, refuses, refl)) (ends source)
 
-pub accepted_runs : (steps : ℕ) (source text : List ℕ) (parts : OneBox) (olds news : List PortView) (status : Status) → Spells parts text
-    → unfit_line (names olds) source [] (streams (core_of parts)) ≡ None → RunsBox steps parts olds news status → Runs steps source text olds news status
-accepted_runs steps source text parts olds news status spells fit runs = record {
+pub run_answers : (place steps : ℕ) (source text : List ℕ) (olds news : List PortView) (status : Status) (program : Program) (parts : OneBox) → IsAccepted text program
+    → IsOneBox text program parts → unfit_line (names olds) source [] (streams (core_of parts)) ≡ None → RunsBox steps parts olds news status
+    → Answers (Run steps place) source text olds news status
+run_answers place steps source text olds news status program parts accepted is fit runs = record {
   texts = runs.texts;
   told = λ name other. runs.told name;
   owed = owed_run steps source runs.texts (core_of parts);
-  owes = inr (core_of parts, record { parts = parts; spelled = spells; is = refl }, fit, refl);
+  owes = inr (core_of parts, stands_for text program parts accepted is, fit, refl);
   ends = runs.ends source;
 }
 
--- ---- the run from its source's port
+-- ---- whatever the text, something is owed
+
+run_owed : (place steps : ℕ) (source text : List ℕ) (ns : List (List ℕ)) (texts : List ℕ → List ℕ) (core : Core) (line : Option ℕ) → StandsFor text core
+    → unfit_line ns source [] (streams core) ≡ line → (owed : Owed) × IsOwed (Run steps place) source text ns texts owed
+run_owed place steps source text ns texts core None stands fit = (owed_run steps source texts core, inr (core, stands, fit, refl))
+run_owed place steps source text ns texts core (Some line) stands found =
+    let refusal : Refusal = record { rule = C55; line = line } in
+    (owed_refused source refusal, inl (refusal, unfit core stands line found, refl))
+
+program_owed : (place steps : ℕ) (source text : List ℕ) (ns : List (List ℕ)) (texts : List ℕ → List ℕ) (program : Program) → IsAccepted text program
+    → Decided text program → (owed : Owed) × IsOwed (Run steps place) source text ns texts owed
+program_owed place steps source text ns texts program accepted (inl (parts, is)) =
+    run_owed place steps source text ns texts (core_of parts) (unfit_line ns source [] (streams (core_of parts))) (stands_for text program parts accepted is) refl
+program_owed place steps source text ns texts program accepted (inr none) =
+    let refusal : Refusal = record { rule = NotBuilt; line = 1 } in
+    (owed_refused source refusal, inl (refusal, not_built program accepted (no_core text program accepted none), refl))
+
+judged_owed : (order : Order) (source text : List ℕ) (ns : List (List ℕ)) (texts : List ℕ → List ℕ) → IsJudged text → (owed : Owed) × IsOwed order source text ns texts owed
+judged_owed order source text ns texts (inr (refusal, breaks)) = (owed_refused source refusal, broken_owed order source text ns texts refusal breaks)
+judged_owed (Run steps place) source text ns texts (inl (program, accepted)) = program_owed place steps source text ns texts program accepted (one_box_decided text program)
+judged_owed (Check place) source text ns texts (inl (program, accepted)) = (owed_accepted source, inr (program, accepted, refl))
+
+pub something_owed : (order : Order) (source text : List ℕ) (ns : List (List ℕ)) (texts : List ℕ → List ℕ) → (owed : Owed) × IsOwed order source text ns texts owed
+something_owed order source text ns texts = judged_owed order source text ns texts (judged text)
+
+-- memory was refused before any port was called
+pub answers_unstarted : (order : Order) (source text : List ℕ) (olds : List PortView) → Answers order source text olds olds NoMemory
+answers_unstarted order source text olds =
+    let owed = something_owed order source text (names olds) (told_texts olds) in
+    owed_answers order source text olds olds NoMemory owed.0 owed.1
+    (ends_without_memory owed.0 olds olds [] (Progress-start olds) (Untouched-start (owed.0.reads ++ owed.0.finishes) olds))
+
+-- ---- the call from its source's port
 
 first_among : (one : List ℕ) (others : List (List ℕ)) → is_among one (one ∷ others) ≡ true
 first_among one others = rw (bytes_eq-self one) refl
 
 -- the source's port is always read
-owed_reads : (steps : ℕ) (source text : List ℕ) (ns : List (List ℕ)) (texts : List ℕ → List ℕ) (owed : Owed) → IsOwed steps source text ns texts owed → is_among source owed.reads ≡ true
-owed_reads steps source text ns texts owed (inl (refusal, is, same)) = ap (λ o. is_among source o.reads) same ∙ first_among source []
-owed_reads steps source text ns texts owed (inr (core, stands, fit, same)) = ap (λ o. is_among source o.reads) same ∙ first_among source _
+owed_reads : (order : Order) (source text : List ℕ) (ns : List (List ℕ)) (texts : List ℕ → List ℕ) (owed : Owed) → IsOwed order source text ns texts owed → is_among source owed.reads ≡ true
+owed_reads (Run steps place) source text ns texts owed (inl (refusal, is, same)) = ap (λ o. is_among source o.reads) same ∙ first_among source []
+owed_reads (Run steps place) source text ns texts owed (inr (core, stands, fit, same)) = ap (λ o. is_among source o.reads) same ∙ first_among source _
+owed_reads (Check place) source text ns texts owed (inl (refusal, is, same)) = ap (λ o. is_among source o.reads) same ∙ first_among source []
+owed_reads (Check place) source text ns texts owed (inr (program, is, same)) = ap (λ o. is_among source o.reads) same ∙ first_among source []
 
-pub runs_after : (steps : ℕ) (source text : List ℕ) (olds mids news : List PortView) (status : Status) → Progress olds mids ((source, text) ∷ []) []
-    → Untouched (source ∷ []) olds mids → Runs steps source text mids news status → Runs steps source text olds news status
-runs_after steps source text olds mids news status progress untouched runs =
-    let N : List (List ℕ) → Type 0 = λ ns. IsOwed steps source text ns runs.texts runs.owed in
+answers_after : (order : Order) (source text : List ℕ) (olds mids news : List PortView) (status : Status) → Progress olds mids ((source, text) ∷ []) []
+    → Untouched (source ∷ []) olds mids → Answers order source text mids news status → Answers order source text olds news status
+answers_after order source text olds mids news status progress untouched answers =
+    let N : List (List ℕ) → Type 0 = λ ns. IsOwed order source text ns answers.texts answers.owed in
     record {
-      texts = runs.texts;
+      texts = answers.texts;
       told = λ name other. (
-          let L : Option (List ℕ) → Type 0 = λ left. IfSome left (λ bytes. runs.texts name ≡ bytes) in
+          let L : Option (List ℕ) → Type 0 = λ left. IfSome left (λ bytes. answers.texts name ≡ bytes) in
           let apart : is_among name (source ∷ []) ≡ false = rw other refl in
-          subst L (of_first-untouched None (λ port. port.left) name (source ∷ []) olds mids apart progress.same_names untouched) (runs.told name other));
-      owed = runs.owed;
-      owes = subst N progress.same_names runs.owes;
-      ends = ends_after runs.owed olds mids news status ((source, text) ∷ []) progress
-          (read_touched runs.owed olds mids source (owed_reads steps source text (names mids) runs.texts runs.owed runs.owes) untouched) runs.ends;
+          subst L (of_first-untouched None (λ port. port.left) name (source ∷ []) olds mids apart progress.same_names untouched) (answers.told name other));
+      owed = answers.owed;
+      owes = subst N progress.same_names answers.owes;
+      ends = ends_after answers.owed olds mids news status ((source, text) ∷ []) progress
+          (read_touched answers.owed olds mids source (owed_reads order source text (names mids) answers.texts answers.owed answers.owes) untouched) answers.ends;
     }
-
-owed_accepted : (steps : ℕ) (source text : List ℕ) (ns : List (List ℕ)) (texts : List ℕ → List ℕ) (core : Core) (line : Option ℕ) → StandsFor text core
-    → unfit_line ns source [] (streams core) ≡ line → (owed : Owed) × IsOwed steps source text ns texts owed
-owed_accepted steps source text ns texts core None stands fit = (owed_run steps source texts core, inr (core, stands, fit, refl))
-owed_accepted steps source text ns texts core (Some line) stands unfit =
-    let refusal : Refusal = record { rule = C55; line = line } in
-    (owed_refused source refusal, inl (refusal, inr (core, stands, line, unfit, refl), refl))
-
-owed_read : (steps : ℕ) (source text : List ℕ) (ns : List (List ℕ)) (texts : List ℕ → List ℕ) (read : Option OneBox) → parts_read text ≡ read
-    → (owed : Owed) × IsOwed steps source text ns texts owed
-owed_read steps source text ns texts None e =
-    let refusal : Refusal = record { rule = NotBuilt; line = 1 } in
-    (owed_refused source refusal, inl (refusal, inl ((λ core stands. none_read text e stands.parts stands.spelled), refl), refl))
-owed_read steps source text ns texts (Some parts) e =
-    owed_accepted steps source text ns texts (core_of parts) (unfit_line ns source [] (streams (core_of parts)))
-    (record { parts = parts; spelled = read_spells text parts e; is = refl }) refl
-
--- whatever the text, something is owed
-pub something_owed : (steps : ℕ) (source text : List ℕ) (ns : List (List ℕ)) (texts : List ℕ → List ℕ) → (owed : Owed) × IsOwed steps source text ns texts owed
-something_owed steps source text ns texts = owed_read steps source text ns texts (parts_read text) refl
 
 -- the text of a source that wasn't read
 some_text : (left : Option (List ℕ)) → (text : List ℕ) × IfSome left (λ bytes. text ≡ source_text bytes)
@@ -172,48 +225,49 @@ some_text None = ([], tt)
 some_text (Some bytes) = (source_text bytes, refl)
 
 -- a call that didn't get to its source, whatever the source is
-ends_anyhow : (steps : ℕ) (source : List ℕ) (olds news : List PortView) (status : Status)
-    → ((owed : Owed) → is_among source owed.reads ≡ true → Ends owed olds news status) → RunsFrom steps source olds news status
-ends_anyhow steps source olds news status ends =
+ends_anyhow : (order : Order) (source : List ℕ) (olds news : List PortView) (status : Status)
+    → ((owed : Owed) → is_among source owed.reads ≡ true → Ends owed olds news status) → AnswersFrom order source olds news status
+ends_anyhow order source olds news status ends =
     let text = some_text (left_of source olds) in
-    let owed = something_owed steps source text.0 (names olds) (told_texts olds) in
+    let owed = something_owed order source text.0 (names olds) (told_texts olds) in
     record {
       text = text.0;
       told = text.1;
-      runs = record {
-        texts = told_texts olds;
-        told = λ name other. told_by_all olds name;
-        owed = owed.0;
-        owes = owed.1;
-        ends = ends owed.0 (owed_reads steps source text.0 (names olds) (told_texts olds) owed.0 owed.1);
-      };
+      answers = owed_answers order source text.0 olds news status owed.0 owed.1
+          (ends owed.0 (owed_reads order source text.0 (names olds) (told_texts olds) owed.0 owed.1));
     }
 
-pub source_unread : (steps : ℕ) (source : List ℕ) (olds news : List PortView) (at : ℕ) → IsPlaceOf source (names olds) at
+pub source_unread : (order : Order) (source : List ℕ) (olds news : List PortView) (at : ℕ) → IsPlaceOf source (names olds) at
     → ForNameAt at olds (λ name. (taken : Pairs) × ReadFailure name olds news taken []) → (Roomy olds [] → ⊥)
-    → ForNameAt at olds (λ name. Untouched (name ∷ []) olds news) → RunsFrom steps source olds news Fault
-source_unread steps source olds news at place failed no_room untouched =
+    → ForNameAt at olds (λ name. Untouched (name ∷ []) olds news) → AnswersFrom order source olds news Fault
+source_unread order source olds news at place failed no_room untouched =
     let e = meant source (names olds) at place in
     let f = failed source e in
-    ends_anyhow steps source olds news Fault (λ owed reads. ends_unread owed olds news source f.0 reads f.1 no_room (untouched source e))
+    ends_anyhow order source olds news Fault (λ owed reads. ends_unread owed olds news source f.0 reads f.1 no_room (untouched source e))
 
-pub source_unstarted : (steps : ℕ) (source : List ℕ) (olds news : List PortView) → news ≡ olds → RunsFrom steps source olds news NoMemory
-source_unstarted steps source olds news same =
-    let P : List PortView → Type 0 = λ ports. RunsFrom steps source olds ports NoMemory in
-    subst P (sym same) (ends_anyhow steps source olds olds NoMemory (λ owed reads. ends_without_memory owed olds olds [] (Progress-start olds) (Untouched-start (owed.reads ++ owed.finishes) olds)))
+pub source_unstarted : (order : Order) (source : List ℕ) (olds news : List PortView) → news ≡ olds → AnswersFrom order source olds news NoMemory
+source_unstarted order source olds news same =
+    let P : List PortView → Type 0 = λ ports. AnswersFrom order source olds ports NoMemory in
+    subst P (sym same) (ends_anyhow order source olds olds NoMemory (λ owed reads. ends_without_memory owed olds olds [] (Progress-start olds) (Untouched-start (owed.reads ++ owed.finishes) olds)))
 
-pub runs_from : (steps : ℕ) (source text : List ℕ) (olds mids news : List PortView) (at : ℕ) (status : Status) → IsPlaceOf source (names olds) at
+pub answers_from : (order : Order) (source text : List ℕ) (olds mids news : List PortView) (at : ℕ) (status : Status) → IsPlaceOf source (names olds) at
     → ForNameAt at olds (λ name. Progress olds mids ((name, text) ∷ []) [])
     → ForNameAt at olds (λ name. IfSome (left_of name olds) (λ left. text ≡ source_text left))
     → ForNameAt at olds (λ name. Untouched (name ∷ []) olds mids)
-    → Runs steps source text mids news status → RunsFrom steps source olds news status
-runs_from steps source text olds mids news at status place taken told untouched runs =
+    → Answers order source text mids news status → AnswersFrom order source olds news status
+answers_from order source text olds mids news at status place taken told untouched answers =
     let e = meant source (names olds) at place in
-    record { text = text; told = told source e; runs = runs_after steps source text olds mids news status (taken source e) (untouched source e) runs }
+    record { text = text; told = told source e; answers = answers_after order source text olds mids news status (taken source e) (untouched source e) answers }
 
-pub same_runs : (steps : ℕ) (source other text copy : List ℕ) (olds news : List PortView) (status : Status) → other ≡ source → copy ≡ text
-    → Runs steps other copy olds news status → Runs steps source text olds news status
-same_runs steps source other text copy olds news status same_source same_text runs =
-    let P : List ℕ → Type 0 = λ s. Runs steps s text olds news status in
-    let Q : List ℕ → Type 0 = λ t. Runs steps other t olds news status in
-    subst P same_source (subst Q same_text runs)
+pub same_answers : (order : Order) (source other text copy : List ℕ) (olds news : List PortView) (status : Status) → other ≡ source → copy ≡ text
+    → Answers order other copy olds news status → Answers order source text olds news status
+same_answers order source other text copy olds news status same_source same_text answers =
+    let P : List ℕ → Type 0 = λ s. Answers order s text olds news status in
+    let Q : List ℕ → Type 0 = λ t. Answers order other t olds news status in
+    subst P same_source (subst Q same_text answers)
+
+pub of_order : (order told : Order) (source text : List ℕ) (olds news : List PortView) (status : Status) → order ≡ told
+    → Answers told source text olds news status → Answers order source text olds news status
+of_order order told source text olds news status same answers =
+    let P : Order → Type 0 = λ o. Answers o source text olds news status in
+    subst P (sym same) answers

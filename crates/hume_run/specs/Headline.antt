@@ -9,7 +9,8 @@ use Rattle.hume_ports.specs.Delivery.{Pairs, Delivered, SameFaults, ReadFailure,
 use Rattle.hume_run.specs.declared.status.Status.{Status}
 use Rattle.hume_run.specs.declared.status.Status.TheVariants.{Usage, Fault, NoMemory}
 use Rattle.hume_run.specs.Statuses.{IsAnswer}
-use Rattle.hume_run.specs.Words.{order_of, steps_of, source_of}
+use Rattle.hume_run.specs.declared.order.Order.{Order}
+use Rattle.hume_run.specs.Words.{order_of, source_of}
 use Rattle.hume_run.specs.Owed.{Owed, IsOwed, std_out}
 
 -- The words have no form, or there is no port `std_out`, or none with the source's name.
@@ -72,11 +73,11 @@ IsText source ports texts =
     (name : List ℕ) → bytes_eq name source ≡ false → IfSome (left_of name ports) (λ left. texts name ≡ left)
 
 -- The call ends as one of a source with that text. Of a port that doesn't tell what it has left, some text is spoken of.
-pub record Runs (steps : ℕ) (source text : List ℕ) (old new : List PortView) (status : Status) : Type 0 where
+pub record Answers (order : Order) (source text : List ℕ) (old new : List PortView) (status : Status) : Type 0 where
   pub texts : List ℕ → List ℕ
   pub told : IsText source old texts
   pub owed : Owed
-  pub owes : IsOwed steps source text (names old) texts owed
+  pub owes : IsOwed order source text (names old) texts owed
   pub ends : Ends owed old new status
 
 -- a source is read to its end, or to one byte more than a source may have
@@ -84,12 +85,12 @@ abbrev pub source_text : List ℕ → List ℕ
 source_text left = take (MAX_SOURCE_BYTES + 1) left
 
 -- The call reads its source from the port of that name, and ends as the source says.
-pub record RunsFrom (steps : ℕ) (source : List ℕ) (old new : List PortView) (status : Status) : Type 0 where
+pub record AnswersFrom (order : Order) (source : List ℕ) (old new : List PortView) (status : Status) : Type 0 where
   pub text : List ℕ
   pub told : IfSome (left_of source old) (λ left. text ≡ source_text left)
-  pub runs : Runs steps source text old new status
+  pub answers : Answers order source text old new status
 
--- Words with a form, over ports that are there, are a run of the source.
+-- Words with a form, over ports that are there, are answered as the source says.
 abbrev pub Headline : List (List ℕ) → List PortView → List PortView → Status → Type 0
 Headline words old new status = IfSome (order_of words) (λ order.
-    (status ≡ Usage → ⊥) → RunsFrom (steps_of order) (source_of words order) old new status)
+    (status ≡ Usage → ⊥) → AnswersFrom order (source_of words order) old new status)

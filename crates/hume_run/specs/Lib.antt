@@ -1,5 +1,6 @@
 pub mod Statuses
 pub mod Words
+pub mod Accepted
 pub mod OneBox
 pub mod Inputs
 pub mod Reading
@@ -9,5 +10,4 @@ pub mod Reports
 pub mod Places
 pub mod PartsOf
 pub mod BoxReports
-pub mod Pieces
 pub mod BoxRuns

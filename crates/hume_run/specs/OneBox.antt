@@ -1,8 +1,16 @@
 -- The part of the language that is built: one box between an input and an output stream.
-use Rattle.std.specs.Prelude.{◌≡◌, ◌≢◌, ℕ, ◌<◌, ◌≤◌, List, [], ◌∷◌, ◌++◌, length, All, None, Some, false, codes, IsTrue, ⊤}
-use Rattle.std.specs.Str.{all_ascii_digits}
-use Rattle.std.specs.Str.Parse.{digits_value}
+use Rattle.std.specs.Prelude.{◌≡◌, ℕ, ◌≤◌, List, [], ◌∷◌, map, Option, None, Some, true, false, codes}
+use Rattle.hume_base.specs.Places.{line_at}
 use Rattle.hume_base.specs.declared.types.Ty.{Ty, Int}
+use Rattle.hume_ast.specs.declared.tree.TyExp.{Int as IntType}
+use Rattle.hume_ast.specs.declared.tree.Pat.{Pat, Name}
+use Rattle.hume_ast.specs.declared.tree.BinOp.{BinOp}
+use Rattle.hume_ast.specs.declared.tree.BinOp.TheVariants as op
+use Rattle.hume_ast.specs.declared.tree.Exp.{Exp, Paren, Binary, App, Num}
+use Rattle.hume_ast.specs.declared.tree.Decl.{Decl}
+use Rattle.hume_ast.specs.declared.tree.Decl.TheVariants.{BoxD, Stream, Wire}
+use Rattle.hume_ast.specs.declared.tree.Program.{Program}
+use Rattle.hume_ast.specs.Places.{unplaced}
 use Rattle.hume_model.specs.declared.core_tree.Op.{Op}
 use Rattle.hume_model.specs.declared.core_tree.Op.TheVariants.{Add, Sub, Mul}
 use Rattle.hume_model.specs.declared.core_tree.Expr.TheVariants.{Word, Var, Prim}
@@ -14,58 +22,52 @@ use Rattle.hume_model.specs.declared.core_tree.ExnDef.{ExnDef}
 use Rattle.hume_model.specs.declared.core_tree.BoxC.{BoxC}
 use Rattle.hume_model.specs.declared.core_tree.NodeC.TheVariants.{Rules, From, To}
 use Rattle.hume_model.specs.declared.core_tree.Core.{Core}
+use Rattle.hume_run.specs.declared.one_box.Lines.{Lines}
+use Rattle.hume_run.specs.Accepted.{IsAccepted}
 
--- What is free in a one-box source: the ports of its streams, the operation, and the digits of its right operand.
+-- What is free in a one-box source: the ports of its streams, the operation, its right operand, and the lines.
 pub record OneBox : Type 0 where
   pub input : List ℕ
   pub op : Op
-  pub digits : List ℕ
+  pub amount : ℕ
   pub output : List ℕ
+  pub lines : Lines
 
--- a byte that may stand in a port's name: 32 to 126 but the double quote
-pub record IsNameByte (byte : ℕ) : Type 0 where
-  pub from_space : 32 ≤ byte
-  pub to_tilde : byte ≤ 126
-  pub no_quote : byte ≢ 34
+-- the operation of an operator, if a one-box source may have it
+abbrev pub operation : BinOp → Option Op
+operation op.Add = Some Add
+operation op.Sub = Some Sub
+operation op.Mul = Some Mul
+operation _ = None
 
--- 1 to 255 such bytes
-pub record IsPortName (name : List ℕ) : Type 0 where
-  pub some : 0 < length name
-  pub few : length name ≤ 255
-  pub bytes : All IsNameByte name
+-- (x) -> (x OPERATOR AMOUNT)
+abbrev pub rule_tree : BinOp → ℕ → List Pat × Exp
+rule_tree operator amount = (Name (codes "x") ∷ [], Paren (Binary operator (App (codes "x") []) (Num false amount)))
 
--- one to nine digits
-pub record IsOperand (digits : List ℕ) : Type 0 where
-  pub some : 0 < length digits
-  pub few : length digits ≤ 9
-  pub decimal : IsTrue (all_ascii_digits digits)
+-- Its five declarations: a box, an input stream and an output stream, and the two wires between them.
+abbrev pub trees : BinOp → OneBox → List Decl
+trees operator parts =
+    BoxD (codes "b") ((codes "x", IntType 32) ∷ []) ((codes "y", IntType 32) ∷ []) false (rule_tree operator parts.amount ∷ []) []
+    ∷ Stream (codes "s") true parts.input
+    ∷ Stream (codes "t") false parts.output
+    ∷ Wire (codes "s", None) (codes "b", Some (codes "x")) None
+    ∷ Wire (codes "b", Some (codes "y")) (codes "t", None) None
+    ∷ []
 
--- the operations that a one-box source may have
-abbrev pub IsSigned : Op → Type 0
-IsSigned Add = ⊤
-IsSigned Sub = ⊤
-IsSigned Mul = ⊤
-IsSigned _ = ⊥
+abbrev pub line_list : Lines → List ℕ
+line_list lines = lines.boxed ∷ lines.input ∷ lines.output ∷ lines.wire_in ∷ lines.wire_out ∷ []
 
-pub record IsOneBox (parts : OneBox) : Type 0 where
-  pub input : IsPortName parts.input
-  pub op : IsSigned parts.op
-  pub operand : IsOperand parts.digits
-  pub output : IsPortName parts.output
+-- the line of each declaration of a program, in the source of that text
+abbrev pub decl_lines : List ℕ → Program → List ℕ
+decl_lines text program = map (λ (decl : ℕ × Decl). line_at text decl.0) program.decls
 
-abbrev pub op_sign : Op → ℕ
-op_sign Add = 43
-op_sign Sub = 45
-op_sign Mul = 42
-op_sign _ = 0
-
--- its six lines
-abbrev pub text_of : OneBox → List ℕ
-text_of parts =
-    codes "box b in (x :: int 32) out (y :: int 32)\nmatch (x) -> (x " ++ (op_sign parts.op ∷ 32 ∷ parts.digits)
-    ++ codes ") ;\nstream s from \"" ++ parts.input
-    ++ codes "\" ;\nstream t to \"" ++ parts.output
-    ++ codes "\" ;\nwire s to b.x ;\nwire b.y to t ;\n"
+-- The program is a box of these parts between two streams. Its operand has at most nine digits.
+pub record IsOneBox (text : List ℕ) (program : Program) (parts : OneBox) : Type 0 where
+  pub operator : BinOp
+  pub op : operation operator ≡ Some parts.op
+  pub amount : parts.amount ≤ 999999999
+  pub decls : unplaced program.decls ≡ trees operator parts
+  pub lines : decl_lines text program ≡ line_list parts.lines
 
 abbrev pub int_32 : Ty
 int_32 = Int 32
@@ -74,13 +76,13 @@ int_32 = Int 32
 abbrev pub one_rule : OneBox → RuleC
 one_rule parts = record {
   pats = Built Variable ∷ [];
-  result = Outs (Some (Prim parts.op int_32 (Var 0 ∷ Word (digits_value 10 parts.digits) ∷ [])) ∷ []);
+  result = Outs (Some (Prim parts.op int_32 (Var 0 ∷ Word parts.amount ∷ [])) ∷ []);
 }
 
 abbrev pub one_box : OneBox → BoxC
 one_box parts = record {
   name = codes "b";
-  line = 1;
+  line = parts.lines.boxed;
   ins = record { name = codes "x"; ty = int_32 } ∷ [];
   outs = record { name = codes "y"; ty = int_32 } ∷ [];
   fair = false;
@@ -103,22 +105,23 @@ core_of parts = record {
   funs = [];
   nodes =
       Rules (one_box parts)
-      ∷ From (record { name = codes "s"; line = 3; port = parts.input })
-      ∷ To (record { name = codes "t"; line = 4; port = parts.output })
+      ∷ From (record { name = codes "s"; line = parts.lines.input; port = parts.input })
+      ∷ To (record { name = codes "t"; line = parts.lines.output; port = parts.output })
       ∷ [];
   wires =
-      record { line = 5; from = 1; from_port = 0; to = 0; to_port = 0; ty = int_32; initial = None }
-      ∷ record { line = 6; from = 0; from_port = 0; to = 2; to_port = 0; ty = int_32; initial = None }
+      record { line = parts.lines.wire_in; from = 1; from_port = 0; to = 0; to_port = 0; ty = int_32; initial = None }
+      ∷ record { line = parts.lines.wire_out; from = 0; from_port = 0; to = 2; to_port = 0; ty = int_32; initial = None }
       ∷ [];
 }
 
--- The source is the text of these parts.
-pub record Spells (parts : OneBox) (source : List ℕ) : Type 0 where
-  pub proper : IsOneBox parts
-  pub text : source ≡ text_of parts
+-- The source is accepted, and is a box of these parts between two streams.
+pub record Spells (parts : OneBox) (text : List ℕ) : Type 0 where
+  pub program : Program
+  pub accepted : IsAccepted text program
+  pub is : IsOneBox text program parts
 
 -- The source stands for the core.
-pub record StandsFor (source : List ℕ) (core : Core) : Type 0 where
+pub record StandsFor (text : List ℕ) (core : Core) : Type 0 where
   pub parts : OneBox
-  pub spelled : Spells parts source
+  pub spelled : Spells parts text
   pub is : core ≡ core_of parts

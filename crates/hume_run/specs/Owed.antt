@@ -6,6 +6,7 @@ use Rattle.std.specs.Option.{is_none}
 use Rattle.std.specs.Str.{bytes_eq}
 use Rattle.hume_base.specs.declared.rule.Refusal.{Refusal}
 use Rattle.hume_base.specs.declared.rule.Rule.TheVariants.{NotBuilt, C55}
+use Rattle.hume_ast.specs.declared.tree.Program.{Program}
 use Rattle.hume_base.specs.declared.types.Value.{Value}
 use Rattle.hume_base.specs.Rules.{code_of}
 use Rattle.hume_base.specs.Words.{int_of}
@@ -20,7 +21,10 @@ use Rattle.hume_ports.specs.Ports.{place_of, is_among, other_names}
 use Rattle.hume_ports.specs.Delivery.{Pairs}
 use Rattle.hume_run.specs.declared.status.Status.{Status}
 use Rattle.hume_run.specs.declared.status.Status.TheVariants.{Done, Refused, BadValue}
+use Rattle.hume_run.specs.declared.order.Order.{Order}
+use Rattle.hume_run.specs.declared.order.Order.TheVariants.{Run, Check}
 use Rattle.hume_run.specs.Inputs.{good, bad}
+use Rattle.hume_run.specs.Accepted.{IsAccepted, Breaks}
 use Rattle.hume_run.specs.OneBox.{StandsFor}
 
 -- each write as the name of its port and its bytes, in order; a name stands for the first port that has it
@@ -75,12 +79,14 @@ unfit_line names source earlier [] = None
 unfit_line names source earlier (stream ∷ later) =
     if is_unfit names source earlier stream.port then Some stream.line else unfit_line names source (stream.port ∷ earlier) later
 
--- The source breaks this rule, and no earlier one.
-abbrev pub IsRefusal : List ℕ → List (List ℕ) → List ℕ → Refusal → Type 0
-IsRefusal text names source refusal =
-    (((core : Core) → StandsFor text core → ⊥) × (refusal ≡ record { rule = NotBuilt; line = 1 }))
-    ⊎ ((core : Core) × StandsFor text core × (line : ℕ) × (unfit_line names source [] (streams core) ≡ Some line)
-    × (refusal ≡ record { rule = C55; line = line }))
+-- The source breaks this rule, and no earlier one: one of its text, of its tokens or of its tree; or it isn't in the part
+-- of the language that is built; or a stream's port is unfit.
+pub data IsRefusal (text : List ℕ) (names : List (List ℕ)) (source : List ℕ) : Refusal → Type 0 where
+  broken : (refusal : Refusal) → Breaks text refusal → IsRefusal text names source refusal
+  not_built : (program : Program) → IsAccepted text program → ((core : Core) → StandsFor text core → ⊥)
+      → IsRefusal text names source (record { rule = NotBuilt; line = 1 })
+  unfit : (core : Core) → StandsFor text core → (line : ℕ) → unfit_line names source [] (streams core) ≡ Some line
+      → IsRefusal text names source (record { rule = C55; line = line })
 
 abbrev pub refused_line : Refusal → List ℕ
 refused_line refusal = codes "refused " ++ decimal (code_of refusal.rule) ++ codes " line " ++ decimal refusal.line ++ 10 ∷ []
@@ -158,8 +164,30 @@ owed_run steps source texts core = record {
 }
 
 -- What a run of the source of that text owes, over ports of these names of which each has that text to read.
-abbrev pub IsOwed : ℕ → List ℕ → List ℕ → List (List ℕ) → (List ℕ → List ℕ) → Owed → Type 0
-IsOwed steps source text names texts owed =
+abbrev pub IsOwedRun : ℕ → List ℕ → List ℕ → List (List ℕ) → (List ℕ → List ℕ) → Owed → Type 0
+IsOwedRun steps source text names texts owed =
     ((refusal : Refusal) × IsRefusal text names source refusal × (owed ≡ owed_refused source refusal))
     ⊎ ((core : Core) × StandsFor text core × (unfit_line names source [] (streams core) ≡ None)
     × (owed ≡ owed_run steps source texts core))
+
+-- ---- a check
+
+-- nothing is written
+abbrev pub owed_accepted : List ℕ → Owed
+owed_accepted source = record {
+  status = Done;
+  reads = source ∷ [];
+  writes = [];
+  finishes = std_out ∷ [];
+}
+
+-- What a check of the source of that text owes.
+abbrev pub IsOwedCheck : List ℕ → List ℕ → Owed → Type 0
+IsOwedCheck source text owed =
+    ((refusal : Refusal) × Breaks text refusal × (owed ≡ owed_refused source refusal))
+    ⊎ ((program : Program) × IsAccepted text program × (owed ≡ owed_accepted source))
+
+-- What the words ask for.
+abbrev pub IsOwed : Order → List ℕ → List ℕ → List (List ℕ) → (List ℕ → List ℕ) → Owed → Type 0
+IsOwed (Run steps place) source text names texts owed = IsOwedRun steps source text names texts owed
+IsOwed (Check place) source text names texts owed = IsOwedCheck source text owed

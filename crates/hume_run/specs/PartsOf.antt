@@ -6,6 +6,7 @@ abbrev pub parts_of : Parts → OneBox
 parts_of parts = record {
   input = parts.input.now;
   op = parts.op;
-  digits = parts.digits.now;
+  amount = parts.amount;
   output = parts.output.now;
+  lines = parts.lines;
 }

@@ -1,7 +1,8 @@
 -- The place of the source's name among the words.
 use Rattle.std.specs.Prelude.{ℕ}
 use Rattle.hume_run.specs.declared.order.Order.{Order}
-use Rattle.hume_run.specs.declared.order.Order.TheVariants.{Run}
+use Rattle.hume_run.specs.declared.order.Order.TheVariants.{Run, Check}
 
 abbrev pub source_place : Order → ℕ
 source_place (Run steps source) = source
+source_place (Check source) = source

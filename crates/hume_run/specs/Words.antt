@@ -1,10 +1,10 @@
--- The words of a call: `run STEPS WORKERS SOURCE PORT..`
+-- The words of a call: `check SOURCE`, or `run STEPS WORKERS SOURCE PORT..`
 use Rattle.std.specs.Prelude.{ℕ, ◌==◌, Bool, ◌&&◌, List, [], ◌∷◌, length, Option, None, Some, if◌then◌else◌, nat_le, codes}
 use Rattle.std.specs.List.{slice_index_or}
 use Rattle.std.specs.Str.{bytes_eq, all_ascii_digits}
 use Rattle.std.specs.Str.Parse.{digits_value}
 use Rattle.hume_run.specs.declared.order.Order.{Order}
-use Rattle.hume_run.specs.declared.order.Order.TheVariants.{Run}
+use Rattle.hume_run.specs.declared.order.Order.TheVariants.{Run, Check}
 
 -- one to nine decimal digits
 abbrev pub is_number : List ℕ → Bool
@@ -20,13 +20,17 @@ run_of _ _ = None
 
 -- what the words ask for, if they have a form
 abbrev pub order_of : List (List ℕ) → Option Order
+order_of (command ∷ source ∷ []) = if bytes_eq command (codes "check") then Some (Check 1) else None
 order_of (command ∷ steps ∷ workers ∷ source ∷ ports) =
     if bytes_eq command (codes "run") then run_of (number_of steps) (number_of workers) else None
 order_of _ = None
 
+-- supersteps; none of a check
 abbrev pub steps_of : Order → ℕ
 steps_of (Run steps source) = steps
+steps_of (Check source) = 0
 
 -- the name of the source's port
 abbrev pub source_of : List (List ℕ) → Order → List ℕ
 source_of words (Run steps source) = slice_index_or words source []
+source_of words (Check source) = slice_index_or words source []

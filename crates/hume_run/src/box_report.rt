@@ -1,6 +1,6 @@
 ghost use Rattle.std.specs.Prelude.{◌≡◌, ℕ, List as Items, IfOk};
 ghost use Rattle.hume_run.specs.BoxReports.{IsDone, IsBad, each_once};
-ghost use Rattle.hume_run.specs.OneBox.{IsOperand, core_of};
+ghost use Rattle.hume_run.specs.OneBox.{core_of};
 ghost use Rattle.hume_run.specs.Owed.{owed_run, std_out};
 ghost use Rattle.hume_run.specs.PartsOf.{parts_of};
 ghost use Rattle.hume_run.specs.Reading.{IsInputOf};
@@ -33,7 +33,6 @@ pub fn box_report(
     out: usize,
     input: Input,
 ) -> Result<Report, AllocError>
-    requires { IsOperand parts.now.digits.now }
     ensures { IfOk result (λ report. (names : Items (Items ℕ)) → IsPlaceOf parts.now.output.now names output → IsPlaceOf std_out names out
         → (texts : Items ℕ → Items ℕ) → IsInputOf steps (texts parts.now.input.now) input
         → (source : Items ℕ) → IsReport (owed_run steps source texts (core_of (parts_of parts.now))) names report) }
@@ -52,7 +51,6 @@ fn done_report(
     out: usize,
     values: List<Value>,
 ) -> Result<Report, AllocError>
-    requires { IsOperand parts.now.digits.now }
     ensures { IfOk result (λ report. IsDone steps (parts_of parts.now) output out values report) }
 {
     let core = build_core(alloc, parts)?;

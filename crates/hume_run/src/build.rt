@@ -1,10 +1,9 @@
 // The core of a one-box source.
 ghost use Rattle.std.specs.Prelude.{◌≡◌, [], ◌∷◌, IfOk, None};
 ghost use Rattle.hume_model.specs.WellFormed.{HasSmallBoxes};
-ghost use Rattle.hume_run.specs.OneBox.{IsOperand, core_of, one_box as core_box, one_rule as core_rule, own_exceptions as core_exceptions, plain_exception as core_exception, int_32};
+ghost use Rattle.hume_run.specs.OneBox.{core_of, one_box as core_box, one_rule as core_rule, own_exceptions as core_exceptions, plain_exception as core_exception, int_32};
 ghost use Rattle.hume_run.specs.PartsOf.{parts_of};
 
-use crate::numbers::value;
 use crate::one_box::Parts;
 use hume_base::{List, Text, Ty, Types};
 use hume_model::{
@@ -15,15 +14,14 @@ use std::alloc::{AllocError, Global};
 /// The core that a source of these parts stands for.
 #[tactic(auto, using(crate::proofs::Cores::core_steps))]
 pub fn build_core(alloc: Global, parts: &Parts) -> Result<Core, AllocError>
-    requires { IsOperand parts.now.digits.now }
     ensures core { IfOk result (λ core. core ≡ core_of (parts_of parts.now)) }
     ensures small { IfOk result (λ core. HasSmallBoxes core) }
 {
     let mut nodes = one(alloc, NodeC::Rules(one_box(alloc, parts)?))?;
-    nodes.push(NodeC::From(stream(alloc, b"s", 3, parts.input)?))?;
-    nodes.push(NodeC::To(stream(alloc, b"t", 4, parts.output)?))?;
-    let mut wires = one(alloc, wire(5, 1, 0))?;
-    wires.push(wire(6, 0, 2))?;
+    nodes.push(NodeC::From(stream(alloc, b"s", parts.lines.input, parts.input)?))?;
+    nodes.push(NodeC::To(stream(alloc, b"t", parts.lines.output, parts.output)?))?;
+    let mut wires = one(alloc, wire(parts.lines.wire_in, 1, 0))?;
+    wires.push(wire(parts.lines.wire_out, 0, 2))?;
     Ok(Core {
         types: Types {
             sums: List::new(alloc),
@@ -55,12 +53,11 @@ fn plain_exception(alloc: Global, name: &[u8]) -> Result<ExnDef, AllocError>
 }
 
 fn one_box(alloc: Global, parts: &Parts) -> Result<BoxC, AllocError>
-    requires { IsOperand parts.now.digits.now }
     ensures { IfOk result (λ made. made ≡ core_box (parts_of parts.now)) }
 {
     Ok(BoxC {
         name: Text::from_bytes(alloc, b"b")?,
-        line: 1,
+        line: parts.lines.boxed,
         ins: one(alloc, port(alloc, b"x")?)?,
         outs: one(alloc, port(alloc, b"y")?)?,
         fair: false,
@@ -71,11 +68,10 @@ fn one_box(alloc: Global, parts: &Parts) -> Result<BoxC, AllocError>
 
 #[tactic(auto, using(crate::proofs::Cores::core_steps))]
 fn one_rule(alloc: Global, parts: &Parts) -> Result<RuleC, AllocError>
-    requires { IsOperand parts.now.digits.now }
     ensures { IfOk result (λ rule. rule ≡ core_rule (parts_of parts.now)) }
 {
     let mut operands = one(alloc, Expr::Var(0))?;
-    operands.push(Expr::Word(u64::from(value(parts.digits))))?;
+    operands.push(Expr::Word(parts.amount))?;
     let result = Expr::Prim(parts.op, INT_32, operands);
     Ok(RuleC {
         pats: one(alloc, InPat::Built(PatC::Var))?,

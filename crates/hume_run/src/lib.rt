@@ -1,8 +1,10 @@
 //! The top call: from the words, the source's bytes and the ports to the answer.
 #![tactic(auto)]
 
+mod acceptance;
 mod box_report;
 mod build;
+mod check;
 #[cfg(test)]
 mod fault_tests;
 mod input;
@@ -42,12 +44,13 @@ mod words;
 #[cfg(test)]
 mod words_tests;
 
+pub use acceptance::{AcceptError, accept};
 pub use build::build_core;
 pub use input::{Input, InputError, read_input};
 pub use laws::one_core;
 pub use line_value::{MAX_LINE_BYTES, value_of_line};
 pub use lines::{bad_value_line, refused_line, value_line};
-pub use one_box::{Parts, read_one_box};
+pub use one_box::{Lines, Parts, read_one_box};
 pub use order::Order;
 pub use status::Status;
 pub use top::hume;

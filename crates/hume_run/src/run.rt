@@ -2,20 +2,24 @@ ghost use Rattle.std.specs.Prelude.{◌≡◌, ℕ, List, map};
 ghost use Rattle.hume_base.specs.declared.rule.Rule.TheVariants.{NotBuilt};
 ghost use Rattle.hume_ports.specs.Ports.{names};
 ghost use Rattle.hume_run.specs.BoxRuns.{RunsBox};
-ghost use Rattle.hume_run.specs.Headline.{Ends, Runs};
-ghost use Rattle.hume_run.specs.OneBox.{IsOperand, core_of};
+ghost use Rattle.hume_run.specs.Accepted.{IsAccepted};
+ghost use Rattle.hume_run.specs.declared.order.Order.TheVariants.{Run};
+ghost use Rattle.hume_run.specs.Headline.{Ends, Answers};
+ghost use Rattle.hume_run.specs.OneBox.{core_of};
 ghost use Rattle.hume_run.specs.Owed.{owed_run, std_out};
 ghost use Rattle.hume_run.specs.PartsOf.{parts_of};
 ghost use Rattle.hume_run.specs.Reading.{IsInputOf};
 ghost use Rattle.hume_run.specs.Reports.{IsPlaceOf};
 
+use crate::acceptance::accept;
 use crate::box_report::box_report;
 use crate::input::{Input, InputError, read_input};
 use crate::one_box::{Parts, read_one_box};
-use crate::refuse::refuse;
+use crate::refuse::{end_unaccepted, refuse};
 use crate::settle::settle;
 use crate::status::Status;
 use crate::streams::{Streams, find_streams};
+use hume_ast::Program;
 use hume_base::{Refusal, Rule};
 use hume_ports::Port;
 use std::alloc::Global;
@@ -31,9 +35,29 @@ pub fn run_text(
     out: usize,
 ) -> Status
     requires { IsPlaceOf std_out (names (map view ports.old)) out }
-    ensures { Runs steps source.now text.now (map view ports.old) (map view ports.new) result }
+    ensures { (place : ℕ) → Answers (Run steps place) source.now text.now (map view ports.old) (map view ports.new) result }
 {
-    let Some(parts) = read_one_box(text) else {
+    let program = match accept(alloc, text) {
+        Ok(program) => program,
+        Err(error) => return end_unaccepted(alloc, ports, out, error),
+    };
+    run_program(alloc, ports, steps, source, text, &program, out)
+}
+
+fn run_program(
+    alloc: Global,
+    ports: &mut [Box<dyn Port>],
+    steps: u32,
+    source: &[u8],
+    text: &[u8],
+    program: &Program,
+    out: usize,
+) -> Status
+    requires out { IsPlaceOf std_out (names (map view ports.old)) out }
+    requires program { IsAccepted text.now program.now }
+    ensures { (place : ℕ) → Answers (Run steps place) source.now text.now (map view ports.old) (map view ports.new) result }
+{
+    let Some(parts) = read_one_box(text, program) else {
         return refuse(alloc, ports, out, not_built());
     };
     match find_streams(ports, &parts, source) {
@@ -59,7 +83,6 @@ fn run_box(
     streams: Streams,
     out: usize,
 ) -> Status
-    requires operand { IsOperand parts.now.digits.now }
     requires input { IsPlaceOf parts.now.input.now (names (map view ports.old)) streams.input }
     requires output { IsPlaceOf parts.now.output.now (names (map view ports.old)) streams.output }
     requires out { IsPlaceOf std_out (names (map view ports.old)) out }
@@ -81,7 +104,6 @@ fn run_input(
     out: usize,
     input: Input,
 ) -> Status
-    requires operand { IsOperand parts.now.digits.now }
     requires output { IsPlaceOf parts.now.output.now (names (map view ports.old)) output }
     requires out { IsPlaceOf std_out (names (map view ports.old)) out }
     requires input { (text : List ℕ) × IsInputOf steps text input }

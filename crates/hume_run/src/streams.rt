@@ -18,11 +18,6 @@ pub struct Streams {
     pub output: usize,
 }
 
-// The lines of the streams in their source.
-const INPUT_LINE: u32 = 3;
-
-const OUTPUT_LINE: u32 = 4;
-
 /// The ports of a source's streams, if each may be a stream's.
 #[tactic(auto, using(crate::proofs::FitPorts::stream_steps))]
 pub fn find_streams(
@@ -37,13 +32,13 @@ pub fn find_streams(
         × (refusal ≡ record { rule = C55; line = line })) }
 {
     let Some(input) = fit_port(ports, parts.input, source) else {
-        return Err(unfit_at(INPUT_LINE));
+        return Err(unfit_at(parts.lines.input));
     };
     let Some(output) = fit_port(ports, parts.output, source) else {
-        return Err(unfit_at(OUTPUT_LINE));
+        return Err(unfit_at(parts.lines.output));
     };
     if parts.output == parts.input {
-        return Err(unfit_at(OUTPUT_LINE));
+        return Err(unfit_at(parts.lines.output));
     }
     Ok(Streams { input, output })
 }

@@ -1,9 +1,10 @@
 ghost use Rattle.std.specs.Prelude.{◌≡◌, ◌↔◌, map, string_bytes};
 ghost use Rattle.hume_ports.specs.Ports.{names};
-ghost use Rattle.hume_run.specs.Headline.{Headline, IsUsage, RunsFrom};
+ghost use Rattle.hume_run.specs.Headline.{Headline, IsUsage, Answers, AnswersFrom};
 ghost use Rattle.hume_run.specs.Owed.{std_out};
 ghost use Rattle.hume_run.specs.Reports.{IsPlaceOf};
 
+use crate::check::check_text;
 use crate::order::Order;
 use crate::run::run_text;
 use crate::source::{SourceError, read_source};
@@ -18,34 +19,51 @@ pub fn hume(alloc: Global, words: &[String], ports: &mut [Box<dyn Port>]) -> Sta
     ensures idle { result ≡ Status.Usage → map view ports.new ≡ map view ports.old }
     ensures run { Headline (map string_bytes words.now) (map view ports.old) (map view ports.new) result }
 {
-    let Some(Order::Run { steps, source }) = read_words(words) else {
+    let Some(order) = read_words(words) else {
         return Status::Usage;
     };
     let Some(out) = find(ports, "std_out") else {
         return Status::Usage;
     };
-    let name = words[source as usize].as_str();
+    let name = words[order.source() as usize].as_str();
     let Some(at) = find(ports, name) else {
         return Status::Usage;
     };
-    run_source(alloc, ports, steps, name, at, out)
+    answer(alloc, ports, order, name, at, out)
 }
 
-fn run_source(
+fn answer(
     alloc: Global,
     ports: &mut [Box<dyn Port>],
-    steps: u32,
+    order: Order,
     name: &str,
     at: usize,
     out: usize,
 ) -> Status
     requires source { IsPlaceOf name.now (names (map view ports.old)) at }
     requires out { IsPlaceOf std_out (names (map view ports.old)) out }
-    ensures { RunsFrom steps name.now (map view ports.old) (map view ports.new) result }
+    ensures { AnswersFrom order name.now (map view ports.old) (map view ports.new) result }
 {
     match read_source(alloc, ports, at) {
-        Ok(text) => run_text(alloc, ports, steps, name.as_bytes(), &text, out),
+        Ok(text) => answer_text(alloc, ports, order, name.as_bytes(), &text, out),
         Err(SourceError::Failed) => Status::Fault,
         Err(SourceError::NoMemory) => Status::NoMemory,
+    }
+}
+
+fn answer_text(
+    alloc: Global,
+    ports: &mut [Box<dyn Port>],
+    order: Order,
+    source: &[u8],
+    text: &[u8],
+    out: usize,
+) -> Status
+    requires { IsPlaceOf std_out (names (map view ports.old)) out }
+    ensures { Answers order source.now text.now (map view ports.old) (map view ports.new) result }
+{
+    match order {
+        Order::Run { steps, .. } => run_text(alloc, ports, steps, source, text, out),
+        Order::Check { .. } => check_text(alloc, ports, text, out),
     }
 }

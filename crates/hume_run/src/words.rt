@@ -8,8 +8,11 @@ use crate::order::Order;
 /// Supersteps of a run.
 const MAX_STEPS: u32 = 64;
 
-/// The place of the source's name among the words.
-const SOURCE_PLACE: u32 = 3;
+/// The place of the source's name among the words of a run.
+const RUN_SOURCE: u32 = 3;
+
+/// The same among those of a check.
+const CHECK_SOURCE: u32 = 1;
 
 /// What the words of a call ask for, if they have a form.
 pub fn read_words(words: &[String]) -> Option<Order>
@@ -18,6 +21,9 @@ pub fn read_words(words: &[String]) -> Option<Order>
     ensures source { IfSome result (λ order. source_place order < length words.now) }
 {
     match words {
+        [command, _] if command.as_str() == "check" => Some(Order::Check {
+            source: CHECK_SOURCE,
+        }),
         [command, steps, workers, _, ..] if command.as_str() == "run" => {
             run_of(number(steps)?, number(workers)?)
         }
@@ -40,7 +46,7 @@ fn run_of(steps: u32, workers: u32) -> Option<Order>
     if steps <= MAX_STEPS && workers == 1 {
         return Some(Order::Run {
             steps,
-            source: SOURCE_PLACE,
+            source: RUN_SOURCE,
         });
     }
     None

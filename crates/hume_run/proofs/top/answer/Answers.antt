@@ -1,10 +1,10 @@
 use Rattle.std.proofs.Common.{ap, ◌∙◌, Err}
-use Rattle.hume_run.proofs.Running.{runs_from, same_runs, source_unread, source_unstarted}
-use Rattle.hume_run.proofs.top.run_source.Goals as goal
+use Rattle.hume_run.proofs.Running.{answers_from, same_answers, source_unread, source_unstarted}
+use Rattle.hume_run.proofs.top.answer.Goals as goal
 
 pub returns-in-Ok : goal.returns-in-Ok
-returns-in-Ok g c = runs_from _ _ _ _ _ _ _ _ c.requires.source c.in-Ok.ensures.taken c.in-Ok.ensures.text c.in-Ok.ensures.untouched
-    (same_runs _ _ _ _ _ _ _ _ c.as_bytes.ensures.value c.deref.ensures.value c.run_text.ensures)
+returns-in-Ok g c = answers_from _ _ _ _ _ _ _ _ c.requires.source c.in-Ok.ensures.taken c.in-Ok.ensures.text c.in-Ok.ensures.untouched
+    (same_answers _ _ _ _ _ _ _ _ c.as_bytes.ensures.value c.deref.ensures.value c.answer_text.ensures)
 
 pub returns-in-Err-Failed : goal.returns-in-Err-Failed
 returns-in-Err-Failed g c = source_unread _ _ _ _ _ c.requires.source

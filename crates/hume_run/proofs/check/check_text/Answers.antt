@@ -1,0 +1,9 @@
+use Rattle.hume_run.specs.declared.order.Order.TheVariants.{Check}
+use Rattle.hume_run.proofs.Running.{check_answers}
+use Rattle.hume_run.proofs.check.check_text.Goals as goal
+
+pub returns-in-Err : goal.returns-in-Err
+returns-in-Err g c place source = c.end_unaccepted.ensures (Check place) source _ c.in-Err.ensures.error
+
+pub returns : goal.returns
+returns g c place source = check_answers place source _ _ _ _ c.in-Ok.field-0 c.in-Ok.ensures.program c.tell_accepted.ensures

@@ -1,0 +1,47 @@
+ghost use Rattle.std.specs.Prelude.{◌≡◌, ℕ, List, map, IfOk};
+ghost use Rattle.hume_ports.specs.Ports.{names};
+ghost use Rattle.hume_run.specs.declared.order.Order.TheVariants.{Check};
+ghost use Rattle.hume_run.specs.Headline.{Ends, Answers};
+ghost use Rattle.hume_run.specs.Owed.{owed_accepted, std_out};
+ghost use Rattle.hume_run.specs.Reports.{IsPlaceOf, IsReport};
+
+use crate::acceptance::accept;
+use crate::refuse::end_unaccepted;
+use crate::report::{Report, one_place};
+use crate::settle::settle;
+use crate::status::Status;
+use hume_ports::Port;
+use std::alloc::{AllocError, Global};
+
+/// Says whether a source of that text is accepted. The port of the report is given by its place.
+pub fn check_text(alloc: Global, ports: &mut [Box<dyn Port>], text: &[u8], out: usize) -> Status
+    requires { IsPlaceOf std_out (names (map view ports.old)) out }
+    ensures { (place : ℕ) (source : List ℕ) → Answers (Check place) source text.now (map view ports.old) (map view ports.new) result }
+{
+    match accept(alloc, text) {
+        Ok(_) => {}
+        Err(error) => return end_unaccepted(alloc, ports, out, error),
+    }
+    tell_accepted(alloc, ports, out)
+}
+
+fn tell_accepted(alloc: Global, ports: &mut [Box<dyn Port>], out: usize) -> Status
+    requires { IsPlaceOf std_out (names (map view ports.old)) out }
+    ensures { (source : List ℕ) → Ends (owed_accepted source) (map view ports.old) (map view ports.new) result }
+{
+    match accepted_report(alloc, out) {
+        Ok(report) => settle(ports, &report),
+        Err(_) => Status::NoMemory,
+    }
+}
+
+fn accepted_report(alloc: Global, out: usize) -> Result<Report, AllocError>
+    ensures { IfOk result (λ report. (names : List (List ℕ)) → IsPlaceOf std_out names out
+        → (source : List ℕ) → IsReport (owed_accepted source) names report) }
+{
+    Ok(Report {
+        status: Status::Done,
+        lines: Vec::new(alloc),
+        finishes: one_place(alloc, out)?,
+    })
+}
