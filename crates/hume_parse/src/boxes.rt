@@ -1,11 +1,14 @@
-ghost use Rattle.std.specs.Prelude.{◌≡◌, ◌<◌, ◌≤◌, length, IfOk, IsTrue};
+ghost use Rattle.std.specs.Prelude.{◌≡◌, ◌<◌, ◌≤◌, length, IfOk};
 ghost use Rattle.hume_base.specs.declared.symbol.Symbol.TheVariants.{Comma, Bar};
 ghost use Rattle.hume_base.specs.declared.keyword.Keyword.TheVariants.{In};
 ghost use Rattle.hume_base.specs.declared.token.Kind.TheVariants.{Word, Sign};
 ghost use Rattle.hume_parse.specs.Gives.{Gives, kinds};
-ghost use Rattle.hume_grammar.specs.Readers.{made, both, closed, listed, maybe, pick, next, lower_name};
+ghost use Rattle.hume_grammar.specs.Readers.{made, both, closed, listed, maybe, pick, lower_name};
 ghost use Rattle.hume_grammar.specs.Patterns.{input_pattern as input};
-ghost use Rattle.hume_grammar.specs.Declarations.{box_of, sides as sides_read, rules as rules_read, ports as ports_read, port as port_read, order as order_read, in_commas, rule as rule_read, handler as handler_read, handlers as handlers_read, is_carried, carried_pat};
+ghost use Rattle.hume_grammar.specs.Declarations.{box_of, sides as sides_read, ports as ports_read, port as port_read};
+ghost use Rattle.hume_grammar.specs.Declarations.{rules as rules_read, order as order_read, in_commas, rule as rule_read};
+ghost use Rattle.hume_grammar.specs.Declarations.{handlers as handlers_read, handler as handler_read};
+ghost use Rattle.hume_grammar.specs.Declarations.{is_carried, carried_pat};
 
 use crate::expressions::{MAX_DEPTH, exp};
 use crate::fault::Fault;

@@ -3,9 +3,12 @@ ghost use Rattle.hume_base.specs.declared.symbol.Symbol.TheVariants.{Equals, Bar
 ghost use Rattle.hume_base.specs.declared.keyword.Keyword.TheVariants.{To};
 ghost use Rattle.hume_base.specs.declared.token.Kind.TheVariants.{Word, Sign};
 ghost use Rattle.hume_parse.specs.Gives.{Gives, kinds};
-ghost use Rattle.hume_grammar.specs.Readers.{made, both, closed, listed, many, maybe, pick, next, lower_name, upper_name, port_name};
+ghost use Rattle.hume_grammar.specs.Readers.{made, both, closed, listed, many, maybe, next};
+ghost use Rattle.hume_grammar.specs.Readers.{pick, lower_name, upper_name, port_name};
 ghost use Rattle.hume_grammar.specs.Types.{types};
-ghost use Rattle.hume_grammar.specs.Declarations.{whole_decl as decl_read, sum_of, constructor as constructor_read, exn_of, starts_type as type_starts, stream_of, way as way_read, wire_of, wire_end as end_read, first_value as first_read};
+ghost use Rattle.hume_grammar.specs.Declarations.{whole_decl as decl_read, sum_of, exn_of, stream_of, wire_of};
+ghost use Rattle.hume_grammar.specs.Declarations.{constructor as constructor_read, starts_type as type_starts};
+ghost use Rattle.hume_grammar.specs.Declarations.{way as way_read, wire_end as end_read, first_value as first_read};
 
 use crate::boxes::box_decl;
 use crate::expressions::{MAX_DEPTH, exp};
