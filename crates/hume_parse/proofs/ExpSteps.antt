@@ -22,7 +22,7 @@ use Rattle.hume_parse.specs.declared.fault.Fault.{Fault}
 use Rattle.hume_grammar.specs.Readers.{Reader, ◌>>=◌, next, behind, is_word, is_sign, made, both, closed, led, listed, alternatives, pick, many, maybe, lower_name, number_of, upper_name}
 use Rattle.hume_grammar.specs.Types.{types}
 use Rattle.hume_grammar.specs.Patterns.{patterns, is_upper}
-use Rattle.hume_grammar.specs.Expressions.{exps, ExpReaders, expressions_with, at_level, let_of, if_of, case_of, alternative, raise_of, minus_ways, next_operator, one_operand, with_operator, operands, chain, comparison, sum_layer, starts_atom, is_lower, is_number, update_of, exp_in_parens, parts_tail, tail_ways, exp_leaf, app_of, con_exp_of}
+use Rattle.hume_grammar.specs.Expressions.{exps, ExpReaders, expressions_with, at_level, let_of, if_of, case_of, alternative, raise_of, minus_ways, next_operator, one_operand, with_operator, operands, chain, sum_layer, starts_atom, is_lower, is_number, update_of, exp_in_parens, parts_tail, tail_ways, exp_leaf, app_of, con_exp_of}
 use Rattle.hume_grammar.proofs.Local.{bind_ok, chosen_ok}
 use Rattle.hume_parse.proofs.Loops.{made_twice, kinds_length, fails_on}
 use Rattle.hume_grammar.proofs.Chains.{turn_at, stop_at}

@@ -29,10 +29,21 @@ closed progress = progress.decls ++ as_decl progress.function
 -- one more equation of the function; without a function none is read
 abbrev pub with_equation : List ℕ × List Pat × Exp → Option OpenFunction → Option OpenFunction
 with_equation equation None = None
-with_equation equation (Some function) = Some (record { place = function.place; name = function.name; types = function.types; equations = function.equations ++ equation ∷ [] })
+with_equation equation (Some function) = Some (record {
+  place = function.place;
+  name = function.name;
+  types = function.types;
+  equations = function.equations ++ equation ∷ [];
+})
 
 -- behind one more line, which begins at the place
 abbrev pub took : ℕ → Line → Progress → Progress
 took place (Whole decl) progress = record { decls = closed progress ++ (place, decl) ∷ []; function = None }
-took place (Signature name types) progress = record { decls = closed progress; function = Some (record { place = place; name = name; types = types; equations = [] }) }
-took place (Equation parts) progress = record { decls = progress.decls; function = with_equation parts progress.function }
+took place (Signature name types) progress = record {
+  decls = closed progress;
+  function = Some (record { place = place; name = name; types = types; equations = [] });
+}
+took place (Equation parts) progress = record {
+  decls = progress.decls;
+  function = with_equation parts progress.function;
+}

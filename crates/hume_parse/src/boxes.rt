@@ -1,14 +1,16 @@
-ghost use Rattle.std.specs.Prelude.{◌≡◌, ◌<◌, ◌≤◌, length, IfOk, IsTrue};
+ghost use Rattle.std.specs.Prelude.{◌≡◌, ◌<◌, ◌≤◌, length, IfOk};
 ghost use Rattle.hume_base.specs.declared.symbol.Symbol.TheVariants.{Comma, Bar};
 ghost use Rattle.hume_base.specs.declared.keyword.Keyword.TheVariants.{In};
 ghost use Rattle.hume_base.specs.declared.token.Kind.TheVariants.{Word, Sign};
 ghost use Rattle.hume_parse.specs.Gives.{Gives, kinds};
-ghost use Rattle.hume_grammar.specs.Readers.{made, both, closed, listed, maybe, pick, next, lower_name};
+ghost use Rattle.hume_grammar.specs.Readers.{made, both, closed, listed, maybe, pick, lower_name};
 ghost use Rattle.hume_grammar.specs.Patterns.{input_pattern as input};
-ghost use Rattle.hume_grammar.specs.Declarations.{box_of, sides as sides_read, rules as rules_read, ports as ports_read, port as port_read, order as order_read, in_commas, rule as rule_read, handler as handler_read, handlers as handlers_read, is_carried, carried_pat};
+ghost use Rattle.hume_grammar.specs.Declarations.{box_of, sides as sides_read, ports as ports_read, port as port_read};
+ghost use Rattle.hume_grammar.specs.Declarations.{rules as rules_read, order as order_read, in_commas, rule as rule_read};
+ghost use Rattle.hume_grammar.specs.Declarations.{handlers as handlers_read, handler as handler_read};
+ghost use Rattle.hume_grammar.specs.Declarations.{is_carried, carried_pat};
 
-use crate::declarations::MAX_DEPTH;
-use crate::expressions::exp;
+use crate::expressions::{MAX_DEPTH, exp};
 use crate::fault::Fault;
 use crate::patterns::input_pattern;
 use crate::tokens::{after_sign, after_word, behind, lower, next_is_sign, next_is_word, upper};
@@ -34,7 +36,8 @@ pub struct Rules {
 
 /// A box, behind its keyword.
 pub fn box_decl(alloc: Global, rest: &[Token]) -> Result<(Decl, &[Token]), Fault>
-    ensures reads { Gives (λ x. (x.0, kinds x.1.now)) result (made box_of (both (closed (pick lower_name) (Word In)) (both (sides_read 64) (rules_read 64))) (kinds rest.now)) }
+    ensures reads { Gives (λ x. (x.0, kinds x.1.now)) result
+        (made box_of (both (closed (pick lower_name) (Word In)) (both (sides_read 64) (rules_read 64))) (kinds rest.now)) }
     ensures shorter { IfOk result (λ x. length x.1.now < length rest.now) }
 {
     let (name, rest) = lower(rest)?;
@@ -103,7 +106,8 @@ fn one_port(alloc: Global, rest: &[Token]) -> Result<((Text, TyExp), &[Token]), 
 }
 
 fn box_rules(alloc: Global, rest: &[Token]) -> Result<(Rules, &[Token]), Fault>
-    ensures reads { Gives (λ x. ((x.0.fair, (x.0.rules, x.0.handlers)), kinds x.1.now)) result (rules_read 64 (kinds rest.now)) }
+    ensures reads { Gives (λ x. ((x.0.fair, (x.0.rules, x.0.handlers)), kinds x.1.now)) result
+        (rules_read 64 (kinds rest.now)) }
     ensures shorter { IfOk result (λ x. length x.1.now < length rest.now) }
 {
     let (fair, rest) = order(rest)?;

@@ -3,12 +3,15 @@ ghost use Rattle.hume_base.specs.declared.symbol.Symbol.TheVariants.{Equals, Bar
 ghost use Rattle.hume_base.specs.declared.keyword.Keyword.TheVariants.{To};
 ghost use Rattle.hume_base.specs.declared.token.Kind.TheVariants.{Word, Sign};
 ghost use Rattle.hume_parse.specs.Gives.{Gives, kinds};
-ghost use Rattle.hume_grammar.specs.Readers.{made, both, closed, listed, many, maybe, pick, next, lower_name, upper_name, port_name};
+ghost use Rattle.hume_grammar.specs.Readers.{made, both, closed, listed, many, maybe, next};
+ghost use Rattle.hume_grammar.specs.Readers.{pick, lower_name, upper_name, port_name};
 ghost use Rattle.hume_grammar.specs.Types.{types};
-ghost use Rattle.hume_grammar.specs.Declarations.{whole_decl as decl_read, sum_of, constructor as constructor_read, exn_of, starts_type as type_starts, stream_of, way as way_read, wire_of, wire_end as end_read, first_value as first_read};
+ghost use Rattle.hume_grammar.specs.Declarations.{whole_decl as decl_read, sum_of, exn_of, stream_of, wire_of};
+ghost use Rattle.hume_grammar.specs.Declarations.{constructor as constructor_read, starts_type as type_starts};
+ghost use Rattle.hume_grammar.specs.Declarations.{way as way_read, wire_end as end_read, first_value as first_read};
 
 use crate::boxes::box_decl;
-use crate::expressions::exp;
+use crate::expressions::{MAX_DEPTH, exp};
 use crate::fault::Fault;
 use crate::tokens::{
     after_sign, after_word, behind, lower, next_is_sign, next_is_word, port, upper,
@@ -17,9 +20,6 @@ use crate::types::ty;
 use hume_ast::{Decl, Exp, TyExp};
 use hume_base::{Keyword, Kind, List, Symbol, Text, Token};
 use std::alloc::Global;
-
-/// How deep types, patterns and expressions may be.
-pub const MAX_DEPTH: u32 = 64;
 
 /// A declaration of anything but a function from the front of the tokens.
 #[tactic(auto, using(crate::proofs::DeclSteps::whole_steps))]
@@ -46,7 +46,8 @@ pub fn whole_decl(alloc: Global, rest: &[Token]) -> Result<(Decl, &[Token]), Fau
 }
 
 fn data_decl(alloc: Global, rest: &[Token]) -> Result<(Decl, &[Token]), Fault>
-    ensures reads { Gives (λ x. (x.0, kinds x.1.now)) result (made sum_of (both (closed (pick upper_name) (Sign Equals)) (closed (listed Bar (constructor_read 64)) (Sign Semicolon))) (kinds rest.now)) }
+    ensures reads { Gives (λ x. (x.0, kinds x.1.now)) result
+        (made sum_of (both (closed (pick upper_name) (Sign Equals)) (closed (listed Bar (constructor_read 64)) (Sign Semicolon))) (kinds rest.now)) }
     ensures shorter { IfOk result (λ x. length x.1.now < length rest.now) }
 {
     let (name, rest) = upper(rest)?;
@@ -101,7 +102,8 @@ fn types_beside(alloc: Global, tokens: &[Token]) -> Result<(List<TyExp>, &[Token
 }
 
 fn exception_decl(alloc: Global, rest: &[Token]) -> Result<(Decl, &[Token]), Fault>
-    ensures reads { Gives (λ x. (x.0, kinds x.1.now)) result (made exn_of (both (pick upper_name) (closed (maybe type_starts (types 64)) (Sign Semicolon))) (kinds rest.now)) }
+    ensures reads { Gives (λ x. (x.0, kinds x.1.now)) result
+        (made exn_of (both (pick upper_name) (closed (maybe type_starts (types 64)) (Sign Semicolon))) (kinds rest.now)) }
     ensures shorter { IfOk result (λ x. length x.1.now < length rest.now) }
 {
     let (name, rest) = upper(rest)?;
@@ -124,7 +126,8 @@ fn carried(alloc: Global, rest: &[Token]) -> Result<(Option<TyExp>, &[Token]), F
 }
 
 fn stream_decl(rest: &[Token]) -> Result<(Decl, &[Token]), Fault>
-    ensures reads { Gives (λ x. (x.0, kinds x.1.now)) result (made stream_of (both (pick lower_name) (both way_read (closed (pick port_name) (Sign Semicolon)))) (kinds rest.now)) }
+    ensures reads { Gives (λ x. (x.0, kinds x.1.now)) result
+        (made stream_of (both (pick lower_name) (both way_read (closed (pick port_name) (Sign Semicolon)))) (kinds rest.now)) }
     ensures shorter { IfOk result (λ x. length x.1.now < length rest.now) }
 {
     let (name, rest) = lower(rest)?;
@@ -148,7 +151,8 @@ fn way(rest: &[Token]) -> Result<(bool, &[Token]), Fault>
 }
 
 fn wire_decl(alloc: Global, rest: &[Token]) -> Result<(Decl, &[Token]), Fault>
-    ensures reads { Gives (λ x. (x.0, kinds x.1.now)) result (made wire_of (both (closed end_read (Word To)) (both end_read (closed (first_read 64) (Sign Semicolon)))) (kinds rest.now)) }
+    ensures reads { Gives (λ x. (x.0, kinds x.1.now)) result
+        (made wire_of (both (closed end_read (Word To)) (both end_read (closed (first_read 64) (Sign Semicolon)))) (kinds rest.now)) }
     ensures shorter { IfOk result (λ x. length x.1.now < length rest.now) }
 {
     let (source, rest) = wire_end(rest)?;

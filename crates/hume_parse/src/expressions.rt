@@ -26,8 +26,8 @@ use hume_ast::{BinOp, Exp, Pat, TyExp};
 use hume_base::{Box, Keyword, Kind, List, Symbol, Text, Token};
 use std::alloc::Global;
 
-/// How deep types and patterns in an expression may be.
-const MAX_DEPTH: u32 = 64;
+/// How deep types, patterns and expressions may be.
+pub const MAX_DEPTH: u32 = 64;
 
 /// An expression, how deep it is, and the tokens behind it.
 #[derive(Drop)]

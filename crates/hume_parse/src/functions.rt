@@ -1,9 +1,9 @@
 ghost use Rattle.std.specs.Prelude.{◌≡◌, ◌<◌, length, IfOk};
 ghost use Rattle.hume_parse.specs.Gives.{Gives, kinds};
-ghost use Rattle.hume_grammar.specs.Declarations.{signature as signature_read, some_patterns as patterns_read, equation as equation_read};
+ghost use Rattle.hume_grammar.specs.Declarations.{signature as signature_read, equation as equation_read};
+ghost use Rattle.hume_grammar.specs.Declarations.{some_patterns as patterns_read};
 
-use crate::declarations::MAX_DEPTH;
-use crate::expressions::exp;
+use crate::expressions::{MAX_DEPTH, exp};
 use crate::fault::Fault;
 use crate::patterns::{pat_atom, starts_pat};
 use crate::tokens::after_sign;

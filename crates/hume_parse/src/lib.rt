@@ -3,6 +3,8 @@
 
 mod boxes;
 mod declarations;
+#[cfg(test)]
+mod depth_tests;
 mod expressions;
 mod fault;
 mod functions;
@@ -12,6 +14,8 @@ mod operators;
 mod parser;
 mod patterns;
 mod program;
+#[cfg(test)]
+mod tests;
 mod tokens;
 mod trees;
 mod types;

@@ -53,7 +53,8 @@ fn next_line(alloc: Global, place: Place, rest: &[Token]) -> Result<(Line, &[Tok
 
 #[tactic(auto, using(crate::proofs::LineSteps::named_steps))]
 fn named_line(alloc: Global, place: Place, rest: &[Token]) -> Result<(Line, &[Token]), Fault>
-    ensures reads { Gives (λ x. (seen_line x.0, kinds x.1.now)) result (named_read 64 (seen_place place) (kinds rest.now)) }
+    ensures reads { Gives (λ x. (seen_line x.0, kinds x.1.now)) result
+        (named_read 64 (seen_place place) (kinds rest.now)) }
     ensures shorter { IfOk result (λ x. length x.1.now < length rest.now) }
 {
     let (name, rest) = lower(rest)?;

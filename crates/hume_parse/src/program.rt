@@ -1,4 +1,4 @@
-ghost use Rattle.std.specs.Prelude.{◌≡◌, ◌≢◌, [], IfOk, IsTrue, ◌↔◌};
+ghost use Rattle.std.specs.Prelude.{◌≡◌, [], IfOk};
 ghost use Rattle.hume_ast.specs.Places.{unplaced, placed, first_place as place_of_first};
 ghost use Rattle.hume_parse.specs.Gives.{Gives, kinds};
 ghost use Rattle.hume_parse.specs.Lines.{seen_line, seen_place, wants};
