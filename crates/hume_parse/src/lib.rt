@@ -5,6 +5,10 @@ mod expressions;
 mod fault;
 mod operators;
 mod patterns;
+#[cfg(test)]
+mod tests;
 mod tokens;
+#[cfg(test)]
+mod tree_text;
 mod trees;
 mod types;
