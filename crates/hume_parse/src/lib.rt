@@ -6,7 +6,7 @@ mod fault;
 mod operators;
 mod patterns;
 #[cfg(test)]
-mod tests;
+mod expression_tests;
 mod tokens;
 #[cfg(test)]
 mod tree_text;
