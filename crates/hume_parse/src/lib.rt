@@ -5,6 +5,8 @@ mod boxes;
 mod declarations;
 #[cfg(test)]
 mod depth_tests;
+#[cfg(test)]
+mod expression_tests;
 mod expressions;
 mod fault;
 mod functions;
@@ -17,6 +19,8 @@ mod program;
 #[cfg(test)]
 mod tests;
 mod tokens;
+#[cfg(test)]
+mod tree_text;
 mod trees;
 mod types;
 
