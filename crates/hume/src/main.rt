@@ -1,15 +1,12 @@
-//! `hume run STEPS WORKERS SOURCE PORT..`: the words from SOURCE on name the files that are ports.
+//! `hume run STEPS WORKERS SOURCE PORT..` or `hume check SOURCE`: the words from SOURCE on name the files that are ports.
 #![tactic(auto)]
 
 use hume_ports::{FilePort, Port, StdOut, find};
-use hume_run::{Status, hume};
+use hume_run::{Status, hume, read_words};
 use std::alloc::{AllocError, Global};
 use std::env;
 use std::io::ErrorKind;
 use std::process::ExitCode;
-
-/// The words before SOURCE: `run`, STEPS and WORKERS.
-const WORDS_BEFORE_SOURCE: usize = 3;
 
 fn main(rt: HostRuntime) -> ExitCode {
     match run(&rt) {
@@ -20,11 +17,13 @@ fn main(rt: HostRuntime) -> ExitCode {
 
 fn run(rt: &HostRuntime) -> Result<Status, AllocError> {
     let alloc = rt.alloc();
-    let words = read_words(rt, alloc)?;
+    let words = words_of_command(rt, alloc)?;
     let mut ports: Vec<Box<dyn Port>> = Vec::new(alloc);
-    for word in words.iter().skip(WORDS_BEFORE_SOURCE) {
-        if word.as_str() != "std_out" && find(&ports, word).is_none() {
-            ports.push(Box::new(alloc, FilePort::make(rt, alloc, word)?)?)?;
+    if let Some(order) = read_words(&words) {
+        for word in words.iter().skip(order.source() as usize) {
+            if word.as_str() != "std_out" && find(&ports, word).is_none() {
+                ports.push(Box::new(alloc, FilePort::make(rt, alloc, word)?)?)?;
+            }
         }
     }
     ports.push(Box::new(alloc, StdOut::make(rt, alloc, "std_out")?)?)?;
@@ -32,7 +31,7 @@ fn run(rt: &HostRuntime) -> Result<Status, AllocError> {
 }
 
 // The words after the program's own name. Where one isn't UTF-8 there are none, so that the call is one of no form.
-fn read_words(rt: &HostRuntime, alloc: Global) -> Result<Vec<String>, AllocError> {
+fn words_of_command(rt: &HostRuntime, alloc: Global) -> Result<Vec<String>, AllocError> {
     let mut words = Vec::new(alloc);
     match env::args(rt) {
         Ok(args) => {

@@ -6,6 +6,8 @@ mod box_report;
 mod build;
 mod check;
 #[cfg(test)]
+mod check_tests;
+#[cfg(test)]
 mod fault_tests;
 mod input;
 #[cfg(test)]

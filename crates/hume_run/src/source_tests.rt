@@ -1,33 +1,29 @@
-use crate::{build_core, read_one_box};
-use hume_model::{NodeC, Op};
+use crate::Status;
+use crate::test_calls::{ADD_ONE, brings, ends};
 use std::alloc::{AllocError, Global};
 use std::test::Fail as Stop;
 
-fn source(alloc: Global, rule: &str, input: &str, output: &str) -> Result<String, AllocError> {
-    format!(in alloc;
-        "box b in (x :: int 32) out (y :: int 32)\nmatch (x) -> ({rule}) ;\nstream s from \"{input}\" ;\nstream t to \"{output}\" ;\nwire s to b.x ;\nwire b.y to t ;\n"
-    )
-}
+const RUN: &str = "run 4 1 p i o";
 
-fn is_read(alloc: Global, rule: &str, input: &str, output: &str) -> Result<bool, AllocError> {
-    let text = source(alloc, rule, input, output)?;
-    Ok(read_one_box(text.as_bytes()).is_some())
+const NOT_BUILT: &[u8] = b"refused 29 line 1\n";
+
+fn source(alloc: Global, rule: &str) -> Result<String, AllocError> {
+    format!(in alloc;
+        "box b in (x :: int 32) out (y :: int 32)\nmatch (x) -> ({rule}) ;\nstream s from \"i\" ;\nstream t to \"o\" ;\nwire s to b.x ;\nwire b.y to t ;\n"
+    )
 }
 
 #[test]
 fn operations_and_operands_are_read(rt: HostRuntime) -> Result<(), Stop> {
-    for (rule, op, digits) in [
-        ("x + 5", Op::Add, "5"),
-        ("x - 0", Op::Sub, "0"),
-        ("x * 123456789", Op::Mul, "123456789"),
+    for (rule, output) in [
+        ("x + 5", "6\n7\n"),
+        ("x - 0", "1\n2\n"),
+        ("x * 00123", "123\n246\n"),
+        ("x + 999999999", "1000000000\n1000000001\n"),
     ] {
-        let text = source(rt.alloc(), rule, "i", "the o")?;
-        let parts = read_one_box(text.as_bytes());
+        let text = source(rt.alloc(), rule)?;
         assert!(rt;
-            parts.is_some_and(|parts| parts.op == op
-                && parts.digits == digits.as_bytes()
-                && parts.input == b"i".as_slice()
-                && parts.output == b"the o".as_slice()),
+            brings(rt.alloc(), text.as_bytes(), output.as_bytes())?,
             "{rule}"
         );
     }
@@ -35,71 +31,49 @@ fn operations_and_operands_are_read(rt: HostRuntime) -> Result<(), Stop> {
 }
 
 #[test]
-fn other_rules_are_not_read(rt: HostRuntime) -> Result<(), Stop> {
-    for rule in [
-        "x + 1234567890",
-        "x / 5",
-        "x + ",
-        "x + -5",
-        "x+ 5",
-        "y + 5",
-        "x + 5 ",
-    ] {
-        assert!(rt; !is_read(rt.alloc(), rule, "i", "o")?, "{rule}");
-    }
-    Ok(())
-}
-
-#[test]
-fn a_port_name_is_printable_and_has_no_quote(rt: HostRuntime) -> Result<(), Stop> {
-    for name in ["", "a\"b", "a\tb", "a\nb", "é", "\x7f"] {
-        assert!(rt; !is_read(rt.alloc(), "x + 5", name, "o")?, "{name}");
-    }
-    assert!(rt; is_read(rt.alloc(), "x + 5", " ~", "o")?);
-    Ok(())
-}
-
-#[test]
-fn a_port_name_has_at_most_255_bytes(rt: HostRuntime) -> Result<(), Stop> {
+fn layout_and_comments_are_free(rt: HostRuntime) -> Result<(), Stop> {
     let alloc = rt.alloc();
-    let mut name = String::from_str(alloc, "")?;
-    for _byte in 0..255 {
-        name.push('n')?;
-    }
-    assert!(rt; is_read(alloc, "x + 5", "i", &name)?);
-    name.push('n')?;
-    assert!(rt; !is_read(alloc, "x + 5", "i", &name)?);
+    let text = b"-- adds one
+box b in(x::int 032)out(y::int 32)match(x)->(x+1);-- the box
+stream s from\"i\";stream t to\t\"o\";
+wire s to b.x;wire b . y to t ; -- no more";
+    assert!(rt; brings(alloc, text, b"2\n3\n")?);
+    assert!(rt; brings(alloc, ADD_ONE, b"2\n3\n")?);
     Ok(())
 }
 
 #[test]
-fn a_source_ends_with_its_last_newline(rt: HostRuntime) -> Result<(), Stop> {
-    let mut text = source(rt.alloc(), "x + 5", "i", "o")?;
-    assert!(rt; read_one_box(text.as_bytes()).is_some());
-    text.push('\n')?;
-    assert!(rt; read_one_box(text.as_bytes()).is_none());
-    text.pop();
-    text.pop();
-    assert!(rt; read_one_box(text.as_bytes()).is_none());
+fn other_rules_are_not_built(rt: HostRuntime) -> Result<(), Stop> {
+    for rule in [
+        "x + 1000000000",
+        "x div 5",
+        "x + -5",
+        "(x + 5)",
+        "5 + x",
+        "y + 5",
+        "x",
+    ] {
+        let text = source(rt.alloc(), rule)?;
+        assert!(rt;
+            ends(rt.alloc(), RUN, text.as_bytes(), Status::Refused, NOT_BUILT)?,
+            "{rule}"
+        );
+        assert!(rt;
+            ends(rt.alloc(), "check p", text.as_bytes(), Status::Done, b"")?,
+            "{rule}"
+        );
+    }
     Ok(())
 }
 
 #[test]
-fn the_streams_are_the_nodes_after_the_box(rt: HostRuntime) -> Result<(), Stop> {
-    let text = source(rt.alloc(), "x + 5", "i", "o")?;
-    let Some(parts) = read_one_box(text.as_bytes()) else {
-        assert!(rt; false);
-        return Ok(());
-    };
-    let core = build_core(rt.alloc(), &parts)?;
-    assert!(rt; core.wires.len() == 2);
-    match core.nodes.as_slice() {
-        [NodeC::Rules(b), NodeC::From(input), NodeC::To(output)] => {
-            assert!(rt; b.line == 1 && b.rules.len() == 1);
-            assert!(rt; input.line == 3 && input.port.bytes() == b"i".as_slice());
-            assert!(rt; output.line == 4 && output.port.bytes() == b"o".as_slice());
-        }
-        _ => assert!(rt; false),
-    }
+fn other_declarations_are_not_built(rt: HostRuntime) -> Result<(), Stop> {
+    let alloc = rt.alloc();
+    assert!(rt; ends(alloc, RUN, b"", Status::Refused, NOT_BUILT)?);
+    assert!(rt; ends(alloc, RUN, &ADD_ONE[..118], Status::Refused, NOT_BUILT)?);
+    let other = b"box b in (x :: int 32) out (y :: int 32) match (x) -> (x + 1) ;
+stream s from \"i\" ; stream t to \"o\" ; wire s to b.x ; wire b.y to t initial 0 ;";
+    assert!(rt; ends(alloc, RUN, other, Status::Refused, NOT_BUILT)?);
+    assert!(rt; ends(alloc, "check p", other, Status::Done, b"")?);
     Ok(())
 }

@@ -1,4 +1,5 @@
 //! What the tests of the top call share.
+use crate::{Status, hume};
 use hume_ports::{Fail, MemPort, Port};
 use std::alloc::{AllocError, Global};
 
@@ -33,6 +34,44 @@ stream t to \"o\" ;
 wire s to b.x ;
 wire b.y to t ;
 ";
+
+/// The words of a call, from one text.
+pub(crate) fn words_in(alloc: Global, text: &str) -> Result<Vec<String>, AllocError> {
+    let mut words = Vec::new(alloc);
+    for word in text.split_whitespace() {
+        words.push(String::from_str(alloc, word)?)?;
+    }
+    Ok(words)
+}
+
+/// Whether a call of these words over a source `p` with that text ends so, and this alone is on `std_out`. There are
+/// ports `i`, with the numbers 1 and 2 to read, and `o`.
+pub(crate) fn ends(
+    alloc: Global,
+    words: &str,
+    text: &[u8],
+    status: Status,
+    report: &[u8],
+) -> Result<bool, AllocError> {
+    let words = words_in(alloc, words)?;
+    let mut ports: Vec<Box<dyn Port>> = Vec::new(alloc);
+    ports.push(Box::new(alloc, memory(alloc, "p", text)?)?)?;
+    ports.push(Box::new(alloc, memory(alloc, "i", b"1\n2\n")?)?)?;
+    ports.push(Box::new(alloc, memory(alloc, "o", b"")?)?)?;
+    ports.push(Box::new(alloc, memory(alloc, "std_out", b"")?)?)?;
+    Ok(hume(alloc, &words, &mut ports) == status && is_written(&ports, 3, report))
+}
+
+/// Whether four supersteps write just this to `o`, over a source with that text and the numbers 1 and 2.
+pub(crate) fn brings(alloc: Global, text: &[u8], output: &[u8]) -> Result<bool, AllocError> {
+    let words = run_words(alloc, "4")?;
+    let mut ports: Vec<Box<dyn Port>> = Vec::new(alloc);
+    ports.push(Box::new(alloc, memory(alloc, "p", text)?)?)?;
+    ports.push(Box::new(alloc, memory(alloc, "i", b"1\n2\n")?)?)?;
+    ports.push(Box::new(alloc, memory(alloc, "o", b"")?)?)?;
+    ports.push(Box::new(alloc, memory(alloc, "std_out", b"")?)?)?;
+    Ok(hume(alloc, &words, &mut ports) == Status::Done && is_written(&ports, 2, output))
+}
 
 pub(crate) fn run_words(alloc: Global, steps: &str) -> Result<Vec<String>, AllocError> {
     let mut words = Vec::new(alloc);

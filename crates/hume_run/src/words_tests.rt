@@ -25,6 +25,14 @@ fn a_run_has_steps_and_one_worker_and_a_source(rt: HostRuntime) -> Result<(), St
 }
 
 #[test]
+fn a_check_has_a_source(rt: HostRuntime) -> Result<(), Stop> {
+    let check = Some(Order::Check { source: 1 });
+    assert_eq!(rt; asked(rt.alloc(), "check p")?, check);
+    assert_eq!(rt; asked(rt.alloc(), "check check")?, check);
+    Ok(())
+}
+
+#[test]
 fn other_words_have_no_form(rt: HostRuntime) -> Result<(), Stop> {
     for text in [
         "",
@@ -35,6 +43,10 @@ fn other_words_have_no_form(rt: HostRuntime) -> Result<(), Stop> {
         "run +4 1 p",
         "run 4, 1 p",
         "run 0000000004 1 p",
+        "check",
+        "check p q",
+        "checks p",
+        "run p",
     ] {
         assert_eq!(rt; asked(rt.alloc(), text)?, None, "{text}");
     }
