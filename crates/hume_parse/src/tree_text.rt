@@ -137,7 +137,7 @@ fn add_parts<'a>(waiting: &mut Vec<&'a Exp>, exp: &'a Exp) -> Result<(), AllocEr
 }
 
 /// The tree in words, each part behind what it belongs to. Parts beyond the hundredth are left out.
-pub fn tree_text(alloc: Global, exp: &Exp) -> Result<String, AllocError> {
+pub(crate) fn tree_text(alloc: Global, exp: &Exp) -> Result<String, AllocError> {
     let mut text = String::new(alloc);
     let mut waiting = Vec::new(alloc);
     waiting.push(exp)?;
