@@ -181,16 +181,43 @@ fn front_told(alloc: Global, tokens: &[Token]) -> char {
     }
 }
 
-#[test]
-fn only_whole_declarations_are_accepted(rt: HostRuntime) -> Result<(), Fail> {
-    let tokens = tokens_of(&rt, rt.alloc(), ADD_ONE)?;
-    let mut text = String::new(rt.alloc());
+// The same for each front of the source, from none of its tokens to all of them.
+fn fronts_told(rt: &impl Abort, alloc: Global, source: &[u8]) -> Result<String, Fail> {
+    assert!(rt; source.len() <= MAX_SOURCE_BYTES);
+    let tokens = tokens_of(rt, alloc, source)?;
+    let mut text = String::new(alloc);
     for count in 0..=tokens.len() {
         if let Some(front) = tokens.as_slice().get(..count) {
-            text.push(front_told(rt.alloc(), front))?;
+            text.push(front_told(alloc, front))?;
         }
     }
+    Ok(text)
+}
+
+#[test]
+fn only_whole_declarations_are_accepted(rt: HostRuntime) -> Result<(), Fail> {
     let want = "aeeeeeeeeeeeeeeeeeeeeeeeeeeaeeeeaeeeeaeeeeeeaeeeeeea";
-    assert_eq!(rt; text.as_str(), want);
+    assert_eq!(rt; fronts_told(&rt, rt.alloc(), ADD_ONE)?.as_str(), want);
+    Ok(())
+}
+
+const LIGHTS: &[u8] = b"data Light = Red | Amber | Green ;
+exception Broken nat 8 ;
+next :: Light -> Light ;
+next Red = Green ;
+next light = case light of Green -> Amber | _ -> Red end ;
+box b in (light :: Light, tick :: bool) out (shown :: Light)
+fair (light, true) -> next light | (*, _*) -> raise Broken 3
+handle Broken number -> Red ;
+stream s from \"i\" ;
+wire s to b.light initial (Red) ;
+";
+
+// A signature alone is no whole declaration, and an equation behind another one is.
+#[test]
+fn only_whole_functions_are_accepted(rt: HostRuntime) -> Result<(), Fail> {
+    let want = "aeeeeeeeeaeeeeaeeeeeeeeeeaeeeeeeeeeeeeeeaeeeeeeeee\
+        eeeeeeeeeeeeeeeeeeeeeeeeeeeeeeeeeaeeeeaeeeeeeeeeea";
+    assert_eq!(rt; fronts_told(&rt, rt.alloc(), LIGHTS)?.as_str(), want);
     Ok(())
 }
