@@ -72,7 +72,7 @@ for _copy in $(seq $((262144 / (${#controller} + 1)))); do
     printf '%s\n' "$controller"
 done >"$room/controllers"
 { printf 'data T = A'; times ' | B' 32000; printf ';'; } >"$room/one type of 32,001 constructors"
-{ printf 'data T = A'; times ' bool' 65000; printf ';'; } >"$room/one constructor of 65,000 parts"
+{ printf 'data T = A'; times ' B' 65000; printf ';'; } >"$room/one constructor of 65,000 parts"
 { printf 'exception E (bool'; times ', bool' 32000; printf ');'; } >"$room/one tuple of 32,001 parts"
 { printf 'wire a to b initial <<1'; times ', 1' 32000; printf '>>;'; } >"$room/one vector of 32,001 numbers"
 { printf 'wire a to b initial f'; times ' 1' 65000; printf ';'; } >"$room/one call of 65,000 arguments"
