@@ -1,3 +1,4 @@
 pub mod Depths
 pub mod Wider
 pub mod SpellSteps
+pub mod SmallDepths

@@ -1,6 +1,9 @@
--- How deep an expression is.
+-- How deep types, patterns and expressions are.
 use Rattle.std.specs.Prelude.{ℕ, ◌+◌, max, List, [], ◌∷◌, Some, None}
-use Rattle.hume_ast.specs.declared.tree.Pat.{Pat}
+use Rattle.hume_ast.specs.declared.tree.TyExp.{TyExp, fold-TyExp}
+use Rattle.hume_ast.specs.declared.tree.TyExp.TheOpen.{TyExp-F}
+use Rattle.hume_ast.specs.declared.tree.Pat.{Pat, fold-Pat}
+use Rattle.hume_ast.specs.declared.tree.Pat.TheOpen.{Pat-F}
 use Rattle.hume_ast.specs.declared.tree.Exp.{Exp, fold-Exp}
 use Rattle.hume_ast.specs.declared.tree.Exp.TheOpen.{Exp-F}
 
@@ -9,11 +12,30 @@ abbrev pub deepest : List ℕ → ℕ
 deepest [] = 0
 deepest (depth ∷ depths) = max depth (deepest depths)
 
+-- 1 for a leaf, and else 1 and the greatest depth of the types in it
+abbrev pub ty_step : TyExp-F ℕ → ℕ
+ty_step (TyExp-F.Vector count item) = 1 + item
+ty_step (TyExp-F.Tuple parts) = 1 + deepest parts
+ty_step _ = 1
+
+abbrev pub ty_depth : TyExp → ℕ
+ty_depth = fold-TyExp ℕ ty_step
+
+-- 1 for a leaf, and else 1 and the greatest depth of the patterns in it
+abbrev pub pat_step : Pat-F ℕ → ℕ
+pat_step (Pat-F.Con name parts) = 1 + deepest parts
+pat_step (Pat-F.Paren inner) = 1 + inner
+pat_step (Pat-F.Tuple parts) = 1 + deepest parts
+pat_step _ = 1
+
+abbrev pub pat_depth : Pat → ℕ
+pat_depth = fold-Pat ℕ pat_step
+
 abbrev pub deepest_alternative : List (Pat × ℕ) → ℕ
 deepest_alternative [] = 0
 deepest_alternative (alternative ∷ alternatives) = max alternative.1 (deepest_alternative alternatives)
 
--- 1 for a leaf, and else 1 and the greatest depth of the expressions in it
+-- 1 for a leaf, and else 1 and the greatest depth of the expressions in it; its types and patterns don't count
 abbrev pub depth_step : Exp-F ℕ → ℕ
 depth_step (Exp-F.Let name value body) = 1 + max value body
 depth_step (Exp-F.If test first second) = 1 + max test (max first second)

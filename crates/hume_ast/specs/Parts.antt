@@ -1,12 +1,11 @@
 -- The tokens of parts of a list, by their places.
-use Rattle.std.specs.Prelude.{ℕ, zero, suc, List, [], ◌∷◌, ◌++◌}
+use Rattle.std.specs.Prelude.{ℕ, zero, suc, List, [], ◌∷◌}
 use Rattle.hume_base.specs.declared.symbol.Symbol.{Symbol}
-use Rattle.hume_base.specs.declared.symbol.Symbol.TheVariants.{Arrow}
 use Rattle.hume_base.specs.declared.token.Kind.{Kind}
 use Rattle.hume_base.specs.declared.token.Kind.TheVariants.{Sign}
 use Rattle.hume_ast.specs.declared.tree.Pat.{Pat}
 use Rattle.hume_ast.specs.declared.tree.Exp.{Exp}
-use Rattle.hume_ast.specs.Spelling.{spelled_pat, spelled_exp}
+use Rattle.hume_ast.specs.Spelling.{spell_alternative, spelled_exp}
 
 -- the sign, but not before the first
 abbrev pub between : Symbol → ℕ → List Kind
@@ -15,4 +14,4 @@ between sign (suc at) = Sign sign ∷ []
 
 -- an alternative of a `case`
 abbrev pub spelled_alternative : Pat × Exp → List Kind
-spelled_alternative alternative = spelled_pat alternative.0 ++ Sign Arrow ∷ spelled_exp alternative.1
+spelled_alternative alternative = spell_alternative (alternative.0, spelled_exp alternative.1)

@@ -169,7 +169,7 @@ abbrev pub spelled_carries : Option TyExp → List Kind
 spelled_carries None = []
 spelled_carries (Some type) = spelled_ty type
 
--- a declaration without its first word
+-- the tokens, and the semicolon that ends a declaration
 abbrev pub ended : List Kind → List Kind
 ended tokens = tokens ++ Sign symbol.Semicolon ∷ []
 

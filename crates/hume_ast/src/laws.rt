@@ -1,9 +1,14 @@
 ghost use Rattle.std.specs.Prelude.{◌↔◌, ◌≤◌, ℕ};
+ghost use Rattle.hume_ast.specs.declared.tree.TyExp.{TyExp};
+ghost use Rattle.hume_ast.specs.declared.tree.Pat.{Pat};
 ghost use Rattle.hume_ast.specs.declared.tree.Exp.{Exp};
-ghost use Rattle.hume_ast.specs.Fits.{ExpFits};
-ghost use Rattle.hume_ast.specs.Depth.{exp_depth};
+ghost use Rattle.hume_ast.specs.Fits.{TypeFits, PatFits, ExpFits};
+ghost use Rattle.hume_ast.specs.Depth.{ty_depth, pat_depth, exp_depth};
 
-/// An expression that the grammar has at a level is within exactly the depths that are not less than its own.
+/// A type, a pattern or an expression that the grammar has at a level is within exactly the depths that are not less
+/// than its own.
 pub fn depth_decides()
-    ensures { (bound some room level : ℕ) (exp : Exp) → ExpFits bound some level exp → ExpFits bound room level exp ↔ (exp_depth exp ≤ room) }
+    ensures types { (some room : ℕ) (type : TyExp) → TypeFits some type → TypeFits room type ↔ (ty_depth type ≤ room) }
+    ensures patterns { (some room level : ℕ) (pattern : Pat) → PatFits some level pattern → PatFits room level pattern ↔ (pat_depth pattern ≤ room) }
+    ensures expressions { (bound some room level : ℕ) (exp : Exp) → ExpFits bound some level exp → ExpFits bound room level exp ↔ (exp_depth exp ≤ room) }
 {}
