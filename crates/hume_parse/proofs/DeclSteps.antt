@@ -7,7 +7,7 @@ use Rattle.hume_base.specs.declared.token.Kind.{Kind}
 use Rattle.hume_base.specs.declared.token.Kind.TheVariants.{Word, Sign}
 use Rattle.hume_base.specs.declared.token.Token.{Token}
 use Rattle.hume_ast.specs.declared.tree.TyExp.{TyExp}
-use Rattle.hume_parse.specs.Gives.{kinds}
+use Rattle.hume_ast.specs.Places.{kinds}
 use Rattle.hume_grammar.specs.Readers.{Reader, ◌>>=◌, next, behind, is_word, is_sign, after, led, made, both, closed, listed, maybe, pick, lower_name, upper_name, port_name}
 use Rattle.hume_grammar.specs.Types.{types}
 use Rattle.hume_grammar.specs.Declarations.{whole_decl, sum_of, constructor, exn_of, starts_type, box_of, sides, rules, stream_of, way, wire_of, wire_end, first_value, expression}

@@ -16,7 +16,8 @@ use Rattle.hume_ast.specs.declared.tree.Exp.TheVariants.{rolls-Let, rolls-If, ro
 use Rattle.hume_ast.specs.declared.tree.Exp.TheOpen.{Exp-F}
 use Rattle.hume_ast.specs.Depth.{exp_depth, deepest, depth_step}
 use Rattle.hume_ast.proofs.Depths.{some_depth}
-use Rattle.hume_parse.specs.Gives.{kinds, Fails}
+use Rattle.hume_ast.specs.Places.{kinds}
+use Rattle.hume_parse.specs.Gives.{Fails}
 use Rattle.hume_parse.specs.Found.{alternatives_depth}
 use Rattle.hume_parse.specs.declared.fault.Fault.{Fault}
 use Rattle.hume_grammar.specs.Readers.{Reader, ◌>>=◌, next, behind, is_word, is_sign, made, both, closed, led, listed, alternatives, pick, many, maybe, lower_name, number_of, upper_name}

@@ -5,7 +5,8 @@ use Rattle.hume_base.specs.declared.symbol.Symbol.{Symbol}
 use Rattle.hume_base.specs.declared.token.Kind.{Kind}
 use Rattle.hume_base.specs.declared.token.Kind.TheVariants.{Sign}
 use Rattle.hume_base.specs.declared.token.Token.{Token}
-use Rattle.hume_parse.specs.Gives.{kinds, Fails}
+use Rattle.hume_ast.specs.Places.{kinds}
+use Rattle.hume_parse.specs.Gives.{Fails}
 use Rattle.hume_parse.specs.declared.fault.Fault.{Fault}
 use Rattle.hume_parse.specs.declared.fault.Fault.TheVariants.{Memory, Syntax, Deep}
 use Rattle.hume_grammar.specs.Readers.{Reader, ◌>>=◌, next, behind, is_sign, made, many, led}

@@ -11,7 +11,8 @@ use Rattle.hume_ast.specs.declared.tree.Pat.{Pat, roll-Pat}
 use Rattle.hume_ast.specs.declared.tree.Pat.TheVariants as tree
 use Rattle.hume_ast.specs.declared.tree.Pat.TheVariants.{rolls-Name, rolls-Any, rolls-Num, rolls-Letter, rolls-Truth, rolls-Con, rolls-Paren, rolls-Tuple, rolls-Star, rolls-AnyStar}
 use Rattle.hume_ast.specs.declared.tree.Pat.TheOpen.{Pat-F}
-use Rattle.hume_parse.specs.Gives.{kinds, Fails}
+use Rattle.hume_ast.specs.Places.{kinds}
+use Rattle.hume_parse.specs.Gives.{Fails}
 use Rattle.hume_parse.specs.declared.fault.Fault.{Fault}
 use Rattle.hume_grammar.specs.Readers.{Reader, next, behind, is_word, is_sign, after, made, both, closed, give, pick, number_of, many, led}
 use Rattle.hume_grammar.specs.Patterns.{patterns, pat_leaf, is_upper, con_pat, pat_in_parens, input_pattern}

@@ -15,7 +15,8 @@ use Rattle.hume_ast.specs.Places.{unplaced, placed, first_place}
 use Rattle.hume_parse.specs.declared.fault.Fault.{Fault}
 use Rattle.hume_parse.specs.declared.program.OpenFunction.{OpenFunction}
 use Rattle.hume_parse.specs.declared.program.Progress.{Progress}
-use Rattle.hume_parse.specs.Gives.{kinds, Fails}
+use Rattle.hume_ast.specs.Places.{kinds}
+use Rattle.hume_parse.specs.Gives.{Fails}
 use Rattle.hume_parse.specs.Lines.{wants}
 use Rattle.hume_parse.specs.Progress.{place_with, place_behind, as_decl, closed, with_equation, took}
 use Rattle.hume_grammar.specs.Readers.{◌>>=◌}

@@ -11,7 +11,7 @@ use Rattle.hume_ast.specs.declared.tree.TyExp.{roll-TyExp}
 use Rattle.hume_ast.specs.declared.tree.TyExp.TheVariants as tree
 use Rattle.hume_ast.specs.declared.tree.TyExp.TheVariants.{rolls-Bool, rolls-Char, rolls-Int, rolls-Nat, rolls-Vector, rolls-Named, rolls-Tuple}
 use Rattle.hume_ast.specs.declared.tree.TyExp.TheOpen.{TyExp-F}
-use Rattle.hume_parse.specs.Gives.{kinds}
+use Rattle.hume_ast.specs.Places.{kinds}
 use Rattle.hume_grammar.specs.Readers.{◌>>=◌, next, behind, is_word, is_sign, made, both, closed, pick, number_of, upper_name, several}
 use Rattle.hume_grammar.specs.Types.{types, vector_of}
 use Rattle.hume_parse.proofs.Loops.{made_twice, kinds_length}

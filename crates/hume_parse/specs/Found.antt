@@ -9,7 +9,7 @@ use Rattle.hume_parse.specs.declared.expressions.FoundTwo.{FoundTwo}
 use Rattle.hume_parse.specs.declared.expressions.FoundList.{FoundList}
 use Rattle.hume_parse.specs.declared.expressions.FoundAlternative.{FoundAlternative}
 use Rattle.hume_parse.specs.declared.expressions.FoundAlternatives.{FoundAlternatives}
-use Rattle.hume_parse.specs.Gives.{kinds}
+use Rattle.hume_ast.specs.Places.{kinds}
 
 abbrev pub found : Found → Exp × List Kind
 found f = (f.exp, kinds f.rest.now)

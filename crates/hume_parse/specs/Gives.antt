@@ -1,12 +1,7 @@
 -- What a function gives, beside what a reader gives.
-use Rattle.std.specs.Prelude.{◌≡◌, ℕ, List, map, Result, Ok, Err}
-use Rattle.hume_base.specs.declared.token.Kind.{Kind}
-use Rattle.hume_base.specs.declared.token.Token.{Token}
+use Rattle.std.specs.Prelude.{◌≡◌, ℕ, Result, Ok, Err}
 use Rattle.hume_parse.specs.declared.fault.Fault.{Fault}
 use Rattle.hume_parse.specs.declared.fault.Fault.TheVariants.{Memory, Syntax, Deep}
-
-abbrev pub kinds : List Token → List Kind
-kinds tokens = map (λ (token : Token). token.kind) tokens
 
 -- the fault is the reader's, whether it is one of depth or not
 abbrev pub Fails : {Y : Type 0} → Fault → Result Y ℕ → Type 0

@@ -2,7 +2,8 @@ ghost use Rattle.std.specs.Prelude.{◌≡◌, ◌<◌, ◌≤◌, length, IfOk}
 ghost use Rattle.hume_base.specs.declared.symbol.Symbol.TheVariants.{Comma, Bar};
 ghost use Rattle.hume_base.specs.declared.keyword.Keyword.TheVariants.{In};
 ghost use Rattle.hume_base.specs.declared.token.Kind.TheVariants.{Word, Sign};
-ghost use Rattle.hume_parse.specs.Gives.{Gives, kinds};
+ghost use Rattle.hume_ast.specs.Places.{kinds};
+ghost use Rattle.hume_parse.specs.Gives.{Gives};
 ghost use Rattle.hume_grammar.specs.Readers.{made, both, closed, listed, maybe, pick, lower_name};
 ghost use Rattle.hume_grammar.specs.Patterns.{input_pattern as input};
 ghost use Rattle.hume_grammar.specs.Declarations.{box_of, sides as sides_read, ports as ports_read, port as port_read};

@@ -2,7 +2,8 @@ ghost use Rattle.std.specs.Prelude.{◌≡◌, ◌<◌, ◌≤◌, length, IfOk,
 ghost use Rattle.hume_base.specs.declared.symbol.Symbol.TheVariants.{Equals, Bar, Semicolon};
 ghost use Rattle.hume_base.specs.declared.keyword.Keyword.TheVariants.{To};
 ghost use Rattle.hume_base.specs.declared.token.Kind.TheVariants.{Word, Sign};
-ghost use Rattle.hume_parse.specs.Gives.{Gives, kinds};
+ghost use Rattle.hume_ast.specs.Places.{kinds};
+ghost use Rattle.hume_parse.specs.Gives.{Gives};
 ghost use Rattle.hume_grammar.specs.Readers.{made, both, closed, listed, many, maybe, next};
 ghost use Rattle.hume_grammar.specs.Readers.{pick, lower_name, upper_name, port_name};
 ghost use Rattle.hume_grammar.specs.Types.{types};

@@ -139,6 +139,7 @@ fn each_form_has_its_tree(rt: HostRuntime) -> Result<(), Fail> {
         ("Pair 1 'c'", "Pair/2 1 letter99"),
         ("( a , b , c )", "Tuple/3 a b c"),
         ("( a as nat 8 )", "Cast:Nat8 a"),
+        ("<< a >>", "Vect/1 a"),
         ("<< a , 1 >>", "Vect/2 a 1"),
         ("*", "Star"),
         ("* * *", "Mul Star Star"),

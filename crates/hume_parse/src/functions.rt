@@ -1,5 +1,6 @@
 ghost use Rattle.std.specs.Prelude.{◌≡◌, ◌<◌, length, IfOk};
-ghost use Rattle.hume_parse.specs.Gives.{Gives, kinds};
+ghost use Rattle.hume_ast.specs.Places.{kinds};
+ghost use Rattle.hume_parse.specs.Gives.{Gives};
 ghost use Rattle.hume_grammar.specs.Declarations.{signature as signature_read, equation as equation_read};
 ghost use Rattle.hume_grammar.specs.Declarations.{some_patterns as patterns_read};
 

@@ -1,5 +1,6 @@
 ghost use Rattle.std.specs.Prelude.{◌≡◌, ◌-◌, ◌<◌, drop, length, IfOk};
-ghost use Rattle.hume_parse.specs.Gives.{Gives, kinds};
+ghost use Rattle.hume_ast.specs.Places.{kinds};
+ghost use Rattle.hume_parse.specs.Gives.{Gives};
 ghost use Rattle.hume_parse.specs.Lines.{seen_line, seen_place, named, signed};
 ghost use Rattle.hume_grammar.specs.Lines.{line, named_line as named_read};
 

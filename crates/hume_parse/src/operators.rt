@@ -1,6 +1,6 @@
 ghost use Rattle.std.specs.Prelude.{◌≡◌, ◌<◌, length, IfSome, IsTrue};
 ghost use Rattle.hume_ast.specs.Fits.{op_level as level_of_op};
-ghost use Rattle.hume_parse.specs.Gives.{kinds};
+ghost use Rattle.hume_ast.specs.Places.{kinds};
 ghost use Rattle.hume_grammar.specs.Readers.{next};
 ghost use Rattle.hume_grammar.specs.Expressions.{operator_of as operator_said, next_operator as operator_read, if_level, starts_atom as atom_starts, is_lower, is_number};
 

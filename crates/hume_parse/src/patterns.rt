@@ -2,7 +2,8 @@ ghost use Rattle.std.specs.Prelude.{◌≡◌, ◌-◌, ◌<◌, length, IfOk, I
 ghost use Rattle.hume_base.specs.declared.symbol.Symbol.TheVariants.{CloseParen, Comma};
 ghost use Rattle.hume_base.specs.declared.token.Kind.TheVariants.{Sign};
 ghost use Rattle.hume_ast.specs.declared.tree.Pat.{roll-Pat};
-ghost use Rattle.hume_parse.specs.Gives.{Gives, kinds};
+ghost use Rattle.hume_ast.specs.Places.{kinds};
+ghost use Rattle.hume_parse.specs.Gives.{Gives};
 ghost use Rattle.hume_grammar.specs.Readers.{next, is_sign, led, made, both, closed, many, pick};
 ghost use Rattle.hume_grammar.specs.Patterns.{patterns, pat_leaf as leaf_said, starts_pat as pat_starts, is_upper, con_pat, pat_in_parens, input_pattern as input};
 

@@ -1,6 +1,7 @@
 ghost use Rattle.std.specs.Prelude.{◌≡◌, [], IfOk};
 ghost use Rattle.hume_ast.specs.Places.{unplaced, placed, first_place as place_of_first};
-ghost use Rattle.hume_parse.specs.Gives.{Gives, kinds};
+ghost use Rattle.hume_ast.specs.Places.{kinds};
+ghost use Rattle.hume_parse.specs.Gives.{Gives};
 ghost use Rattle.hume_parse.specs.Lines.{seen_line, seen_place, wants};
 ghost use Rattle.hume_parse.specs.Progress.{place_behind, with_equation, took, closed};
 ghost use Rattle.hume_grammar.specs.Programs.{program as program_read};

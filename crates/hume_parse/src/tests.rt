@@ -1,9 +1,9 @@
 //! What is read of sources: programs, seen by their spelling and the places of their declarations, or errors.
-use crate::parse;
+use crate::{ParseError, parse};
 use hume_ast::spell;
 use hume_base::limits::MAX_SOURCE_BYTES;
 use hume_base::{Kind, Token};
-use hume_lex::lex;
+use hume_lex::{LexError, lex};
 use std::alloc::Global;
 use std::fmt::Write;
 use std::process::Abort;
@@ -68,7 +68,7 @@ fn each_declaration_is_read_at_its_smallest(rt: HostRuntime) -> Result<(), Fail>
 
 #[test]
 fn each_declaration_is_read_with_all_its_options(rt: HostRuntime) -> Result<(), Fail> {
-    let cases: [(&[u8], &str); 6] = [
+    let cases: [(&[u8], &str); 7] = [
         (
             b"data D = A | B (int 8, nat 16) vector 2 of char D | C bool;",
             "@0",
@@ -79,11 +79,31 @@ fn each_declaration_is_read_with_all_its_options(rt: HostRuntime) -> Result<(), 
             "@0",
         ),
         (
+            b"f :: bool -> bool; f false = case true of false -> true | _ -> false end;",
+            "@0",
+        ),
+        (
             b"box b in (x :: bool, z :: int 8) out (y :: bool, w :: D) fair (x, *) -> (x, A) | (_*, 1) -> (*, raise E 1) | (true, (A x)) -> f x handle E e -> (e, *) | F _ -> * | G -> (true, A);",
             "@0",
         ),
         (b"wire a.x to b.y initial (1 as nat 8) + 2;", "@0"),
         (b"wire a to b.y initial <<1, 2>>;", "@0"),
+    ];
+    for (source, want) in cases {
+        assert_eq!(rt; told(&rt, rt.alloc(), source)?.as_str(), want);
+    }
+    Ok(())
+}
+
+#[test]
+fn lists_of_three_parts_are_read(rt: HostRuntime) -> Result<(), Fail> {
+    let cases: [(&[u8], &str); 3] = [
+        (b"exception E (bool, int 8, D);", "@0"),
+        (b"f :: (bool, char, D) -> bool; f (x, _, A y) = x;", "@0"),
+        (
+            b"box b in (x :: bool, y :: bool, z :: D) out (w :: bool) fair (*, _*, A x) -> x;",
+            "@0",
+        ),
     ];
     for (source, want) in cases {
         assert_eq!(rt; told(&rt, rt.alloc(), source)?.as_str(), want);
@@ -176,7 +196,7 @@ fn six_lines_spell_their_tokens(rt: HostRuntime) -> Result<(), Fail> {
 fn front_told(alloc: Global, tokens: &[Token]) -> char {
     match parse(alloc, tokens, 1000) {
         Ok(_) => 'a',
-        Err(crate::ParseError::Syntax(1000)) => 'e',
+        Err(ParseError::Syntax(1000)) => 'e',
         Err(_) => 'x',
     }
 }
@@ -219,5 +239,140 @@ fn only_whole_functions_are_accepted(rt: HostRuntime) -> Result<(), Fail> {
     let want = "aeeeeeeeeaeeeeaeeeeeeeeeeaeeeeeeeeeeeeeeaeeeeeeeee\
         eeeeeeeeeeeeeeeeeeeeeeeeeeeeeeeeeaeeeeaeeeeeeeeeea";
     assert_eq!(rt; fronts_told(&rt, rt.alloc(), LIGHTS)?.as_str(), want);
+    Ok(())
+}
+
+// Where a wrong token is told: 'e' at the end of the source, 't' at its last token, else '?'.
+fn place_told(tokens: &[Token], end: u32, place: u32) -> char {
+    if place == end {
+        return 'e';
+    }
+    match tokens {
+        [.., last] if last.place == place => 't',
+        _ => '?',
+    }
+}
+
+// What the bytes of a source are: 'l' no tokens, 'a' the tokens of a program, else where a token is wrong.
+fn cut_told(rt: &impl Abort, alloc: Global, front: &[u8]) -> char {
+    assert!(rt; front.len() <= MAX_SOURCE_BYTES);
+    let end = front.len() as u32;
+    let tokens = match lex(alloc, front) {
+        Ok(tokens) => tokens,
+        Err(LexError::BadChar(_)) => return 'l',
+        Err(_) => return '?',
+    };
+    match parse(alloc, tokens.as_slice(), end) {
+        Ok(_) => 'a',
+        Err(ParseError::Syntax(place)) => place_told(tokens.as_slice(), end, place),
+        Err(_) => '?',
+    }
+}
+
+// Adds the last byte of the front, and where a line ends with it what is told below each of the line's bytes.
+fn add_cut(
+    rt: &impl Abort,
+    alloc: Global,
+    text: &mut String,
+    below: &mut String,
+    front: &[u8],
+) -> Result<(), Fail> {
+    let [.., byte] = front else {
+        return Ok(());
+    };
+    text.push(*byte as char)?;
+    below.push(cut_told(rt, alloc, front))?;
+    if *byte == b'\n' {
+        text.push_str(below.as_str())?;
+        text.push('\n')?;
+        below.clear();
+    }
+    Ok(())
+}
+
+// Each line of the source, and below each of its bytes what is told of the source that is cut behind it.
+fn cuts_told(rt: &impl Abort, alloc: Global, source: &[u8]) -> Result<String, Fail> {
+    let mut text = String::new(alloc);
+    let mut below = String::new(alloc);
+    text.push('\n')?;
+    for count in 1..=source.len() {
+        if let Some(front) = source.get(..count) {
+            add_cut(rt, alloc, &mut text, &mut below, front)?;
+        }
+    }
+    Ok(text)
+}
+
+// A cut word is a name, a cut `->` a minus, and a cut `::` or quoted text no token. Where a name or a minus may stand,
+// the source ends too early; elsewhere that token is wrong. `in` is also what `int` begins with.
+const ADD_ONE_CUTS: &str = "
+box b in (x :: int 32) out (y :: int 32)
+eeeeeeteeeeeleetteeeeeetteeeeeleetteeeeee
+match (x) -> (x + 1) ;
+tttteeeeeeteeeeeeeeeeaa
+stream s from \"i\" ;
+eeeeeeeeettteelleeaa
+stream t to \"o\" ;
+eeeeeeeeeteelleeaa
+wire s to b.x ;
+eeeeeeeteeeeeeaa
+wire b.y to t ;
+eeeeeeeeeteeeeaa
+";
+
+#[test]
+fn each_cut_of_six_lines_is_told(rt: HostRuntime) -> Result<(), Fail> {
+    assert_eq!(rt; cuts_told(&rt, rt.alloc(), ADD_ONE)?.as_str(), ADD_ONE_CUTS);
+    Ok(())
+}
+
+// A name may be an argument of the subject of a `case`, or of a constructor before `end`, and a minus begins a number
+// behind a constructor in a pattern.
+const LIGHTS_CUTS: &str = "
+data Light = Red | Amber | Green ;
+eeeeeeeeeeeeeeeeeeeeeeeeeeeeeeeeeaa
+exception Broken nat 8 ;
+eeeeeeeeeeeeeeeeetteeeeaa
+next :: Light -> Light ;
+eeeeeleeeeeeeeteeeeeeeeee
+next Red = Green ;
+eeeeeeeeeeeeeeeeeaa
+next light = case light of Green -> Amber | _ -> Red end ;
+eeeeeeeeeeeeeeeeeeeeeeeeeeeeeeeeeeeeeeeeeeeeeeteeeeeeeeeeaa
+box b in (light :: Light, tick :: bool) out (shown :: Light)
+eeeeeeteeeeeeeeeleeeeeeeeeeeeeeleettteeetteeeeeeeeeleeeeeeeee
+fair (light, true) -> next light | (*, _*) -> raise Broken 3
+ttteeeeeeeeeeeeeeeeteeeeeeeeeeeeeeeeeeeeeeeteeeeeeeeeeeeeeeee
+handle Broken number -> Red ;
+ttttteeeeeeeeeeeeeeeeteeeeeeaa
+stream s from \"i\" ;
+eeeeeeeeettteelleeaa
+wire s to b.light initial (Red) ;
+eeeeeeeteeeeeeeeeetttttteeeeeeeeaa
+";
+
+#[test]
+fn each_cut_of_ten_lines_is_told(rt: HostRuntime) -> Result<(), Fail> {
+    assert_eq!(rt; cuts_told(&rt, rt.alloc(), LIGHTS)?.as_str(), LIGHTS_CUTS);
+    Ok(())
+}
+
+// A minus alone is no comment, and begins no declaration.
+const COMMENTED_CUTS: &str = "
+-- a
+taaaa
+wire a to b ; -- b
+eeeeeeeteeeeaataaaa
+
+a
+";
+
+#[test]
+fn comments_and_blanks_behind_a_declaration_are_accepted(rt: HostRuntime) -> Result<(), Fail> {
+    let source = b"-- a\nwire a to b ; -- b\n\n";
+    assert_eq!(rt;
+        cuts_told(&rt, rt.alloc(), source)?.as_str(),
+        COMMENTED_CUTS
+    );
     Ok(())
 }

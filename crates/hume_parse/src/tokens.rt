@@ -1,6 +1,7 @@
 ghost use Rattle.std.specs.Prelude.{◌≡◌, ◌<◌, length, IfOk, IsTrue};
 ghost use Rattle.hume_base.specs.declared.token.Kind.TheVariants.{Word, Sign};
-ghost use Rattle.hume_parse.specs.Gives.{Gives, kinds};
+ghost use Rattle.hume_ast.specs.Places.{kinds};
+ghost use Rattle.hume_parse.specs.Gives.{Gives};
 ghost use Rattle.hume_grammar.specs.Readers.{next, is_sign, is_word, behind as passed, after, pick, lower_name, upper_name, number_of, port_name};
 
 use crate::fault::Fault;

@@ -4,7 +4,8 @@ ghost use Rattle.hume_base.specs.declared.symbol.Symbol.TheVariants.{CloseParen,
 ghost use Rattle.hume_base.specs.declared.token.Kind.TheVariants.{Word, Sign};
 ghost use Rattle.hume_ast.specs.declared.tree.TyExp.TheOpen.{TyExp-F};
 ghost use Rattle.hume_ast.specs.declared.tree.TyExp.{roll-TyExp};
-ghost use Rattle.hume_parse.specs.Gives.{Gives, kinds};
+ghost use Rattle.hume_ast.specs.Places.{kinds};
+ghost use Rattle.hume_parse.specs.Gives.{Gives};
 ghost use Rattle.hume_grammar.specs.Readers.{made, both, closed, pick, number_of, several, listed};
 ghost use Rattle.hume_grammar.specs.Types.{types, vector_of};
 

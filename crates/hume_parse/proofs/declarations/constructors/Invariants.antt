@@ -1,7 +1,7 @@
 use Rattle.std.proofs.Common.{◌≡◌, ◌<◌, length}
 use Rattle.hume_base.specs.declared.symbol.Symbol.TheVariants.{Bar}
 use Rattle.hume_base.specs.declared.token.Kind.TheVariants.{Sign}
-use Rattle.hume_parse.specs.Gives.{kinds}
+use Rattle.hume_ast.specs.Places.{kinds}
 use Rattle.hume_grammar.specs.Readers.{listed, many, led, is_sign}
 use Rattle.hume_grammar.specs.Declarations.{constructor}
 use Rattle.hume_parse.proofs.Loops.{joined}

@@ -3,7 +3,7 @@ use Rattle.hume_base.specs.declared.symbol.Symbol.TheVariants.{Comma, Bar}
 use Rattle.hume_base.specs.declared.token.Kind.TheVariants.{Sign}
 use Rattle.hume_ast.specs.Depth.{exp_depth, deepest}
 use Rattle.hume_ast.specs.declared.tree.Exp.{roll-Exp, out-Exp}
-use Rattle.hume_parse.specs.Gives.{kinds}
+use Rattle.hume_ast.specs.Places.{kinds}
 use Rattle.hume_parse.specs.Found.{alternatives_depth}
 use Rattle.hume_grammar.specs.Readers.{many, led, is_sign, made, listed}
 use Rattle.hume_grammar.specs.Patterns.{patterns}

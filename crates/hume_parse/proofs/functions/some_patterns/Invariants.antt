@@ -1,5 +1,5 @@
 use Rattle.std.proofs.Common.{◌≡◌, ◌<◌, length}
-use Rattle.hume_parse.specs.Gives.{kinds}
+use Rattle.hume_ast.specs.Places.{kinds}
 use Rattle.hume_grammar.specs.Readers.{many}
 use Rattle.hume_grammar.specs.Patterns.{patterns, starts_pat}
 use Rattle.hume_grammar.specs.Declarations.{some_patterns}

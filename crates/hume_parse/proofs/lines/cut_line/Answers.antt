@@ -1,6 +1,6 @@
 use Rattle.std.proofs.Common.{◌-◌, length, Ok, refl, sym, ap, ◌∙◌}
 use Rattle.std.proofs.lemmas.List.{take_rest}
-use Rattle.hume_parse.specs.Gives.{kinds}
+use Rattle.hume_ast.specs.Places.{kinds}
 use Rattle.hume_parse.specs.Lines.{seen_line, seen_place}
 use Rattle.hume_parse.proofs.LineSteps.{same_end}
 use Rattle.hume_parse.proofs.lines.cut_line.Goals as goal

@@ -3,7 +3,8 @@ use Rattle.std.proofs.lemmas.List.{nil_from_length}
 use Rattle.std.proofs.lemmas.Bool.{eqb-true}
 use Rattle.std.proofs.lemmas.Result.{err_from_is_err_and}
 use Rattle.hume_ast.specs.Places.{unplaced, placed}
-use Rattle.hume_parse.specs.Gives.{kinds, Fails}
+use Rattle.hume_ast.specs.Places.{kinds}
+use Rattle.hume_parse.specs.Gives.{Fails}
 use Rattle.hume_parse.specs.Lines.{seen_line, wants}
 use Rattle.hume_parse.specs.Progress.{took}
 use Rattle.hume_grammar.specs.Lines.{line}
