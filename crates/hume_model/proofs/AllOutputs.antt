@@ -126,3 +126,7 @@ ports_length (port ∷ ports) = ap suc (ports_length ports)
 pub all_outputs : (core : Core) (b : BoxC) → BoxIsTyped core b → HandlesAll core b → (ins : List (Option Value)) → are_outputs core.types (port_types b.ins) ins ≡ true
     → (order : List ℕ) (firing : Firing) → fire core b order ins ≡ Some firing → length firing.outs ≡ length b.outs
 all_outputs core b typed handles ins are order firing h = fire_all core b typed handles ins are order firing h ∙ ports_length b.outs
+
+pub each_output : (core : Core) (tys vars : List Ty) (r : Res) → GivesOutputs core tys vars r → (env : List Value) (outs : List (Option Value))
+    → result_of core env r ≡ Asserts outs → length outs ≡ length tys
+each_output core tys vars r gives env outs h = subst (HasAll tys) h (result_all core tys gives env)

@@ -215,9 +215,9 @@ module _ (core : Core) where
         typed (HasType.negation t {parts = es} num parts) env is =
             ap (is_outcome core t) (eval-prim call env op.Neg t es)
             ∙ with_all_typed (t ∷ []) t _ _ (all_typed parts env is) (λ vs all. on_one op.Neg t t t vs (λ a. number-value core.types t num (neg_ℤ (number_at (out-Ty t) a))) all)
-        typed (HasType.opposite t {parts = es} parts) env is =
-            ap (is_outcome core shape.Bool) (eval-prim call env op.Not t es)
-            ∙ with_all_typed (shape.Bool ∷ []) shape.Bool _ _ (all_typed parts env is) (λ vs all. on_one op.Not shape.Bool t shape.Bool vs (λ a. truth_typed (a == 0)) all)
+        typed (HasType.opposite {parts = es} parts) env is =
+            ap (is_outcome core shape.Bool) (eval-prim call env op.Not shape.Bool es)
+            ∙ with_all_typed (shape.Bool ∷ []) shape.Bool _ _ (all_typed parts env is) (λ vs all. on_one op.Not shape.Bool shape.Bool shape.Bool vs (λ a. truth_typed (a == 0)) all)
         typed (HasType.conversion from to {parts = es} from_num num parts) env is =
             ap (is_outcome core to) (eval-prim call env op.Convert to es)
             ∙ with_all_typed (from ∷ []) to _ _ (all_typed parts env is) (λ vs all. on_one op.Convert from to to vs (λ a. number-value core.types to num (pos a)) all)

@@ -1,6 +1,7 @@
 -- What a box gives when it fires is of its outputs' types.
 use Rattle.std.proofs.Common.{◌≡◌, ℕ, suc, ◌==◌, Bool, true, false, if◌then◌else◌, List, [], ◌∷◌, Option, Some, None, slice_get, refl, ap, sym, ◌∙◌, subst, inl, inr}
 use Rattle.std.proofs.lemmas.Bool.{and_parts, eqb-true}
+use Rattle.std.proofs.lemmas.Option.{same_Some}
 use Rattle.std.specs.List.{find}
 use Rattle.std.specs.Option.{is_some, option_map, option_and_then, option_to_list, unwrap_or}
 use Rattle.hume_base.proofs.Tables.{chosen}
@@ -81,7 +82,8 @@ module _ (core : Core) (sound : HasSoundParts core) (b : BoxC) (typed : BoxIsTyp
       → handler.bound ≡ true → AreOf core.types has.vars (option_to_list carried)
   bound_env handler has None carried found is bound = cc
   bound_env handler has (Some exn) carried found is bound =
-      subst (λ ts. AreOf core.types ts (option_to_list carried)) (sym (has.binds exn found bound)) (carried_values core.types exn.carries carried is)
+      let same : has.exn ≡ exn = same_Some has.exn exn (sym has.known ∙ found) in
+      subst (λ ts. AreOf core.types ts (option_to_list carried)) (sym (has.binds bound ∙ ap (λ (x : ExnDef). carried_types x.carries) same)) (carried_values core.types exn.carries carried is)
 
   env_typed : (handler : HandC) (has : HandlerIsTyped core b handler) (carried : Option Value) → is_raised core.types (slice_get core.exns handler.exn) carried ≡ true
       → (bound : Bool) → handler.bound ≡ bound → AreOf core.types has.vars (if bound then option_to_list carried else [])

@@ -19,6 +19,8 @@ pub mod Sides
 pub mod Small
 pub mod Starts
 pub mod StartTypes
+pub mod StatePlaces
+pub mod OneWire
 pub mod StateTypes
 pub mod Widths
 pub mod WellFormedCores

@@ -1,5 +1,5 @@
 -- When the boxes of a core have rules, handlers and wires that fit the types of their ports.
-use Rattle.std.specs.Prelude.{◌≡◌, ℕ, true, false, List, [], ◌∷◌, ◌++◌, map, Option, Some, None, slice_get}
+use Rattle.std.specs.Prelude.{◌≡◌, ◌≢◌, ℕ, true, false, List, [], ◌∷◌, ◌++◌, map, Option, Some, None, slice_get}
 use Rattle.hume_base.specs.declared.types.Ty.{Ty}
 use Rattle.hume_base.specs.declared.types.Types.{Types}
 use Rattle.hume_model.specs.declared.core_tree.InPat.{InPat}
@@ -36,14 +36,19 @@ abbrev pub carried_types : Option Ty → List Ty
 carried_types None = []
 carried_types (Some ty) = ty ∷ []
 
--- the handler's result does, and what it binds is what the exception carries
+-- the handler's result does; it is for an exception of the core, and what it binds is what that carries
 pub record HandlerIsTyped (core : Core) (b : BoxC) (handler : HandC) : Type 0 where
+  pub exn : ExnDef
+  pub known : slice_get core.exns handler.exn ≡ Some exn
   pub vars : List Ty
-  pub binds : (exn : ExnDef) → slice_get core.exns handler.exn ≡ Some exn → handler.bound ≡ true → vars ≡ carried_types exn.carries
+  pub carries : handler.bound ≡ true → exn.carries ≢ None
+  pub binds : handler.bound ≡ true → vars ≡ carried_types exn.carries
   pub nothing : handler.bound ≡ false → vars ≡ []
   pub outputs : GivesOutputs core (port_types b.outs) vars handler.result
 
--- each rule and each handler of the box
+-- each rule and each handler of the box, which has one handler at most for an exception
 pub record BoxIsTyped (core : Core) (b : BoxC) : Type 0 where
   pub rules : (number : ℕ) (rule : RuleC) → slice_get b.rules number ≡ Some rule → RuleIsTyped core b rule
   pub handlers : (number : ℕ) (handler : HandC) → slice_get b.handlers number ≡ Some handler → HandlerIsTyped core b handler
+  pub apart : (first second : ℕ) (handler other : HandC) → slice_get b.handlers first ≡ Some handler → slice_get b.handlers second ≡ Some other
+      → handler.exn ≡ other.exn → first ≡ second

@@ -16,6 +16,8 @@ pub mod Lockstep
 pub mod Start
 pub mod Nodes
 pub mod WellFormed
+pub mod StatePlaces
+pub mod Wiring
 pub mod StateTyping
 pub mod TypeLimits
 pub mod PartLimits

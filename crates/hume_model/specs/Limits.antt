@@ -1,6 +1,7 @@
 -- What is asked of a whole core: its parts are sound, its wires have ends, and all is within the limits.
 use Rattle.std.specs.Prelude.{◌≡◌, ℕ, ◌≤◌, ◌<◌, Bool, true, false, ◌&&◌, if◌then◌else◌, All, List, [], ◌∷◌, codes, length, map, sum, take, Option, Some, None, slice_get}
 use Rattle.std.specs.List.{list_all}
+use Rattle.std.specs.Option.{option_map}
 use Rattle.hume_base.specs.declared.types.Ty.{Ty}
 use Rattle.hume_base.specs.declared.types.Ty.TheVariants as shape
 use Rattle.hume_base.specs.declared.types.SumDef.{SumDef}
@@ -51,8 +52,8 @@ pub record IsSmallBox (types : Types) (b : BoxC) : Type 0 where
   pub each_output : All (IsSmallPort types) b.outs
   pub some_rules : 1 ≤ length b.rules
   pub rules : length b.rules ≤ 64
-  pub each_rule : list_all is_written_rule b.rules ≡ true
-  pub each_handler : list_all (λ (handler : HandC). is_written_result handler.result) b.handlers ≡ true
+  pub each_rule : list_all (is_written_rule types) b.rules ≡ true
+  pub each_handler : list_all (λ (handler : HandC). is_written_result types handler.result) b.handlers ≡ true
 
 pub record IsSmallStream (stream : StreamC) : Type 0 where
   pub name : IsName stream.name
@@ -72,7 +73,7 @@ pub record IsSmallFunction (types : Types) (function : FunC) : Type 0 where
   pub each_param : All (IsWrittenType types) function.params
   pub gives : IsWrittenType types function.gives
   pub equations : 1 ≤ length function.equations
-  pub each_equation : list_all is_written_equation function.equations ≡ true
+  pub each_equation : list_all (is_written_equation types) function.equations ≡ true
 
 pub record IsSmallException (types : Types) (exn : ExnDef) : Type 0 where
   pub name : IsName exn.name
@@ -91,7 +92,30 @@ pub record IsSmallData (core : Core) (number : ℕ) (sum_type : SumDef) : Type 0
   pub each_constructor : All (IsSmallConstructor core.types) sum_type.cons
   pub words : size_of core.types (shape.Named number) ≤ 1024
 
--- both ends of a wire are ports of nodes, and its initial value is of its type
+abbrev pub is_stream : NodeC → Bool
+is_stream (Rules b) = false
+is_stream (From stream) = true
+is_stream (To stream) = true
+
+-- the type of an output and of an input; a stream has none of its own
+abbrev pub output_type : NodeC → ℕ → Option Ty
+output_type (Rules b) place = option_map (λ (port : PortC). port.ty) (slice_get b.outs place)
+output_type (From stream) place = None
+output_type (To stream) place = None
+
+abbrev pub input_type : NodeC → ℕ → Option Ty
+input_type (Rules b) place = option_map (λ (port : PortC). port.ty) (slice_get b.ins place)
+input_type (From stream) place = None
+input_type (To stream) place = None
+
+-- the type of a wire by the types at its ends: the first one there is, and `bool` between two streams
+abbrev pub type_of_ends : Option Ty → Option Ty → Ty
+type_of_ends (Some ty) second = ty
+type_of_ends None (Some ty) = ty
+type_of_ends None None = shape.Bool
+
+-- Both ends of a wire are ports of nodes, and it has its type from them. Its initial value is of its type; between two
+-- streams there is none.
 pub record HasEnds (core : Core) (wire : WireC) : Type 0 where
   pub producer : NodeC
   pub consumer : NodeC
@@ -99,8 +123,10 @@ pub record HasEnds (core : Core) (wire : WireC) : Type 0 where
   pub from_port : wire.from_port < outputs_of producer
   pub to : slice_get core.nodes wire.to ≡ Some consumer
   pub to_port : wire.to_port < inputs_of consumer
+  pub ty : wire.ty ≡ type_of_ends (output_type producer wire.from_port) (input_type consumer wire.to_port)
   pub initial : (v : Value) → wire.initial ≡ Some v → is_value core.types wire.ty v ≡ true
-  pub ty : IsWrittenType core.types wire.ty
+  pub no_initial : is_stream producer ≡ true → is_stream consumer ≡ true → wire.initial ≡ None
+  pub written : IsWrittenType core.types wire.ty
 
 -- the names of the exceptions that every program has
 abbrev pub own_exceptions : List (List ℕ)
@@ -112,16 +138,14 @@ pub record HasFewExceptions (core : Core) : Type 0 where
   pub all : length core.exns ≤ 64
   pub each : All (IsSmallException core.types) core.exns
 
-abbrev pub is_stream : Option NodeC → Bool
-is_stream None = false
-is_stream (Some (Rules b)) = false
-is_stream (Some (From stream)) = true
-is_stream (Some (To stream)) = true
+abbrev pub is_stream_there : Option NodeC → Bool
+is_stream_there None = false
+is_stream_there (Some node) = is_stream node
 
 -- the words that a wire counts for: none between two streams, which have no type
 abbrev pub wire_words : Core → WireC → ℕ
 wire_words core wire =
-    if is_stream (slice_get core.nodes wire.from) && is_stream (slice_get core.nodes wire.to) then 0 else size_of core.types wire.ty
+    if is_stream_there (slice_get core.nodes wire.from) && is_stream_there (slice_get core.nodes wire.to) then 0 else size_of core.types wire.ty
 
 pub record IsWithinLimits (core : Core) : Type 0 where
   pub functions : length core.funs ≤ 256

@@ -1,6 +1,7 @@
--- How many parts tuples, vectors and `case`s may have in patterns, expressions and results.
-use Rattle.std.specs.Prelude.{nat_le, ◌&&◌, Bool, true, List, length, Option, Some, None}
+-- How many parts tuples, vectors and `case`s may have in patterns, expressions and results, and which types stand there.
+use Rattle.std.specs.Prelude.{ℕ, nat_le, ◌&&◌, Bool, true, List, length, Option, Some, None}
 use Rattle.std.specs.List.{list_all}
+use Rattle.hume_base.specs.declared.types.Types.{Types}
 use Rattle.hume_model.specs.declared.core_tree.PatC.{PatC, fold-PatC}
 use Rattle.hume_model.specs.declared.core_tree.PatC.TheOpen.{PatC-F}
 use Rattle.hume_model.specs.declared.core_tree.Expr.{Expr, fold-Expr}
@@ -12,7 +13,7 @@ use Rattle.hume_model.specs.declared.core_tree.Res.TheOpen.{Res-F}
 use Rattle.hume_model.specs.declared.core_tree.EqC.{EqC}
 use Rattle.hume_model.specs.declared.core_tree.RuleC.{RuleC}
 use Rattle.hume_model.specs.Calls.{all_true, if_there}
-use Rattle.hume_model.specs.TypeLimits.{is_between}
+use Rattle.hume_model.specs.TypeLimits.{is_between, is_type}
 
 -- a tuple has 2 to 16 parts, each of which is as it should be
 abbrev pub is_tuple : List Bool → Bool
@@ -35,46 +36,50 @@ is_written_pattern = fold-PatC Bool pattern_step
 abbrev pub are_alternatives : List (PatC × Bool) → Bool
 are_alternatives arms = nat_le 1 (length arms) && list_all (λ (arm : PatC × Bool). is_written_pattern arm.0 && arm.1) arms
 
--- one level of an expression
-abbrev pub expression_step : Expr-F Bool → Bool
-expression_step (Expr-F.Word word) = true
-expression_step (Expr-F.Var number) = true
-expression_step (Expr-F.Con place parts) = all_true parts
-expression_step (Expr-F.Tuple parts) = is_tuple parts
-expression_step (Expr-F.Vect parts) = is_vector parts
-expression_step (Expr-F.Prim op ty parts) = all_true parts
-expression_step (Expr-F.Index count vector place) = vector && place
-expression_step (Expr-F.Update count vector place item) = vector && (place && item)
-expression_step (Expr-F.If test when_true when_false) = test && (when_true && when_false)
-expression_step (Expr-F.Case part ty arms) = part && are_alternatives arms
-expression_step (Expr-F.Let part body) = part && body
-expression_step (Expr-F.Call function parts) = all_true parts
-expression_step (Expr-F.Raise exn part) = if_there part
+-- a vector of so many is indexed or changed
+abbrev pub is_length : ℕ → Bool
+is_length count = is_between 1 1024 count
 
-abbrev pub is_written : Expr → Bool
-is_written = fold-Expr Bool expression_step
+-- one level of an expression, where the data types are these
+abbrev pub expression_step : Types → Expr-F Bool → Bool
+expression_step types (Expr-F.Word word) = true
+expression_step types (Expr-F.Var number) = true
+expression_step types (Expr-F.Con place parts) = all_true parts
+expression_step types (Expr-F.Tuple parts) = is_tuple parts
+expression_step types (Expr-F.Vect parts) = is_vector parts
+expression_step types (Expr-F.Prim op ty parts) = is_type types ty && all_true parts
+expression_step types (Expr-F.Index count vector place) = is_length count && (vector && place)
+expression_step types (Expr-F.Update count vector place item) = is_length count && (vector && (place && item))
+expression_step types (Expr-F.If test when_true when_false) = test && (when_true && when_false)
+expression_step types (Expr-F.Case part ty arms) = is_type types ty && (part && are_alternatives arms)
+expression_step types (Expr-F.Let part body) = part && body
+expression_step types (Expr-F.Call function parts) = all_true parts
+expression_step types (Expr-F.Raise exn part) = if_there part
 
-abbrev pub is_written_if_there : Option Expr → Bool
-is_written_if_there None = true
-is_written_if_there (Some e) = is_written e
+abbrev pub is_written : Types → Expr → Bool
+is_written types = fold-Expr Bool (expression_step types)
+
+abbrev pub is_written_if_there : Types → Option Expr → Bool
+is_written_if_there types None = true
+is_written_if_there types (Some e) = is_written types e
 
 -- one level of a result
-abbrev pub result_step : Res-F Bool → Bool
-result_step (Res-F.Outs outs) = list_all is_written_if_there outs
-result_step (Res-F.If test when_true when_false) = is_written test && (when_true && when_false)
-result_step (Res-F.Case part ty arms) = is_written part && are_alternatives arms
-result_step (Res-F.Let part body) = is_written part && body
-result_step (Res-F.Raise exn part) = is_written_if_there part
+abbrev pub result_step : Types → Res-F Bool → Bool
+result_step types (Res-F.Outs outs) = list_all (is_written_if_there types) outs
+result_step types (Res-F.If test when_true when_false) = is_written types test && (when_true && when_false)
+result_step types (Res-F.Case part ty arms) = is_type types ty && (is_written types part && are_alternatives arms)
+result_step types (Res-F.Let part body) = is_written types part && body
+result_step types (Res-F.Raise exn part) = is_written_if_there types part
 
-abbrev pub is_written_result : Res → Bool
-is_written_result = fold-Res Bool result_step
+abbrev pub is_written_result : Types → Res → Bool
+is_written_result types = fold-Res Bool (result_step types)
 
 abbrev pub is_written_position : InPat → Bool
 is_written_position (Built p) = is_written_pattern p
 is_written_position _ = true
 
-abbrev pub is_written_equation : EqC → Bool
-is_written_equation equation = list_all is_written_pattern equation.pats && is_written equation.body
+abbrev pub is_written_equation : Types → EqC → Bool
+is_written_equation types equation = list_all is_written_pattern equation.pats && is_written types equation.body
 
-abbrev pub is_written_rule : RuleC → Bool
-is_written_rule rule = list_all is_written_position rule.pats && is_written_result rule.result
+abbrev pub is_written_rule : Types → RuleC → Bool
+is_written_rule types rule = list_all is_written_position rule.pats && is_written_result types rule.result

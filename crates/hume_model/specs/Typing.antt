@@ -88,7 +88,7 @@ mutual
         → HaveTypes core vars parts (ty ∷ ty ∷ []) → HasType core vars (expr.Prim op ty parts) shape.Bool
     negation : {vars : List Ty} (ty : Ty) {parts : List Expr} → is_number_type ty ≡ true
         → HaveTypes core vars parts (ty ∷ []) → HasType core vars (expr.Prim Neg ty parts) ty
-    opposite : {vars : List Ty} (ty : Ty) {parts : List Expr} → HaveTypes core vars parts (shape.Bool ∷ []) → HasType core vars (expr.Prim Not ty parts) shape.Bool
+    opposite : {vars : List Ty} {parts : List Expr} → HaveTypes core vars parts (shape.Bool ∷ []) → HasType core vars (expr.Prim Not shape.Bool parts) shape.Bool
     conversion : {vars : List Ty} (from to : Ty) {parts : List Expr} → is_number_type from ≡ true → is_number_type to ≡ true
         → HaveTypes core vars parts (from ∷ []) → HasType core vars (expr.Prim Convert to parts) to
     index : {vars : List Ty} (count : ℕ) (places item : Ty) {vector place : Expr} → is_number_type places ≡ true

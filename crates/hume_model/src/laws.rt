@@ -1,5 +1,5 @@
 //! Laws of the definitions, as contracts of functions that do nothing.
-ghost use Rattle.std.specs.Prelude.{◌≡◌, ℕ, ◌<◌, true, List, Option, Some, length, slice_get};
+ghost use Rattle.std.specs.Prelude.{◌≡◌, ℕ, ◌<◌, Bool, true, List, Option, Some, length, slice_get};
 ghost use Rattle.std.specs.Option.{is_some, option_flatten};
 ghost use Rattle.hume_base.specs.declared.types.Ty.{Ty};
 ghost use Rattle.hume_base.specs.declared.types.Value.{Value};
@@ -13,13 +13,17 @@ ghost use Rattle.hume_model.specs.Meaning.{eval, eval_with, call_below, call_of}
 ghost use Rattle.hume_model.specs.Matching.{fits, taken_at};
 ghost use Rattle.hume_model.specs.Typing.{HasType, AreOf, is_outcome};
 ghost use Rattle.hume_model.specs.Results.{result_of};
+ghost use Rattle.hume_model.specs.declared.outcome.Outputs.TheVariants.{Asserts};
 ghost use Rattle.hume_model.specs.ResultTyping.{GivesOutputs, is_result, are_outputs};
 ghost use Rattle.hume_model.specs.Firing.{fire};
 ghost use Rattle.hume_model.specs.BoxTyping.{BoxIsTyped, port_types};
 ghost use Rattle.hume_model.specs.Handling.{HandlesAll};
 ghost use Rattle.hume_model.specs.declared.state.State.{State};
-ghost use Rattle.hume_model.specs.Lockstep.{superstep, lockstep};
+ghost use Rattle.hume_model.specs.Lockstep.{superstep, lockstep, on_found, on_wire};
+ghost use Rattle.hume_model.specs.Wiring.{IsTheWire};
+ghost use Rattle.hume_model.specs.declared.core_tree.WireC.{WireC};
 ghost use Rattle.hume_model.specs.Start.{start};
+ghost use Rattle.hume_model.specs.StatePlaces.{HasPlaces};
 ghost use Rattle.hume_model.specs.StateTyping.{WiresAgree, IsTypedNet, IsTypedState, InitialsAreTyped, ComingAreTyped};
 ghost use Rattle.hume_model.specs.WellFormed.{HasSoundParts};
 ghost use Rattle.hume_model.specs.Limits.{IsWellFormed};
@@ -45,10 +49,13 @@ pub fn what_is_taken_is_there()
         → slice_get (taken_at pats ins) i ≡ Some true → is_some (option_flatten (slice_get ins i)) ≡ true }
 {}
 
-/// The same for the results of rules and handlers: outputs of the box's types, or an exception of the core.
+/// The same for the results of rules and handlers: outputs of the box's types, or an exception of the core. Where no
+/// exception is raised, there is an output, or none as `*`, for each.
 pub fn results_keep_types()
-    ensures { (core : Core) → HasSoundParts core → (tys vars : List Ty) (res : Res) → GivesOutputs core tys vars res
+    ensures types { (core : Core) → HasSoundParts core → (tys vars : List Ty) (res : Res) → GivesOutputs core tys vars res
         → (env : List Value) → AreOf core.types vars env → is_result core tys (result_of core env res) ≡ true }
+    ensures each { (core : Core) (tys vars : List Ty) (res : Res) → GivesOutputs core tys vars res → (env : List Value) (outs : List (Option Value))
+        → result_of core env res ≡ Asserts outs → length outs ≡ length tys }
 {}
 
 /// What a box gives when it fires is of its outputs' types, if the values at its inputs are of theirs.
@@ -78,6 +85,16 @@ pub fn starts_have_types()
 pub fn locksteps_keep_types()
     ensures { (core : Core) → IsTypedNet core → InitialsAreTyped core → (coming : List (List Value)) → ComingAreTyped core coming
         → (k : ℕ) → IsTypedState core (lockstep core (start core coming) k) }
+{}
+
+/// Each wire and each node has its place in every state of a lockstep, and the order of a box has rules of that box alone.
+pub fn locksteps_have_places()
+    ensures { (core : Core) (coming : List (List Value)) → length coming ≡ length core.nodes → (k : ℕ) → HasPlaces core (lockstep core (start core coming) k) }
+{}
+
+/// A node sees at a port with one wire what is on that wire. Where a core is wired (`IsWired`), each port has one.
+pub fn ports_see_their_wires()
+    ensures { (core : Core) (test : WireC → Bool) (w : ℕ) → IsTheWire test core.wires w → (state : State) → on_found core state test ≡ on_wire state w }
 {}
 
 /// The types of a well-formed core have sizes that `value_of` can read.

@@ -29,6 +29,10 @@ mod tests_nets;
 mod tests_operations;
 #[cfg(test)]
 mod tests_reading;
+#[cfg(test)]
+mod tests_variables;
+#[cfg(test)]
+mod tests_widths;
 
 pub use core_tree::{
     BoxC, Core, EqC, ExnDef, Expr, FunC, HandC, InPat, NodeC, Op, PatC, PortC, Res, RuleC, StreamC,
@@ -37,8 +41,9 @@ pub use core_tree::{
 pub use evaluate::eval_plain;
 pub use laws::{
     calls_unfold, evaluation_keeps_types, firing_keeps_types, handled_boxes_give_all_outputs,
-    locksteps_keep_types, results_keep_types, starts_have_types, supersteps_keep_types,
-    well_formed_nets_are_typed, well_formed_types_are_readable, what_is_taken_is_there,
+    locksteps_have_places, locksteps_keep_types, ports_see_their_wires, results_keep_types,
+    starts_have_types, supersteps_keep_types, well_formed_nets_are_typed,
+    well_formed_types_are_readable, what_is_taken_is_there,
 };
 pub use net::{Net, net_make};
 pub use outcome::{DIV_ZERO, NO_CASE, Outcome, Outputs, RANGE, Several};

@@ -1,11 +1,11 @@
 //! Cores for tests, and how a net of one goes on.
 ghost use Rattle.std.specs.Prelude.{◌≡◌, ◌∷◌, [], IfOk, IsTrue};
 ghost use Rattle.hume_model.specs.WellFormed.{HasSmallBoxes, HasFewRules};
-ghost use Rattle.hume_model.specs.Nodes.{IsInputOf};
+ghost use Rattle.hume_model.specs.Nodes.{IsInputOf, IsOutputOf};
 
 use crate::core_tree::*;
 use crate::net::{Net, net_make};
-use hume_base::{List, Text, Ty, Types, Value};
+use hume_base::{List, Text, Ty, Types, Value, copy_ty};
 use std::alloc::{AllocError, Global};
 use std::test::Fail;
 
@@ -26,11 +26,11 @@ pub(crate) fn pair<T: Drop>(alloc: Global, first: T, second: T) -> Result<List<T
     Ok(list)
 }
 
-fn ports(alloc: Global, count: usize) -> Result<List<PortC>, AllocError> {
+fn ports(alloc: Global, ty: &Ty, count: usize) -> Result<List<PortC>, AllocError> {
     let mut ports = List::new(alloc);
     for _port in 0..count {
         let name = Text::from_bytes(alloc, b"p")?;
-        let ty = Ty::Int(32);
+        let ty = copy_ty(alloc, ty)?;
         ports.push(PortC { name, ty })?;
     }
     Ok(ports)
@@ -41,17 +41,18 @@ pub(crate) fn rule(pats: List<InPat>, outs: List<Option<Expr>>) -> RuleC {
     RuleC { pats, result }
 }
 
-// A box of ports of `int 32`.
+// A box of ports of one type.
 pub(crate) fn a_box(
     alloc: Global,
+    ty: &Ty,
     counts: (usize, usize),
     fair: bool,
     rules: List<RuleC>,
     handlers: List<HandC>,
 ) -> Result<NodeC, AllocError> {
     let name = Text::from_bytes(alloc, b"b")?;
-    let ins = ports(alloc, counts.0)?;
-    let outs = ports(alloc, counts.1)?;
+    let ins = ports(alloc, ty, counts.0)?;
+    let outs = ports(alloc, ty, counts.1)?;
     Ok(NodeC::Rules(BoxC {
         name,
         line: 1,
@@ -63,15 +64,15 @@ pub(crate) fn a_box(
     }))
 }
 
-// A box of one input and one output, which hands on what it takes.
+// A box of one input and one output of `int 32`, which hands on what it takes.
 pub(crate) fn passing(alloc: Global) -> Result<NodeC, AllocError> {
-    one_in_one_out(alloc, Expr::Var(0))
+    one_in_one_out(alloc, &Ty::Int(32), Expr::Var(0))
 }
 
-// A box of one input and one output, which gives the expression of what it takes.
-pub(crate) fn one_in_one_out(alloc: Global, out: Expr) -> Result<NodeC, AllocError> {
+// A box of one input and one output of the type, which gives the expression of what it takes.
+pub(crate) fn one_in_one_out(alloc: Global, ty: &Ty, out: Expr) -> Result<NodeC, AllocError> {
     let rules = alone(alloc, rule(one_var(alloc)?, one_out(alloc, out)?))?;
-    a_box(alloc, (1, 1), false, rules, List::new(alloc))
+    a_box(alloc, ty, (1, 1), false, rules, List::new(alloc))
 }
 
 pub(crate) fn one_var(alloc: Global) -> Result<List<InPat>, AllocError> {
@@ -108,57 +109,88 @@ pub(crate) fn with_streams(
     Ok(nodes)
 }
 
-pub(crate) fn wire(from: (u32, u32), to: (u32, u32)) -> WireC {
-    WireC {
+// A wire between two ports of the type, each as node and port.
+pub(crate) fn wire(
+    alloc: Global,
+    ty: &Ty,
+    from: (u32, u32),
+    to: (u32, u32),
+) -> Result<WireC, AllocError> {
+    Ok(WireC {
         line: 1,
         from: from.0,
         from_port: from.1,
         to: to.0,
         to_port: to.1,
-        ty: Ty::Int(32),
+        ty: copy_ty(alloc, ty)?,
         initial: None,
-    }
+    })
 }
 
-// A wire from and to the ports of each row, as node and port.
-pub(crate) fn wires(alloc: Global, rows: &[[(u32, u32); 2]]) -> Result<List<WireC>, AllocError> {
+// A wire from and to the ports of each row.
+pub(crate) fn wires(
+    alloc: Global,
+    ty: &Ty,
+    rows: &[[(u32, u32); 2]],
+) -> Result<List<WireC>, AllocError> {
     let mut wires = List::new(alloc);
     for [from, to] in rows {
-        wires.push(wire(*from, *to))?;
+        wires.push(wire(alloc, ty, *from, *to)?)?;
     }
     Ok(wires)
 }
 
-pub(crate) fn net_core(alloc: Global, nodes: List<NodeC>, wires: List<WireC>) -> Core {
+// The nodes and wires, and the exceptions that every program has.
+pub(crate) fn net_core(
+    alloc: Global,
+    nodes: List<NodeC>,
+    wires: List<WireC>,
+) -> Result<Core, AllocError> {
     let types = Types {
         sums: List::new(alloc),
     };
-    Core {
+    let mut core = Core {
         types,
         exns: List::new(alloc),
         funs: List::new(alloc),
         nodes,
         wires,
-    }
+    };
+    declare(alloc, &mut core, b"DivZero", None)?;
+    declare(alloc, &mut core, b"Range", None)?;
+    declare(alloc, &mut core, b"NoCase", None)?;
+    Ok(core)
 }
 
-// A core that has nothing in it.
-pub(crate) fn no_net(alloc: Global) -> Core {
+// One more exception of the core. The first that a test declares has number 3.
+pub(crate) fn declare(
+    alloc: Global,
+    core: &mut Core,
+    name: &[u8],
+    carries: Option<Ty>,
+) -> Result<(), AllocError> {
+    let name = Text::from_bytes(alloc, name)?;
+    core.exns.push(ExnDef { name, carries })
+}
+
+// A core without data types, functions, nodes and wires.
+pub(crate) fn no_net(alloc: Global) -> Result<Core, AllocError> {
     net_core(alloc, List::new(alloc), List::new(alloc))
 }
 
-// The box, two input streams at its inputs and an output stream.
+// The box of ports of `int 32`, two input streams at its inputs and an output stream.
 pub(crate) fn two_inputs(
     alloc: Global,
     fair: bool,
     rules: List<RuleC>,
     handlers: List<HandC>,
 ) -> Result<Core, AllocError> {
-    let boxes = alone(alloc, a_box(alloc, (2, 1), fair, rules, handlers)?)?;
+    let ty = Ty::Int(32);
+    let boxes = alone(alloc, a_box(alloc, &ty, (2, 1), fair, rules, handlers)?)?;
     let nodes = with_streams(alloc, boxes, (2, 1))?;
     let rows = [[(1, 0), (0, 0)], [(2, 0), (0, 1)], [(0, 0), (3, 0)]];
-    let wires = wires(alloc, &rows)?;
-    Ok(net_core(alloc, nodes, wires))
+    let wires = wires(alloc, &ty, &rows)?;
+    net_core(alloc, nodes, wires)
 }
 
 pub(crate) fn prim(alloc: Global, op: Op, left: Expr, right: Expr) -> Result<Expr, AllocError> {
@@ -204,6 +236,17 @@ fn is_input(core: &Core, node: u32) -> bool
     }
 }
 
+fn is_output(core: &Core, node: u32) -> bool
+    ensures { IsTrue result → IsOutputOf core.now node }
+{
+    match core.nodes.get(node as usize) {
+        Some(NodeC::To(_)) => true,
+        Some(NodeC::Rules(_)) => false,
+        Some(NodeC::From(_)) => false,
+        None => false,
+    }
+}
+
 fn feed(net: &mut Net, node: u32, words: &[u64]) -> Result<(), Fail> {
     for word in words {
         if !is_input(net.core, node) {
@@ -236,20 +279,41 @@ pub(crate) fn after<'a>(
     Ok(net)
 }
 
-// Whether the node has taken just these words.
-pub(crate) fn has_taken(net: &Net, node: usize, words: &[u64]) -> bool {
-    let Some(taken) = net.state.taken.get(node) else {
-        return false;
-    };
-    if taken.len() != words.len() {
+// Whether the output stream has taken just these words.
+pub(crate) fn has_taken(net: &Net, node: u32, words: &[u64]) -> bool {
+    if !is_output(net.core, node) {
         return false;
     }
-    for (i, value) in taken.as_slice().iter().enumerate() {
+    are_words(net.taken(node).as_slice(), words)
+}
+
+fn are_words(values: &[Value], words: &[u64]) -> bool {
+    if values.len() != words.len() {
+        return false;
+    }
+    for (i, value) in values.iter().enumerate() {
         if words.get(i).map(|word| Value::Word(*word) == *value) != Some(true) {
             return false;
         }
     }
     true
+}
+
+// Forgets what the output stream has taken.
+pub(crate) fn clear(net: &mut Net, node: u32) -> Result<(), Fail> {
+    if !is_output(net.core, node) {
+        return Err("no output stream")?;
+    }
+    net.clear(node);
+    Ok(())
+}
+
+// Whether the box tries its rules in just this order.
+pub(crate) fn has_order(net: &Net, node: usize, numbers: &[u32]) -> bool {
+    match net.state.orders.get(node) {
+        None => false,
+        Some(order) => order.as_slice() == numbers,
+    }
 }
 
 // Whether the wires hold just these words.
@@ -271,11 +335,11 @@ pub(crate) fn wires_hold(net: &Net, words: &[Option<u64>]) -> bool {
 pub(crate) fn goes_on(
     alloc: Global,
     net: &mut Net,
-    rows: &[[Option<u64>; 4]],
+    rows: &[&[Option<u64>]],
 ) -> Result<bool, AllocError> {
     for row in rows {
         net.step(alloc)?;
-        if !wires_hold(net, row) {
+        if !wires_hold(net, *row) {
             return Ok(false);
         }
     }

@@ -3,19 +3,19 @@ use crate::core_tree::*;
 use crate::operations::operate;
 use crate::outcome::{DIV_ZERO, Outcome};
 use crate::test_cores::*;
-use hume_base::{Ty, Value, word_of_int};
+use hume_base::{Ty, Value, copy_ty, word_of_int};
 use std::alloc::{AllocError, Global};
 use std::test::Fail;
 
-fn number(value: i64) -> Outcome {
+pub(crate) fn number(value: i64) -> Outcome {
     Outcome::Gives(Value::Word(word_of_int(value)))
 }
 
-fn word(value: u64) -> Outcome {
+pub(crate) fn word(value: u64) -> Outcome {
     Outcome::Gives(Value::Word(value))
 }
 
-fn on_ints(op: Op, bits: u8, left: i64, right: i64) -> Outcome {
+pub(crate) fn on_ints(op: Op, bits: u8, left: i64, right: i64) -> Outcome {
     let operands = [
         Value::Word(word_of_int(left)),
         Value::Word(word_of_int(right)),
@@ -23,43 +23,8 @@ fn on_ints(op: Op, bits: u8, left: i64, right: i64) -> Outcome {
     operate(op, &Ty::Int(bits), &operands)
 }
 
-fn on_nats(op: Op, bits: u8, left: u64, right: u64) -> Outcome {
+pub(crate) fn on_nats(op: Op, bits: u8, left: u64, right: u64) -> Outcome {
     operate(op, &Ty::Nat(bits), &[Value::Word(left), Value::Word(right)])
-}
-
-#[test]
-fn numbers_wrap_at_the_edges_of_their_widths(rt: HostRuntime) {
-    let edges = [
-        (1, -1, 0, 1),
-        (8, -128, 127, 255),
-        (32, -2147483648, 2147483647, 4294967295),
-        (
-            63,
-            -4611686018427387904,
-            4611686018427387903,
-            9223372036854775807,
-        ),
-        (
-            64,
-            -9223372036854775808,
-            9223372036854775807,
-            18446744073709551615,
-        ),
-    ];
-    for (bits, least, greatest, most) in edges {
-        assert_eq!(rt; on_ints(Op::Sub, bits, greatest, -1), number(least));
-        assert_eq!(rt; on_ints(Op::Add, bits, least, -1), number(greatest));
-        assert_eq!(rt; on_ints(Op::Mul, bits, least, -1), number(least));
-        assert_eq!(rt; on_ints(Op::Div, bits, least, -1), number(least));
-        assert_eq!(rt; on_ints(Op::Mod, bits, least, -1), number(0));
-        assert_eq!(rt; on_ints(Op::Lt, bits, least, greatest), word(1));
-        assert_eq!(rt; on_nats(Op::Add, bits, most, 1), word(0));
-        assert_eq!(rt; on_nats(Op::Sub, bits, 0, 1), word(most));
-        assert_eq!(rt; on_nats(Op::Mul, bits, most, most), word(1));
-        assert_eq!(rt; on_nats(Op::Div, bits, most, most), word(1));
-        assert_eq!(rt; on_nats(Op::Mod, bits, most, most), word(0));
-        assert_eq!(rt; on_nats(Op::Ge, bits, 0, most), word(0));
-    }
 }
 
 #[test]
@@ -82,7 +47,7 @@ fn division_goes_towards_0_and_leaves_the_sign_of_the_left(rt: HostRuntime) {
 fn makes(
     alloc: Global,
     op: Op,
-    ty: Ty,
+    ty: &Ty,
     operand: i64,
     given: [i64; 2],
     wanted: [i64; 2],
@@ -96,42 +61,53 @@ fn words_of(numbers: [i64; 2]) -> [u64; 2] {
     [word_of_int(numbers[0]), word_of_int(numbers[1])]
 }
 
-fn computing(alloc: Global, op: Op, ty: Ty, operand: i64) -> Result<Core, AllocError> {
+fn computing(alloc: Global, op: Op, ty: &Ty, operand: i64) -> Result<Core, AllocError> {
     let operand = Expr::Word(word_of_int(operand));
-    let out = Expr::Prim(op, ty, pair(alloc, Expr::Var(0), operand)?);
-    let boxes = alone(alloc, one_in_one_out(alloc, out)?)?;
+    let out = Expr::Prim(op, copy_ty(alloc, ty)?, pair(alloc, Expr::Var(0), operand)?);
+    let boxes = alone(alloc, one_in_one_out(alloc, ty, out)?)?;
     let nodes = with_streams(alloc, boxes, (1, 1))?;
-    let wires = wires(alloc, &[[(1, 0), (0, 0)], [(0, 0), (2, 0)]])?;
-    Ok(net_core(alloc, nodes, wires))
+    let wires = wires(alloc, ty, &[[(1, 0), (0, 0)], [(0, 0), (2, 0)]])?;
+    net_core(alloc, nodes, wires)
 }
 
 #[test]
 fn a_box_computes_in_the_bits_of_its_type(rt: HostRuntime) -> Result<(), Fail> {
     let alloc = rt.alloc();
-    assert!(rt; makes(alloc, Op::Add, Ty::Nat(8), 1, [255, 0], [0, 1])?);
-    assert!(rt; makes(alloc, Op::Div, Ty::Int(8), -1, [-128, 127], [-128, -127])?);
-    assert!(rt; makes(alloc, Op::Mod, Ty::Int(32), 4, [-7, 7], [-3, 3])?);
-    assert!(rt; makes(alloc, Op::Div, Ty::Int(32), 4, [-7, 7], [-1, 1])?);
+    assert!(rt; makes(alloc, Op::Add, &Ty::Nat(8), 1, [255, 0], [0, 1])?);
+    assert!(rt; makes(alloc, Op::Div, &Ty::Int(8), -1, [-128, 127], [-128, -127])?);
+    assert!(rt; makes(alloc, Op::Mod, &Ty::Int(32), 4, [-7, 7], [-3, 3])?);
+    assert!(rt; makes(alloc, Op::Div, &Ty::Int(32), 4, [-7, 7], [-1, 1])?);
     Ok(())
 }
 
-fn on_one(op: Op, ty: Ty, operand: i64) -> Outcome {
-    operate(op, &ty, &[Value::Word(word_of_int(operand))])
+// What a comparison gives of an operand and a greater one, of one and itself, and of one and a smaller one.
+pub(crate) const COMPARISONS: [(Op, [u64; 3]); 6] = [
+    (Op::Eq, [0, 1, 0]),
+    (Op::Ne, [1, 0, 1]),
+    (Op::Lt, [1, 0, 0]),
+    (Op::Le, [1, 1, 0]),
+    (Op::Gt, [0, 0, 1]),
+    (Op::Ge, [0, 1, 1]),
+];
+
+fn compared(op: Op, ty: &Ty, left: u64, right: u64) -> Outcome {
+    operate(op, ty, &[Value::Word(left), Value::Word(right)])
 }
 
 #[test]
-fn one_operand_is_wrapped_too(rt: HostRuntime) {
-    let rows = [(8, 300, 44), (64, -1, 18446744073709551615)];
-    for (bits, operand, wanted) in rows {
-        assert_eq!(rt; on_one(Op::Convert, Ty::Nat(bits), operand), word(wanted));
+fn chars_are_compared_by_their_bytes(rt: HostRuntime) {
+    for (op, [less, same, more]) in COMPARISONS {
+        assert_eq!(rt; compared(op, &Ty::Char, 97, 98), word(less));
+        assert_eq!(rt; compared(op, &Ty::Char, 98, 98), word(same));
+        assert_eq!(rt; compared(op, &Ty::Char, 98, 97), word(more));
     }
-    let rows = [
-        (Op::Convert, 8, 200, -56),
-        (Op::Convert, 63, -1, -1),
-        (Op::Neg, 8, -128, -128),
-    ];
-    for (op, bits, operand, wanted) in rows {
-        assert_eq!(rt; on_one(op, Ty::Int(bits), operand), number(wanted));
+}
+
+#[test]
+fn bools_are_the_same_or_not(rt: HostRuntime) {
+    let rows = [(0, 0, 1, 0), (0, 1, 0, 1), (1, 0, 0, 1), (1, 1, 1, 0)];
+    for (left, right, same, other) in rows {
+        assert_eq!(rt; compared(Op::Eq, &Ty::Bool, left, right), word(same));
+        assert_eq!(rt; compared(Op::Ne, &Ty::Bool, left, right), word(other));
     }
-    assert_eq!(rt; on_one(Op::Not, Ty::Bool, 1), word(0));
 }

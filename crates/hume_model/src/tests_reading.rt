@@ -48,7 +48,11 @@ fn one_data_type(alloc: Global) -> Result<Types, AllocError>
     Ok(Types { sums })
 }
 
-fn constructor(alloc: Global, name: &[u8], fields: List<Ty>) -> Result<ConDef, AllocError>
+pub(crate) fn constructor(
+    alloc: Global,
+    name: &[u8],
+    fields: List<Ty>,
+) -> Result<ConDef, AllocError>
     ensures { IfOk result (λ con. con ≡ record { name = name.now; fields = fields }) }
 {
     let name = Text::from_bytes(alloc, name)?;
