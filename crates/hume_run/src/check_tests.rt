@@ -11,7 +11,7 @@ const MANY: [u8; 65_537] = [b';'; 65_537];
 
 // An equation on line 2 of a name in so many pairs of parentheses.
 fn nested(alloc: Global, pairs: usize) -> Result<String, AllocError> {
-    let mut text = String::from_str(alloc, "f :: int 8 -> int 8 ;\nf x = ")?;
+    let mut text = String::from_str(alloc, "f :: int 32 -> int 32 ;\nf x = ")?;
     for _pair in 0..pairs {
         text.push('(')?;
     }
@@ -39,12 +39,14 @@ fn the_first_broken_rule_is_told(rt: HostRuntime) -> Result<(), Stop> {
         ("stream s from \"i\" ;\nwire", "refused 20 line 2\n"),
         ("stream s from \"i", "refused 10 line 1\n"),
         ("\n\n/", "refused 10 line 3\n"),
+        ("abcdefghijklmnopqrstuvwxyzabcdefg", "refused 12 line 1\n"),
+        ("18446744073709551616", "refused 11 line 1\n"),
         (
             "stream abcdefghijklmnopqrstuvwxyz0123456 from \"i\" ;",
             "refused 12 line 1\n",
         ),
         (
-            "f :: int 8 -> int 8 ;\nf x = 18446744073709551616 ;",
+            "f :: int 32 -> int 32 ;\nf x = 18446744073709551616 ;",
             "refused 11 line 2\n",
         ),
         ("wire\n18446744073709551616", "refused 11 line 2\n"),
@@ -82,6 +84,15 @@ fn sixty_four_pairs_of_parentheses_are_too_deep(rt: HostRuntime) -> Result<(), S
     let told = b"refused 77 line 2\n";
     let refused = nested(alloc, 64)?;
     assert!(rt; ends(alloc, "check p", refused.as_bytes(), Status::Refused, told)?);
+    assert!(rt;
+        ends(
+            alloc,
+            "run 4 1 p",
+            refused.as_bytes(),
+            Status::Refused,
+            told
+        )?
+    );
     Ok(())
 }
 

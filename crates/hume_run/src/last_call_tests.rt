@@ -1,5 +1,5 @@
 use crate::Status;
-use crate::noting_port::{Failing, noted_run};
+use crate::noting_port::{Failing, noted_check, noted_run};
 use crate::test_calls::{ADD_ONE, DIVIDED};
 use std::alloc::Global;
 use std::test::Fail as Stop;
@@ -33,6 +33,18 @@ fn stops_after(
     notes: &[&str],
 ) -> Result<bool, Stop> {
     let (status, noted) = noted_run(alloc, source, INPUT, Some(Failing { port, call }))?;
+    Ok(status == Status::Fault && is_all_of(&noted, notes))
+}
+
+// The same of a check.
+fn check_stops_after(
+    alloc: Global,
+    source: &[u8],
+    port: &'static str,
+    call: u32,
+    notes: &[&str],
+) -> Result<bool, Stop> {
+    let (status, noted) = noted_check(alloc, source, Some(Failing { port, call }))?;
     Ok(status == Status::Fault && is_all_of(&noted, notes))
 }
 
@@ -140,5 +152,45 @@ fn a_refusal_stops_at_a_failing_call(rt: HostRuntime) -> Result<(), Stop> {
     ];
     assert!(rt; stops_after(alloc, DIVIDED, "std_out", 1, &write)?);
     assert!(rt; stops_after(alloc, DIVIDED, "std_out", 2, &finish)?);
+    Ok(())
+}
+
+#[test]
+fn a_check_reads_the_source_then_finishes(rt: HostRuntime) -> Result<(), Stop> {
+    let alloc = rt.alloc();
+    let (status, noted) = noted_check(alloc, ADD_ONE, None)?;
+    assert!(rt; status == Status::Done);
+    assert!(rt; is_all_of(&noted, &[SOURCE_READ, "std_out is finished\n"]));
+    let (status, noted) = noted_check(alloc, DIVIDED, None)?;
+    let told = "std_out is written\nstd_out is finished\n";
+    assert!(rt; status == Status::Refused);
+    assert!(rt; is_all_of(&noted, &[SOURCE_READ, told]));
+    Ok(())
+}
+
+#[test]
+fn a_check_stops_at_a_failing_read_of_the_source(rt: HostRuntime) -> Result<(), Stop> {
+    let alloc = rt.alloc();
+    let first = ["p fails to be read\n"];
+    let second = ["p is read\n", "p fails to be read\n"];
+    let third = ["p is read\np is read\n", "p fails to be read\n"];
+    assert!(rt; check_stops_after(alloc, ADD_ONE, "p", 1, &first)?);
+    assert!(rt; check_stops_after(alloc, ADD_ONE, "p", 2, &second)?);
+    assert!(rt; check_stops_after(alloc, ADD_ONE, "p", 3, &third)?);
+    Ok(())
+}
+
+#[test]
+fn a_check_stops_at_a_failing_call_of_the_report(rt: HostRuntime) -> Result<(), Stop> {
+    let alloc = rt.alloc();
+    let accepted = [SOURCE_READ, "std_out fails to be finished\n"];
+    let write = [SOURCE_READ, "std_out fails to be written\n"];
+    let finish = [
+        SOURCE_READ,
+        "std_out is written\nstd_out fails to be finished\n",
+    ];
+    assert!(rt; check_stops_after(alloc, ADD_ONE, "std_out", 1, &accepted)?);
+    assert!(rt; check_stops_after(alloc, DIVIDED, "std_out", 1, &write)?);
+    assert!(rt; check_stops_after(alloc, DIVIDED, "std_out", 2, &finish)?);
     Ok(())
 }

@@ -49,7 +49,7 @@ mod words_tests;
 pub use acceptance::{AcceptError, accept};
 pub use build::build_core;
 pub use input::{Input, InputError, read_input};
-pub use laws::one_core;
+pub use laws::{one_box_cores_are_well_formed, one_core, one_program};
 pub use line_value::{MAX_LINE_BYTES, value_of_line};
 pub use lines::{bad_value_line, refused_line, value_line};
 pub use one_box::{Lines, Parts, read_one_box};

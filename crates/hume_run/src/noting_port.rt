@@ -1,7 +1,7 @@
 //! Ports that note their calls, so that a test sees which one was the last.
 ghost use Rattle.hume_ports.specs.MemoryPort.{memory_view};
 
-use crate::test_calls::run_words;
+use crate::test_calls::{run_words, words_in};
 use crate::{Status, hume};
 use hume_ports::{Fail, Failed, MemPort, Port};
 use std::alloc::{AllocError, Global};
@@ -111,6 +111,27 @@ pub(crate) fn noted_run(
     input: &[u8],
     failing: Option<Failing>,
 ) -> Result<(Status, String), Stop> {
+    let words = run_words(alloc, "4")?;
+    noted_call(alloc, &words, source, input, failing)
+}
+
+/// The same of a call that checks a source, with nothing to read as input.
+pub(crate) fn noted_check(
+    alloc: Global,
+    source: &[u8],
+    failing: Option<Failing>,
+) -> Result<(Status, String), Stop> {
+    let words = words_in(alloc, "check p")?;
+    noted_call(alloc, &words, source, b"", failing)
+}
+
+fn noted_call(
+    alloc: Global,
+    words: &[String],
+    source: &[u8],
+    input: &[u8],
+    failing: Option<Failing>,
+) -> Result<(Status, String), Stop> {
     let log = Rc::new(alloc, RefCell::new(String::new(alloc)))?;
     let mut ports: Vec<Box<dyn Port>> = Vec::new(alloc);
     ports.push(Box::new(alloc, NotingPort::make(alloc, &log, "p", source, failing)?)?)?;
@@ -120,8 +141,7 @@ pub(crate) fn noted_run(
         alloc,
         NotingPort::make(alloc, &log, "std_out", b"", failing)?,
     )?)?;
-    let words = run_words(alloc, "4")?;
-    let status = hume(alloc, &words, &mut ports);
+    let status = hume(alloc, words, &mut ports);
     Ok((status, noted(&log, alloc)))
 }
 
