@@ -1,4 +1,5 @@
-pub mod Depths
-pub mod Wider
-pub mod SpellSteps
+pub mod Deepest
 pub mod SmallDepths
+pub mod Depths
+pub mod ProgramDepths
+pub mod SpellSteps

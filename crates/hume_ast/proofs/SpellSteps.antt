@@ -15,7 +15,7 @@ use Rattle.hume_ast.specs.declared.tree.Exp.{Exp, Case, size-Exp, fold-roll-Exp,
 use Rattle.hume_ast.specs.declared.tree.Exp.TheOpen.{Exp-F}
 use Rattle.hume_ast.specs.declared.tree.Exp.TheVariants.{rolls-Case}
 use Rattle.hume_ast.specs.Spelling.{separated, preceded, beside, spell_alternative, spell_exp, spelled_exp, spelled_handler, spelled_handlers}
-use Rattle.hume_ast.specs.Parts.{between, spelled_alternative}
+use Rattle.hume_ast.specs.inner.Parts.{between, spelled_alternative}
 
 module _ {A : Type 0} (sign : Symbol) (spell : A → List Kind) where
   abbrev after : List A → List Kind

@@ -1,5 +1,6 @@
 -- Which trees the grammar has: where each part stands without further parentheses, and how deep it may go.
 use Rattle.std.specs.Prelude.{ℕ, zero, suc, ◌+◌, ◌≤◌, List, [], ◌∷◌, length, true, false, Option, Some, None}
+use Rattle.hume_base.specs.declared.limits.TheConstants.{MAX_DEPTH}
 use Rattle.hume_base.specs.declared.token.Kind.{Kind}
 use Rattle.hume_base.specs.declared.token.Kind.TheVariants.{Number}
 use Rattle.hume_ast.specs.declared.tree.TyExp.{TyExp, out-TyExp}
@@ -113,7 +114,8 @@ NoNumberFirst _ = Unit {0}
 abbrev pub ExpParts : (TyExp → Type 0) → (Pat → Type 0) → (ℕ → Exp → Type 0) → Exp-F Exp → Type 0
 ExpParts Ty Pattern Part (Exp-F.Let name value body) = Part 1 value × Part 1 body
 ExpParts Ty Pattern Part (Exp-F.If test first second) = Part 1 test × Part 1 first × Part 1 second
-ExpParts Ty Pattern Part (Exp-F.Case subject alternatives) = Part 1 subject × (1 ≤ length alternatives) × Each (λ (alternative : Pat × Exp). Pattern alternative.0 × Part 1 alternative.1) alternatives
+ExpParts Ty Pattern Part (Exp-F.Case subject alternatives) =
+    Part 1 subject × (1 ≤ length alternatives) × Each (λ (alternative : Pat × Exp). Pattern alternative.0 × Part 1 alternative.1) alternatives
 ExpParts Ty Pattern Part (Exp-F.Raise name None) = Unit {0}
 ExpParts Ty Pattern Part (Exp-F.Raise name (Some value)) = Part 10 value
 ExpParts Ty Pattern Part (Exp-F.Binary operator left right) = Part (left_level operator) left × Part (op_level operator + 1) right
@@ -153,6 +155,9 @@ IfThere P (Some x) = P x
 abbrev pub OneOrMore : {A : Type 0} → (A → Type 0) → List A → Type 0
 OneOrMore P xs = (1 ≤ length xs) × Each P xs
 
+abbrev pub TypedNameFits : ℕ → List ℕ × TyExp → Type 0
+TypedNameFits bound typed_name = TypeFits bound typed_name.1
+
 abbrev pub EquationFits : ℕ → List ℕ × List Pat × Exp → Type 0
 EquationFits bound equation = OneOrMore (PatFits bound 2) equation.1 × ExpFits bound bound 1 equation.2
 
@@ -168,10 +173,9 @@ DeclFits bound (Sum name constructors) = OneOrMore (λ (constructor : List ℕ �
 DeclFits bound (Exn name carries) = IfThere (TypeFits bound) carries
 DeclFits bound (Fun name types equations) = (2 ≤ length types) × Each (TypeFits bound) types × OneOrMore (EquationFits bound) equations
 DeclFits bound (BoxD name inputs outputs fair rules handlers) =
-    OneOrMore (λ (port : List ℕ × TyExp). TypeFits bound port.1) inputs × OneOrMore (λ (port : List ℕ × TyExp). TypeFits bound port.1) outputs
-    × OneOrMore (RuleFits bound) rules × Each (HandlerFits bound) handlers
+    OneOrMore (TypedNameFits bound) inputs × OneOrMore (TypedNameFits bound) outputs × OneOrMore (RuleFits bound) rules × Each (HandlerFits bound) handlers
 DeclFits bound (Stream name from port) = Unit {0}
-DeclFits bound (Wire source target initial) = IfThere (ExpFits bound bound 1) initial
+DeclFits bound (Wire source target depth initial) = IfThere (ExpFits bound bound 1) initial
 
 -- declarations of the grammar, whose types, patterns and expressions are at most so deep
 abbrev pub DeclsFit : ℕ → List (ℕ × Decl) → Type 0
@@ -181,6 +185,6 @@ DeclsFit bound decls = Each (λ (decl : ℕ × Decl). DeclFits bound decl.1) dec
 abbrev pub IsProper : Program → Type 0
 IsProper program = (bound : ℕ) × DeclsFit bound program.decls
 
--- proper, and no type, pattern or expression is more than 64 deep
+-- proper, and no type, pattern or expression is deeper than it may be
 abbrev pub IsFit : Program → Type 0
-IsFit program = DeclsFit 64 program.decls
+IsFit program = DeclsFit MAX_DEPTH program.decls

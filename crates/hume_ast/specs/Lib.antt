@@ -2,4 +2,4 @@ pub mod Spelling
 pub mod Fits
 pub mod Depth
 pub mod Places
-pub mod Parts
+pub mod inner

@@ -98,7 +98,8 @@ spell_alternative alternative = spelled_pat alternative.0 ++ Sign symbol.Arrow �
 abbrev pub spell_exp : Exp-F (List Kind) → List Kind
 spell_exp (Exp-F.Let name value body) = Word word.Let ∷ Lower name ∷ Sign symbol.Equals ∷ (value ++ Word word.In ∷ body)
 spell_exp (Exp-F.If test first second) = Word word.If ∷ (test ++ Word word.Then ∷ (first ++ Word word.Else ∷ second))
-spell_exp (Exp-F.Case subject alternatives) = Word word.Case ∷ (subject ++ Word word.Of ∷ (separated symbol.Bar (map spell_alternative alternatives) ++ Word word.End ∷ []))
+spell_exp (Exp-F.Case subject alternatives) =
+    Word word.Case ∷ (subject ++ Word word.Of ∷ (separated symbol.Bar (map spell_alternative alternatives) ++ Word word.End ∷ []))
 spell_exp (Exp-F.Raise name None) = Word word.Raise ∷ Upper name ∷ []
 spell_exp (Exp-F.Raise name (Some value)) = Word word.Raise ∷ Upper name ∷ value
 spell_exp (Exp-F.Binary operator left right) = left ++ operator_token operator ∷ right
@@ -126,13 +127,16 @@ spelled_constructor constructor = Upper constructor.0 ∷ beside (map spelled_ty
 
 -- an equation of a function
 abbrev pub spelled_equation : List ℕ × List Pat × Exp → List Kind
-spelled_equation equation = Lower equation.0 ∷ (beside (map spelled_pat equation.1) ++ Sign symbol.Equals ∷ (spelled_exp equation.2 ++ Sign symbol.Semicolon ∷ []))
+spelled_equation equation =
+    Lower equation.0 ∷ (beside (map spelled_pat equation.1) ++ Sign symbol.Equals ∷ (spelled_exp equation.2 ++ Sign symbol.Semicolon ∷ []))
 
-abbrev pub spelled_port : List ℕ × TyExp → List Kind
-spelled_port port = Lower port.0 ∷ Sign symbol.DoubleColon ∷ spelled_ty port.1
+-- an input or an output of a box, with its type
+abbrev pub spelled_typed_name : List ℕ × TyExp → List Kind
+spelled_typed_name typed_name = Lower typed_name.0 ∷ Sign symbol.DoubleColon ∷ spelled_ty typed_name.1
 
-abbrev pub spelled_ports : List (List ℕ × TyExp) → List Kind
-spelled_ports ports = in_parens (separated symbol.Comma (map spelled_port ports))
+-- the inputs or the outputs of a box
+abbrev pub spelled_side : List (List ℕ × TyExp) → List Kind
+spelled_side typed_names = in_parens (separated symbol.Comma (map spelled_typed_name typed_names))
 
 abbrev pub spelled_rule : List Pat × Exp → List Kind
 spelled_rule rule = in_parens (separated symbol.Comma (map spelled_pat rule.0)) ++ Sign symbol.Arrow ∷ spelled_exp rule.1
@@ -156,10 +160,15 @@ abbrev pub way_word : Bool → Keyword
 way_word true = word.From
 way_word false = word.To
 
--- an end of a wire
+-- an end of a wire: a stream, or a box with its input or output
 abbrev pub spelled_end : List ℕ × Option (List ℕ) → List Kind
-spelled_end (name, None) = Lower name ∷ []
-spelled_end (name, Some port) = Lower name ∷ Sign symbol.Dot ∷ Lower port ∷ []
+spelled_end (stream, None) = Lower stream ∷ []
+spelled_end (box, Some name) = Lower box ∷ Sign symbol.Dot ∷ Lower name ∷ []
+
+-- how many values a wire holds
+abbrev pub spelled_wire_depth : Option ℕ → List Kind
+spelled_wire_depth None = []
+spelled_wire_depth (Some depth) = Sign symbol.At ∷ Number depth ∷ []
 
 abbrev pub spelled_initial : Option Exp → List Kind
 spelled_initial None = []
@@ -177,12 +186,14 @@ ended tokens = tokens ++ Sign symbol.Semicolon ∷ []
 abbrev pub spelled_decl : Decl → List Kind
 spelled_decl (Sum name constructors) = Word word.Data ∷ Upper name ∷ Sign symbol.Equals ∷ ended (separated symbol.Bar (map spelled_constructor constructors))
 spelled_decl (Exn name carries) = Word word.Exception ∷ Upper name ∷ ended (spelled_carries carries)
-spelled_decl (Fun name types equations) = Lower name ∷ Sign symbol.DoubleColon ∷ (separated symbol.Arrow (map spelled_ty types) ++ Sign symbol.Semicolon ∷ beside (map spelled_equation equations))
+spelled_decl (Fun name types equations) =
+    Lower name ∷ Sign symbol.DoubleColon ∷ (separated symbol.Arrow (map spelled_ty types) ++ Sign symbol.Semicolon ∷ beside (map spelled_equation equations))
 spelled_decl (BoxD name inputs outputs fair rules handlers) =
-    Word word.Box ∷ Lower name ∷ Word word.In ∷ (spelled_ports inputs ++ Word word.Out ∷ (spelled_ports outputs
+    Word word.Box ∷ Lower name ∷ Word word.In ∷ (spelled_side inputs ++ Word word.Out ∷ (spelled_side outputs
     ++ Word (order_word fair) ∷ (separated symbol.Bar (map spelled_rule rules) ++ ended (spelled_handlers handlers))))
 spelled_decl (Stream name from port) = Word word.Stream ∷ Lower name ∷ Word (way_word from) ∷ Quoted port ∷ Sign symbol.Semicolon ∷ []
-spelled_decl (Wire source target initial) = Word word.Wire ∷ (spelled_end source ++ Word word.To ∷ (spelled_end target ++ ended (spelled_initial initial)))
+spelled_decl (Wire source target depth initial) =
+    Word word.Wire ∷ (spelled_end source ++ Word word.To ∷ (spelled_end target ++ (spelled_wire_depth depth ++ ended (spelled_initial initial))))
 
 -- the tokens of declarations with their places
 abbrev pub spelled_decls : List (ℕ × Decl) → List Kind

@@ -3,7 +3,7 @@ ghost use Rattle.std.specs.Prelude.{◌≡◌, [], ◌∷◌, ◌++◌, map, OnO
 ghost use Rattle.hume_base.specs.declared.token.Kind.TheVariants.{Word};
 ghost use Rattle.hume_base.specs.declared.symbol.Symbol.TheVariants.{Bar, Comma};
 ghost use Rattle.hume_ast.specs.declared.tree.Decl.TheVariants.{BoxD};
-ghost use Rattle.hume_ast.specs.Spelling.{separated, ended, order_word, spelled_decl, spelled_port, spelled_ports, spelled_rule, spelled_handler, spelled_handlers};
+ghost use Rattle.hume_ast.specs.Spelling.{separated, ended, order_word, spelled_decl, spelled_typed_name, spelled_side, spelled_rule, spelled_handler, spelled_handlers};
 
 use crate::spell_expressions::spell_exp;
 use crate::spell_patterns::{spell_pattern, spell_patterns};
@@ -29,9 +29,9 @@ pub fn spell_box(
     word(out, Keyword::Box)?;
     lower(out, name)?;
     word(out, Keyword::In)?;
-    spell_ports(inputs, out)?;
+    spell_side(inputs, out)?;
     word(out, Keyword::Out)?;
-    spell_ports(outputs, out)?;
+    spell_side(outputs, out)?;
     spell_body(fair, rules, handlers, out)
 }
 
@@ -43,7 +43,8 @@ fn spell_body(
     handlers: &[(Text, Option<Pat>, Exp)],
     out: &mut List<Kind>,
 ) -> Result<(), AllocError>
-    ensures { OnOk result (out.new ≡ out.old ++ Word (order_word fair) ∷ (separated Bar (map spelled_rule rules.now) ++ ended (spelled_handlers handlers.now))) }
+    ensures { OnOk result (out.new ≡ out.old
+        ++ Word (order_word fair) ∷ (separated Bar (map spelled_rule rules.now) ++ ended (spelled_handlers handlers.now))) }
 {
     spell_order(fair, out)?;
     spell_rules(rules, out)?;
@@ -58,31 +59,31 @@ fn spell_order(fair: bool, out: &mut List<Kind>) -> Result<(), AllocError>
 }
 
 #[tactic(auto, using(crate::proofs::SpellSteps::part_steps))]
-fn spell_ports(ports: &[(Text, TyExp)], out: &mut List<Kind>) -> Result<(), AllocError>
-    ensures { OnOk result (out.new ≡ out.old ++ spelled_ports ports.now) }
+fn spell_side(typed_names: &[(Text, TyExp)], out: &mut List<Kind>) -> Result<(), AllocError>
+    ensures { OnOk result (out.new ≡ out.old ++ spelled_side typed_names.now) }
 {
     sign(out, Symbol::OpenParen)?;
-    spell_listed_ports(ports, out)?;
+    spell_typed_names(typed_names, out)?;
     sign(out, Symbol::CloseParen)
 }
 
-fn spell_listed_ports(ports: &[(Text, TyExp)], out: &mut List<Kind>) -> Result<(), AllocError>
-    ensures { OnOk result (out.new ≡ out.old ++ separated Comma (map spelled_port ports.now)) }
+fn spell_typed_names(typed_names: &[(Text, TyExp)], out: &mut List<Kind>) -> Result<(), AllocError>
+    ensures { OnOk result (out.new ≡ out.old ++ separated Comma (map spelled_typed_name typed_names.now)) }
 {
-    for at in 0..ports.len() {
+    for at in 0..typed_names.len() {
         sign_between(out, Symbol::Comma, at)?;
-        spell_port(&ports[at], out)?;
+        spell_typed_name(&typed_names[at], out)?;
     }
     Ok(())
 }
 
 #[tactic(auto, using(crate::proofs::SpellSteps::part_steps))]
-fn spell_port(port: &(Text, TyExp), out: &mut List<Kind>) -> Result<(), AllocError>
-    ensures { OnOk result (out.new ≡ out.old ++ spelled_port port.now) }
+fn spell_typed_name(typed_name: &(Text, TyExp), out: &mut List<Kind>) -> Result<(), AllocError>
+    ensures { OnOk result (out.new ≡ out.old ++ spelled_typed_name typed_name.now) }
 {
-    lower(out, &port.0)?;
+    lower(out, &typed_name.0)?;
     sign(out, Symbol::DoubleColon)?;
-    spell_type(&port.1, out)
+    spell_type(&typed_name.1, out)
 }
 
 fn spell_rules(rules: &[(List<Pat>, Exp)], out: &mut List<Kind>) -> Result<(), AllocError>

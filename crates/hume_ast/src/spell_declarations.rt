@@ -1,13 +1,13 @@
 //! The tokens of declarations.
 ghost use Rattle.std.specs.Prelude.{◌≡◌, ◌++◌, map, OnOk};
-ghost use Rattle.hume_base.specs.declared.symbol.Symbol.TheVariants.{Bar, Arrow as ThinArrow};
+ghost use Rattle.hume_base.specs.declared.symbol.Symbol.TheVariants.{Bar};
 ghost use Rattle.hume_ast.specs.declared.tree.Decl.TheVariants.{Sum, Exn, Fun, Stream, Wire};
-ghost use Rattle.hume_ast.specs.Spelling.{separated, beside, spelled_ty, spelled_decl, spelled_constructor, spelled_equation, spelled_end};
+ghost use Rattle.hume_ast.specs.Spelling.{separated, beside, spelled_ty, spelled_decl, spelled_constructor, spelled_equation, spelled_end, spelled_wire_depth, spelled_initial};
 
 use crate::spell_boxes::spell_box;
 use crate::spell_expressions::spell_exp;
 use crate::spell_patterns::spell_patterns_beside;
-use crate::spell_tokens::{lower, quoted, sign, sign_between, upper, word};
+use crate::spell_tokens::{lower, number, quoted, sign, sign_between, upper, word};
 use crate::spell_types::{spell_type, spell_types};
 use crate::tree::{Decl, Exp, Pat, TyExp};
 use hume_base::{Keyword, Kind, List, Symbol, Text};
@@ -37,7 +37,9 @@ pub fn spell_decl(decl: &Decl, out: &mut List<Kind>) -> Result<(), AllocError>
             out,
         ),
         Decl::Stream(name, from, port) => spell_stream(name, *from, port, out),
-        Decl::Wire(source, target, initial) => spell_wire(source, target, initial, out),
+        Decl::Wire(source, target, depth, initial) => spell_wire(
+            source, target, *depth, initial, out,
+        ),
     }
 }
 
@@ -160,19 +162,18 @@ fn spell_stream(
 fn spell_wire(
     source: &(Text, Option<Text>),
     target: &(Text, Option<Text>),
+    depth: Option<u64>,
     initial: &Option<Exp>,
     out: &mut List<Kind>,
 ) -> Result<(), AllocError>
-    ensures { OnOk result (out.new ≡ out.old ++ spelled_decl (Wire source.now target.now initial.now)) }
+    ensures { OnOk result (out.new ≡ out.old ++ spelled_decl (Wire source.now target.now depth initial.now)) }
 {
     word(out, Keyword::Wire)?;
     spell_end(source, out)?;
     word(out, Keyword::To)?;
     spell_end(target, out)?;
-    if let Some(value) = initial {
-        word(out, Keyword::Initial)?;
-        spell_exp(value, out)?;
-    }
+    spell_wire_depth(depth, out)?;
+    spell_first_value(initial, out)?;
     sign(out, Symbol::Semicolon)
 }
 
@@ -181,9 +182,29 @@ fn spell_end(end: &(Text, Option<Text>), out: &mut List<Kind>) -> Result<(), All
     ensures { OnOk result (out.new ≡ out.old ++ spelled_end end.now) }
 {
     lower(out, &end.0)?;
-    if let Some(port) = &end.1 {
+    if let Some(name) = &end.1 {
         sign(out, Symbol::Dot)?;
-        lower(out, port)?;
+        lower(out, name)?;
+    }
+    Ok(())
+}
+
+fn spell_wire_depth(depth: Option<u64>, out: &mut List<Kind>) -> Result<(), AllocError>
+    ensures { OnOk result (out.new ≡ out.old ++ spelled_wire_depth depth) }
+{
+    if let Some(depth) = depth {
+        sign(out, Symbol::At)?;
+        number(out, depth)?;
+    }
+    Ok(())
+}
+
+fn spell_first_value(initial: &Option<Exp>, out: &mut List<Kind>) -> Result<(), AllocError>
+    ensures { OnOk result (out.new ≡ out.old ++ spelled_initial initial.now) }
+{
+    if let Some(value) = initial {
+        word(out, Keyword::Initial)?;
+        spell_exp(value, out)?;
     }
     Ok(())
 }

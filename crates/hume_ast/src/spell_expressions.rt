@@ -4,7 +4,7 @@ ghost use Rattle.hume_base.specs.declared.token.Kind.TheVariants.{Sign};
 ghost use Rattle.hume_base.specs.declared.symbol.Symbol.TheVariants.{Bar, Comma};
 ghost use Rattle.hume_ast.specs.declared.tree.Exp.{Let, If, Case, Raise, Update, Cast};
 ghost use Rattle.hume_ast.specs.Spelling.{spelled_exp, operator_token, separated, beside, in_parens};
-ghost use Rattle.hume_ast.specs.Parts.{spelled_alternative};
+ghost use Rattle.hume_ast.specs.inner.Parts.{spelled_alternative};
 
 use crate::spell_patterns::spell_pattern;
 use crate::spell_tokens::{letter, lower, sign, sign_between, signed_number, truth, upper, word};
@@ -236,7 +236,7 @@ fn spell_exps_beside(exps: &[Exp], out: &mut List<Kind>) -> Result<(), AllocErro
     Ok(())
 }
 
-fn token_of(operator: BinOp) -> Kind
+pub fn token_of(operator: BinOp) -> Kind
     ensures { result ≡ operator_token operator }
 {
     match operator {

@@ -1,4 +1,5 @@
-ghost use Rattle.std.specs.Prelude.{◌≡◌, ◌++◌, map, OnOk, IfOk};
+//! The tokens of a program.
+ghost use Rattle.std.specs.Prelude.{◌≡◌, ◌++◌, OnOk, IfOk};
 ghost use Rattle.hume_ast.specs.Spelling.{spelled, spelled_decls};
 
 use crate::spell_declarations::spell_decl;

@@ -2,7 +2,7 @@
 ghost use Rattle.std.specs.Prelude.{◌≡◌, [], ◌∷◌, ◌++◌, OnOk};
 ghost use Rattle.hume_base.specs.declared.token.Kind.TheVariants.{Word, Sign, Number, Letter, Quoted, Upper, Lower};
 ghost use Rattle.hume_ast.specs.Spelling.{number_spelled, truth_word};
-ghost use Rattle.hume_ast.specs.Parts.{between};
+ghost use Rattle.hume_ast.specs.inner.Parts.{between};
 
 use hume_base::{Keyword, Kind, List, Symbol, Text};
 use std::alloc::AllocError;

@@ -1,3 +1,4 @@
+//! The trees of a program, as its source spells them.
 use hume_base::{Box, List, Text};
 
 /// The operators between two parts, in the order of the grammar. `At` picks an element of a vector.
@@ -19,6 +20,7 @@ pub enum BinOp {
     At,
 }
 
+/// A type as it is written.
 #[derive(Drop)]
 pub enum TyExp {
     Bool,
@@ -33,6 +35,7 @@ pub enum TyExp {
     Tuple(List<TyExp>),
 }
 
+/// A pattern, with its parentheses.
 #[derive(Drop)]
 pub enum Pat {
     Name(Text),
@@ -50,6 +53,7 @@ pub enum Pat {
     AnyStar,
 }
 
+/// An expression, with its parentheses.
 #[derive(Drop)]
 pub enum Exp {
     Let(Text, Box<Exp>, Box<Exp>),
@@ -75,6 +79,7 @@ pub enum Exp {
     Star,
 }
 
+/// One declaration. A function has its signature and all its equations in one.
 #[derive(Drop)]
 pub enum Decl {
     /// A data type with its constructors and the types of their parts.
@@ -93,8 +98,9 @@ pub enum Decl {
     ),
     /// A stream, whether it comes in, and its port.
     Stream(Text, bool, Text),
-    /// The two ends of a wire, each a box with its port or a stream alone, and its first value.
-    Wire((Text, Option<Text>), (Text, Option<Text>), Option<Exp>),
+    /// The two ends of a wire, each a box with its output or input or a stream alone; how many values it holds, which may be
+    /// any number; and its first value.
+    Wire((Text, Option<Text>), (Text, Option<Text>), Option<u64>, Option<Exp>),
 }
 
 /// Declarations, each with the offset in bytes of its first token.

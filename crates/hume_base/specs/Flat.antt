@@ -28,15 +28,19 @@ parts_in (Value-F.Tuple values) = values
 parts_in (Value-F.Vector values) = values
 parts_in (Value-F.Con place values) = values
 
-abbrev pub own_word : Value → List ℕ
-own_word value = word_in (out-Value value) ∷ []
+-- the word of a scalar, or the place of a constructor; 0 of a tuple or a vector, which have none
+abbrev pub word_of_value : Value → ℕ
+word_of_value value = word_in (out-Value value)
+
+abbrev pub one_word : Value → List ℕ
+one_word value = word_of_value value ∷ []
 
 -- one level of a type, with what gives the words of its parts in their places
 abbrev pub flat_step : (ℕ → Value → List ℕ) → Ty-F (Value → List ℕ) → Value → List ℕ
-flat_step named Ty-F.Bool value = own_word value
-flat_step named Ty-F.Char value = own_word value
-flat_step named (Ty-F.Int bits) value = own_word value
-flat_step named (Ty-F.Nat bits) value = own_word value
+flat_step named Ty-F.Bool value = one_word value
+flat_step named Ty-F.Char value = one_word value
+flat_step named (Ty-F.Int bits) value = one_word value
+flat_step named (Ty-F.Nat bits) value = one_word value
 flat_step named (Ty-F.Tuple words) value = joined words (parts_in (out-Value value))
 flat_step named (Ty-F.Vector count words) value = flat_map words (parts_in (out-Value value))
 flat_step named (Ty-F.Named number) value = named number value

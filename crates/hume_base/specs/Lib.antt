@@ -1,6 +1,7 @@
 pub mod Flat
 pub mod formers
 pub mod Holding
+pub mod inner
 pub mod Keywords
 pub mod Places
 pub mod Rules

@@ -5,6 +5,7 @@ use Rattle.hume_base.specs.declared.types.Ty.TheOpen.{Ty-F}
 use Rattle.hume_base.specs.declared.types.Types.{Types}
 use Rattle.hume_base.specs.declared.types.SumDef.{SumDef}
 use Rattle.hume_base.specs.declared.types.ConDef.{ConDef}
+use Rattle.hume_base.specs.declared.limits.TheConstants.{MAX_TYPE_WORDS}
 
 -- one level of a type, with the sizes of its parts in their places; `named` has the size of each data type
 abbrev pub size_step : (ℕ → ℕ) → Ty-F ℕ → ℕ
@@ -42,7 +43,11 @@ named_size types (suc bound) number =
 abbrev pub size_of : Types → Ty → ℕ
 size_of types ty = size_with (named_size types (length types.sums)) ty
 
--- each data type has its size written beside it, up to 1,025
+-- a size as it is written down: any that is larger than a written type may have is one word more than that
+abbrev pub written_size : ℕ → ℕ
+written_size size = min size (MAX_TYPE_WORDS + 1)
+
+-- each data type has its size written beside it
 abbrev pub HaveTheirSizes : Types → Type 0
 HaveTheirSizes types =
-    (number : ℕ) (sum : SumDef) → slice_get types.sums number ≡ Some sum → sum.words ≡ min (named_size types (length types.sums) number) 1025
+    (number : ℕ) (sum : SumDef) → slice_get types.sums number ≡ Some sum → sum.words ≡ written_size (named_size types (length types.sums) number)

@@ -1,5 +1,7 @@
-ghost use Rattle.std.specs.Prelude.{◌≡◌, ◌↔◌, IsTrue, Some, ℕ};
+ghost use Rattle.std.specs.Prelude.{◌≡◌, ◌↔◌, IsTrue, Some, bytes_eq};
+ghost use Rattle.std.specs.List.{find};
 ghost use Rattle.hume_base.specs.Keywords.{keyword_text, keyword_of};
+ghost use Rattle.hume_base.specs.inner.FirstLetters.{keywords_with};
 
 /// A word that is no name.
 #[derive(Clone, Copy, Debug, PartialEq, Eq)]
@@ -40,44 +42,6 @@ pub enum Keyword {
     Not,
     Update,
 }
-
-const KEYWORDS: [Keyword; 35] = [
-    Keyword::Data,
-    Keyword::Exception,
-    Keyword::Box,
-    Keyword::In,
-    Keyword::Out,
-    Keyword::Match,
-    Keyword::Fair,
-    Keyword::Handle,
-    Keyword::Stream,
-    Keyword::From,
-    Keyword::To,
-    Keyword::Wire,
-    Keyword::Initial,
-    Keyword::Let,
-    Keyword::If,
-    Keyword::Then,
-    Keyword::Else,
-    Keyword::Case,
-    Keyword::Of,
-    Keyword::End,
-    Keyword::Raise,
-    Keyword::As,
-    Keyword::True,
-    Keyword::False,
-    Keyword::Bool,
-    Keyword::Char,
-    Keyword::Int,
-    Keyword::Nat,
-    Keyword::Vector,
-    Keyword::Div,
-    Keyword::Mod,
-    Keyword::And,
-    Keyword::Or,
-    Keyword::Not,
-    Keyword::Update,
-];
 
 impl Keyword {
     pub fn text(self) -> &'static [u8]
@@ -127,7 +91,10 @@ impl Keyword {
         ensures found { result ≡ keyword_of text.now }
         ensures exact { (keyword : Keyword) → (result ≡ Some keyword) ↔ (text.now ≡ keyword_text keyword) }
     {
-        find(text)
+        match text {
+            [] => None,
+            [first, ..] => find_among(starting_with(*first), text),
+        }
     }
 
     /// Whether two are the same; a clause learns more from it than from `==`.
@@ -138,11 +105,35 @@ impl Keyword {
     }
 }
 
-fn find(text: &[u8]) -> Option<Keyword>
-    ensures { result ≡ keyword_of text.now }
+/// The keywords that begin with the letter.
+fn starting_with(letter: u8) -> &'static [Keyword]
+    ensures { result.now ≡ keywords_with letter }
 {
-    KEYWORDS
-        .iter()
-        .copied()
-        .find(|keyword| keyword.text() == text)
+    match letter {
+        b'a' => &[Keyword::As, Keyword::And],
+        b'b' => &[Keyword::Box, Keyword::Bool],
+        b'c' => &[Keyword::Case, Keyword::Char],
+        b'd' => &[Keyword::Data, Keyword::Div],
+        b'e' => &[Keyword::Exception, Keyword::Else, Keyword::End],
+        b'f' => &[Keyword::Fair, Keyword::From, Keyword::False],
+        b'h' => &[Keyword::Handle],
+        b'i' => &[Keyword::In, Keyword::Initial, Keyword::If, Keyword::Int],
+        b'l' => &[Keyword::Let],
+        b'm' => &[Keyword::Match, Keyword::Mod],
+        b'n' => &[Keyword::Nat, Keyword::Not],
+        b'o' => &[Keyword::Out, Keyword::Of, Keyword::Or],
+        b'r' => &[Keyword::Raise],
+        b's' => &[Keyword::Stream],
+        b't' => &[Keyword::To, Keyword::Then, Keyword::True],
+        b'u' => &[Keyword::Update],
+        b'v' => &[Keyword::Vector],
+        b'w' => &[Keyword::Wire],
+        _ => &[],
+    }
+}
+
+fn find_among(some: &[Keyword], text: &[u8]) -> Option<Keyword>
+    ensures { result ≡ find (λ keyword. bytes_eq (keyword_text keyword) text.now) some.now }
+{
+    some.iter().copied().find(|keyword| keyword.text() == text)
 }

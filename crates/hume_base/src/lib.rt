@@ -1,5 +1,10 @@
-//! What every layer of the tool speaks of: types, values, tokens, refusals, limits, and the containers that their trees
-//! are made of.
+//! What every layer of the tool speaks of: types, values, tokens, refusals, limits, and the containers that trees are made of.
+//!
+//! `size` gives the words of a type (`specs/Sizes.antt`), `line_of` the line of a place (`specs/Places.antt`), and copies equal
+//! their originals. Which values a type has is said by `specs/Values.antt`, and which words they are by `specs/Flat.antt`.
+//! `limits` has every limit of the language, once.
+//! Law: the words of a value tell it apart from every other of its type (`words_tell_values_apart`).
+//! It knows nothing of programs, of the bytes of sources or of ports.
 #![tactic(auto)]
 
 mod boxed;

@@ -1,4 +1,4 @@
-ghost use Rattle.std.specs.Prelude.{◌≡◌, [], ◌∷◌, ◌++◌, length, take, slice_get, slice_set, slice_index_or, ◌<◌, ◌↔◌, IsTrue, OnOk, OnErr, MatchOption, Some, None};
+ghost use Rattle.std.specs.Prelude.{◌≡◌, [], ◌∷◌, ◌++◌, length, take, slice_get, slice_set, slice_index_or, ◌<◌, ◌↔◌, IsTrue, IfOk, OnOk, OnErr, MatchOption, Some, None};
 
 use std::alloc::{AllocError, Global};
 use std::marker::Model;
@@ -70,6 +70,15 @@ impl<T> List<T> {
 }
 
 impl<T: Drop> List<T> {
+    /// The list of one element.
+    pub fn of_one(alloc: Global, item: T) -> Result<List<T>, AllocError>
+        ensures { IfOk result (λ list. list ≡ item ∷ []) }
+    {
+        let mut list = List::new(alloc);
+        list.push(item)?;
+        Ok(list)
+    }
+
     pub fn push(&mut self, item: T) -> Result<(), AllocError>
         ensures ok { OnOk result (self.new ≡ self.old ++ item ∷ []) }
         ensures err { OnErr result (self.new ≡ self.old) }

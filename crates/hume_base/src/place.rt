@@ -12,15 +12,3 @@ pub fn line_of(bytes: &[u8], place: u32) -> u32
     let before = &bytes[..place as usize];
     1 + before.iter().filter(|byte| **byte == b'\n').count() as u32
 }
-
-#[cfg(test)]
-mod tests {
-    use super::*;
-
-    #[test]
-    fn a_newline_ends_the_line_that_it_stands_in(rt: HostRuntime) {
-        for (place, line) in [(0, 1), (1, 1), (2, 1), (3, 2), (4, 3), (5, 3)] {
-            assert_eq!(rt; line_of(b"ab\n\nc", place), line, "at {place}");
-        }
-    }
-}

@@ -1,5 +1,7 @@
-ghost use Rattle.std.specs.Prelude.{◌≡◌, ◌↔◌, IsTrue, Some, ℕ};
+ghost use Rattle.std.specs.Prelude.{◌≡◌, ◌↔◌, IsTrue, Some, bytes_eq};
+ghost use Rattle.std.specs.List.{find};
 ghost use Rattle.hume_base.specs.Symbols.{symbol_text, symbol_of};
+ghost use Rattle.hume_base.specs.inner.FirstLetters.{symbols_with};
 
 /// A token of signs, named for its spelling.
 #[derive(Clone, Copy, Debug, PartialEq, Eq)]
@@ -28,32 +30,6 @@ pub enum Symbol {
     Minus,
     At,
 }
-
-const SYMBOLS: [Symbol; 23] = [
-    Symbol::OpenParen,
-    Symbol::CloseParen,
-    Symbol::OpenAngles,
-    Symbol::CloseAngles,
-    Symbol::Less,
-    Symbol::LessEquals,
-    Symbol::Greater,
-    Symbol::GreaterEquals,
-    Symbol::DoubleEquals,
-    Symbol::SlashEquals,
-    Symbol::Equals,
-    Symbol::Arrow,
-    Symbol::Bar,
-    Symbol::Comma,
-    Symbol::Semicolon,
-    Symbol::DoubleColon,
-    Symbol::Dot,
-    Symbol::Underscore,
-    Symbol::UnderscoreStar,
-    Symbol::Star,
-    Symbol::Plus,
-    Symbol::Minus,
-    Symbol::At,
-];
 
 impl Symbol {
     pub fn text(self) -> &'static [u8]
@@ -91,7 +67,10 @@ impl Symbol {
         ensures found { result ≡ symbol_of text.now }
         ensures exact { (symbol : Symbol) → (result ≡ Some symbol) ↔ (text.now ≡ symbol_text symbol) }
     {
-        find(text)
+        match text {
+            [] => None,
+            [first, ..] => find_among(starting_with(*first), text),
+        }
     }
 
     /// Whether two are the same; a clause learns more from it than from `==`.
@@ -102,8 +81,33 @@ impl Symbol {
     }
 }
 
-fn find(text: &[u8]) -> Option<Symbol>
-    ensures { result ≡ symbol_of text.now }
+/// The symbols that begin with the byte.
+fn starting_with(byte: u8) -> &'static [Symbol]
+    ensures { result.now ≡ symbols_with byte }
 {
-    SYMBOLS.iter().copied().find(|symbol| symbol.text() == text)
+    match byte {
+        b'(' => &[Symbol::OpenParen],
+        b')' => &[Symbol::CloseParen],
+        b'<' => &[Symbol::OpenAngles, Symbol::Less, Symbol::LessEquals],
+        b'>' => &[Symbol::CloseAngles, Symbol::Greater, Symbol::GreaterEquals],
+        b'=' => &[Symbol::DoubleEquals, Symbol::Equals],
+        b'/' => &[Symbol::SlashEquals],
+        b'-' => &[Symbol::Arrow, Symbol::Minus],
+        b'|' => &[Symbol::Bar],
+        b',' => &[Symbol::Comma],
+        b';' => &[Symbol::Semicolon],
+        b':' => &[Symbol::DoubleColon],
+        b'.' => &[Symbol::Dot],
+        b'_' => &[Symbol::Underscore, Symbol::UnderscoreStar],
+        b'*' => &[Symbol::Star],
+        b'+' => &[Symbol::Plus],
+        b'@' => &[Symbol::At],
+        _ => &[],
+    }
+}
+
+fn find_among(some: &[Symbol], text: &[u8]) -> Option<Symbol>
+    ensures { result ≡ find (λ symbol. bytes_eq (symbol_text symbol) text.now) some.now }
+{
+    some.iter().copied().find(|symbol| symbol.text() == text)
 }

@@ -24,18 +24,3 @@ pub struct Token {
     pub kind: Kind,
     pub place: u32,
 }
-
-#[cfg(test)]
-mod tests {
-    use super::*;
-
-    #[test]
-    fn keywords_and_symbols_are_found_by_their_texts(rt: HostRuntime) {
-        assert_eq!(rt; Keyword::from_text(b"update"), Some(Keyword::Update));
-        assert_eq!(rt; Keyword::from_text(b"updat"), None);
-        assert_eq!(rt; Symbol::from_text(b"_*"), Some(Symbol::UnderscoreStar));
-        assert_eq!(rt; Symbol::from_text(b"/"), None);
-        assert!(rt; Keyword::In.is(Keyword::In) && !Keyword::In.is(Keyword::Int));
-        assert!(rt; Symbol::Less.is(Symbol::Less) && !Symbol::Less.is(Symbol::OpenAngles));
-    }
-}

@@ -1,13 +1,14 @@
-ghost use Rattle.std.specs.Prelude.{◌≡◌, ◌+◌, ◌*◌, ◌≤◌, min};
-ghost use Rattle.hume_base.specs.Sizes.{size_of, HaveTheirSizes};
+ghost use Rattle.std.specs.Prelude.{◌≡◌, ◌+◌, ◌*◌, ◌≤◌};
+ghost use Rattle.hume_base.specs.Sizes.{size_of, written_size, HaveTheirSizes};
 
+use crate::limits::MAX_TYPE_WORDS;
 use crate::types::{Ty, Types};
 
-/// The words of a type; 1,025 for any greater size.
+/// The words of a type; one more than a written type may have for any greater size.
 #[tactic(auto, using(crate::proofs::Sizes::size_steps))]
 pub fn size(types: &Types, ty: &Ty) -> u32
     requires { HaveTheirSizes types.now }
-    ensures { result ≡ min (size_of types.now ty.now) 1025 }
+    ensures { result ≡ written_size (size_of types.now ty.now) }
 {
     match ty {
         Ty::Bool => 1,
@@ -30,20 +31,20 @@ pub fn size(types: &Types, ty: &Ty) -> u32
 }
 
 fn sum_up_to_limit(left: u32, right: u32) -> u32
-    requires left { left ≤ 1025 }
-    requires right { right ≤ 1025 }
-    ensures { result ≡ min (left + right) 1025 }
+    requires left { left ≤ MAX_TYPE_WORDS + 1 }
+    requires right { right ≤ MAX_TYPE_WORDS + 1 }
+    ensures { result ≡ written_size (left + right) }
 {
-    (left + right).min(1025)
+    (left + right).min(MAX_TYPE_WORDS + 1)
 }
 
 fn product_up_to_limit(count: u32, words: u32) -> u32
-    requires { words ≤ 1025 }
-    ensures { result ≡ min (count * words) 1025 }
+    requires { words ≤ MAX_TYPE_WORDS + 1 }
+    ensures { result ≡ written_size (count * words) }
 {
-    if count >= 1025 && words > 0 {
-        1025
+    if count > MAX_TYPE_WORDS && words > 0 {
+        MAX_TYPE_WORDS + 1
     } else {
-        (count * words).min(1025)
+        (count * words).min(MAX_TYPE_WORDS + 1)
     }
 }

@@ -1,7 +1,8 @@
 -- The classes of first bytes are apart.
 use Rattle.std.proofs.Common.{◌≡◌, ℕ, Bool, true, false, ◌||◌, arith, nat_eq}
 use Rattle.std.proofs.lemmas.Bool.Decides.{nat_tests}
-use Rattle.hume_lex.specs.Spelling.{is_space, is_small, is_capital, is_digit, is_plain, is_letter}
+use Rattle.hume_lex.specs.Spelling.{is_space, is_small, is_capital, is_digit, is_letter}
+use Rattle.hume_lex.specs.inner.Scan.{is_plain}
 
 -- begins a name
 abbrev pub begins_name : ℕ → Bool

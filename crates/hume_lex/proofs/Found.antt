@@ -13,9 +13,10 @@ use Rattle.hume_base.specs.declared.keyword.Keyword.{Keyword}
 use Rattle.hume_base.specs.declared.symbol.Symbol.{Symbol}
 use Rattle.hume_base.specs.declared.limits.TheConstants.{MAX_PORT_NAME_BYTES}
 use Rattle.hume_base.specs.declared.token.Kind.TheVariants as kind
-use Rattle.hume_lex.specs.Spelling.{is_space, is_small, is_capital, is_digit, is_name_byte, is_plain, is_letter, is_quotable, is_no_newline, value_of, letter_text}
+use Rattle.hume_lex.specs.Spelling.{is_space, is_small, is_capital, is_digit, is_name_byte, is_letter, is_quotable, is_no_newline, value_of, letter_text}
+use Rattle.hume_lex.specs.inner.Scan.{is_plain}
 use Rattle.hume_lex.specs.Reading.{Piece, gap, token, bytes_of, IsPiece, IsLongest}
-use Rattle.hume_lex.specs.Scan.{run, small_piece, escaped, starts_with_byte, escape_piece, letter_piece, is_port_name, quoted_piece, two_signs, sign_piece, mark_piece, first_piece}
+use Rattle.hume_lex.specs.inner.Scan.{run, small_piece, escaped, starts_with_byte, escape_piece, letter_piece, is_port_name, quoted_piece, two_signs, sign_piece, mark_piece, first_piece}
 use Rattle.hume_lex.proofs.Classes.{begins_name, small_begins, capital_begins, digit_begins_none, plain_is_letter, plain_tests}
 use Rattle.hume_lex.proofs.Runs.{after_run, run_cut, run_all, run_stops}
 use Rattle.hume_lex.proofs.Longest.{goes_on, goes_on_sign, longest_if}

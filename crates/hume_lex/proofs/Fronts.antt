@@ -13,7 +13,7 @@ use Rattle.hume_base.specs.declared.limits.TheConstants.{MAX_PORT_NAME_BYTES}
 use Rattle.hume_base.specs.declared.token.Kind.TheVariants as kind
 use Rattle.hume_lex.specs.Spelling.{is_space, is_small, is_capital, is_digit, is_name_byte, is_letter, is_quotable, is_no_newline, value_of, letter_text, Each, IsName}
 use Rattle.hume_lex.specs.Reading.{Piece, gap, token, bytes_of, IsPiece, NoPiece}
-use Rattle.hume_lex.specs.Scan.{run, small_piece, letter_piece, is_port_name, quoted_piece, two_signs, sign_piece, first_piece}
+use Rattle.hume_lex.specs.inner.Scan.{run, small_piece, letter_piece, is_port_name, quoted_piece, two_signs, sign_piece, first_piece}
 use Rattle.hume_lex.proofs.Classes.{begins_name, small_no_space, capital_no_space, capital_no_small, digit_no_space, digit_no_small, digit_no_capital, letter_is_plain}
 use Rattle.hume_lex.proofs.Texts.{keyword_is_name, IsMark, MarkText, one, two, symbol_is_marks}
 use Rattle.hume_lex.proofs.Found.{drop_front}

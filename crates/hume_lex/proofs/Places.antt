@@ -8,7 +8,7 @@ use Rattle.hume_base.specs.declared.token.Token.{Token}
 use Rattle.hume_lex.specs.declared.lexer.LexError.{LexError}
 use Rattle.hume_lex.specs.declared.lexer.LexError.TheVariants as error
 use Rattle.hume_lex.specs.Reading.{Piece, gap, token, source_of, AreLongest, tokens_at, IsReading}
-use Rattle.hume_lex.specs.Faults.{IsBadToken, IsFault, place_of}
+use Rattle.hume_lex.specs.BadPlaces.{IsBadToken, IsBadPlace, bad_place}
 use Rattle.hume_lex.proofs.Unique.{piece_some}
 
 below : (i n : ℕ) (ps : List Piece) → AreLongest ps [] → i + length (source_of ps) ≤ n → AllByRecursion (λ token. token.place < n) (tokens_at i ps)
@@ -28,9 +28,9 @@ token_within source ts h =
 bad_within : (IsWrong : List Token → Kind → Type 0) (source : List ℕ) (p : ℕ) → IsBadToken IsWrong source p → p < length source
 bad_within IsWrong source p h = omega (arith, h.before.here, piece_some (token h.kind h.bytes) h.spells, ap length h.is, length-append h.bytes h.left)
 
-pub fault_within : (source : List ℕ) (e : LexError) → IsFault source e → place_of e < length source
-fault_within source (error.BadChar p) h = omega (arith, h.before.here, h.some)
-fault_within source (error.BadNumber p) h = bad_within _ source p h
-fault_within source (error.LongName p) h = bad_within _ source p h
-fault_within source (error.TooManyTokens p) h = bad_within _ source p h
-fault_within source error.NoMemory h = absurd h
+pub error_within : (source : List ℕ) (e : LexError) → IsBadPlace source e → bad_place e < length source
+error_within source (error.BadChar p) h = omega (arith, h.before.here, h.some)
+error_within source (error.BadNumber p) h = bad_within _ source p h
+error_within source (error.LongName p) h = bad_within _ source p h
+error_within source (error.TooManyTokens p) h = bad_within _ source p h
+error_within source error.NoMemory h = absurd h

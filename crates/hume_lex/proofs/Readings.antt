@@ -10,9 +10,9 @@ use Rattle.hume_lex.specs.declared.lexer.LexError.TheVariants as error
 use Rattle.hume_lex.specs.declared.scan.Front.{Front}
 use Rattle.hume_lex.specs.declared.scan.Front.TheVariants as front
 use Rattle.hume_lex.specs.Reading.{Piece, gap, token, bytes_of, IsPiece, IsLongest, source_of, AreLongest, tokens_at, ReadsTo}
-use Rattle.hume_lex.specs.Faults.{IsTaken, AreWithinLimits, Reaches, IsBadChar, IsBadToken, IsBadNumber, IsLongName, IsOneTooMany, IsFault}
-use Rattle.hume_lex.specs.Scan.{first_piece}
-use Rattle.hume_lex.specs.View.{Shows, IsScan, IsNext, Takes, IsRefused}
+use Rattle.hume_lex.specs.BadPlaces.{IsTaken, AreWithinLimits, Reaches, IsBadChar, IsBadToken, IsBadNumber, IsLongName, IsOneTooMany, IsBadPlace}
+use Rattle.hume_lex.specs.inner.Scan.{first_piece}
+use Rattle.hume_lex.specs.inner.View.{Shows, IsScan, IsNext, Takes, IsRefused}
 use Rattle.hume_lex.proofs.Found.{first_found, drop_front}
 use Rattle.hume_lex.proofs.Fronts.{none_found}
 
@@ -59,13 +59,6 @@ scanned_piece o rest told e h = at (first_piece rest) refl (subst (λ q. IsScan 
     at : (q : Option Piece) → first_piece rest ≡ q → IsScan (Some told) q → (p : Piece) × (first_piece rest ≡ Some p) × Shows told.0 p × (told.1 ≡ length (bytes_of p))
     at None is g = absurd g
     at (Some p) is g = (p, is, g.0, g.1)
-
-pub scanned_none : (rest : List ℕ) → IsScan None (first_piece rest) → first_piece rest ≡ None
-scanned_none rest h = at (first_piece rest) h
-  where
-    at : (q : Option Piece) → IsScan None q → q ≡ None
-    at None g = refl
-    at (Some p) g = absurd g
 
 pub scan_fits : (told : Front) (n : ℕ) (rest : List ℕ) → IsScan (Some (told, n)) (first_piece rest) → (0 < n) × (n ≤ length rest)
 scan_fits told n rest h =
@@ -135,7 +128,7 @@ module _ (source rest : List ℕ) (ts : List Token) (so_far : SoFar source rest 
     takes_on front.WideNumber place us here next t = absurd t
     takes_on front.LongName place us here next t = absurd t
 
-    pub refused_there : (told : Front) (place : ℕ) (e : LexError) → place ≡ length source - length rest → IsNext (Some (told, left)) rest → IsRefused told ts place e → (e ≡ error.NoMemory) ⊎ IsFault source e
+    pub refused_there : (told : Front) (place : ℕ) (e : LexError) → place ≡ length source - length rest → IsNext (Some (told, left)) rest → IsRefused told ts place e → (e ≡ error.NoMemory) ⊎ IsBadPlace source e
     refused_there told place (error.BadChar at) here next r = absurd r
     refused_there told place error.NoMemory here next r = inl refl
     refused_there told place (error.BadNumber at) here next r = inr (by_piece next.0 next.1 (subst (λ t. Shows t next.0) r.2 next.2))

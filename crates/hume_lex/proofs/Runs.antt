@@ -7,7 +7,7 @@ use Rattle.std.proofs.lemmas.Bool.{cases_Bool}
 use Rattle.std.proofs.lemmas.List.Elements.{All-from_recursion}
 use Rattle.hume_base.proofs.Tables.{chosen}
 use Rattle.hume_lex.specs.Spelling.{Each}
-use Rattle.hume_lex.specs.Scan.{run}
+use Rattle.hume_lex.specs.inner.Scan.{run}
 
 -- what follows a run
 abbrev pub after_run : (ℕ → Bool) → List ℕ → List ℕ

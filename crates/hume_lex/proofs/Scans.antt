@@ -9,8 +9,8 @@ use Rattle.hume_base.specs.declared.token.Kind.TheVariants as kind
 use Rattle.hume_lex.specs.declared.scan.Front.{Front}
 use Rattle.hume_lex.specs.declared.scan.Front.TheVariants as front
 use Rattle.hume_lex.specs.Spelling.{is_quotable, is_no_newline}
-use Rattle.hume_lex.specs.Scan.{run, small_piece, starts_with_byte, is_port_name, quoted_piece, sign_piece}
-use Rattle.hume_lex.specs.View.{Shows, IsScan}
+use Rattle.hume_lex.specs.inner.Scan.{run, small_piece, starts_with_byte, is_port_name, quoted_piece, sign_piece}
+use Rattle.hume_lex.specs.inner.View.{Shows, IsScan}
 use Rattle.hume_lex.proofs.Runs.{run_length, take-prefix}
 
 -- a name or a keyword has the bytes of its text

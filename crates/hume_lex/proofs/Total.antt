@@ -1,4 +1,4 @@
--- Each source has a reading within the limits, or a fault.
+-- Each source has a reading within the limits, or a bad place.
 use Rattle.std.proofs.Common.{◌≡◌, ℕ, zero, suc, ◌+◌, ◌-◌, ◌<◌, ◌≤◌, ◌^◌, List, [], ◌∷◌, length, drop, Option, Some, None, refl, ap, ◌∙◌, ◌⊎◌, inl, inr, arith, length-append}
 use Rattle.std.proofs.lemmas.Bool.{cases_lt}
 use Rattle.hume_base.specs.declared.limits.TheConstants.{MAX_TOKENS, MAX_NAME_BYTES}
@@ -8,13 +8,13 @@ use Rattle.hume_base.specs.declared.token.Token.{Token}
 use Rattle.hume_lex.specs.declared.lexer.LexError.{LexError}
 use Rattle.hume_lex.specs.declared.lexer.LexError.TheVariants as error
 use Rattle.hume_lex.specs.Reading.{Piece, gap, token, bytes_of}
-use Rattle.hume_lex.specs.Faults.{IsTaken, IsTooWide, IsTooLong, IsRead, IsBadNumber, IsLongName, IsOneTooMany, IsFault}
-use Rattle.hume_lex.specs.Scan.{first_piece}
+use Rattle.hume_lex.specs.BadPlaces.{IsTaken, IsTooWide, IsTooLong, IsRead, IsBadNumber, IsLongName, IsOneTooMany, IsBadPlace}
+use Rattle.hume_lex.specs.inner.Scan.{first_piece}
 use Rattle.hume_lex.proofs.Found.{first_found, drop_front}
 use Rattle.hume_lex.proofs.Readings.{SoFar, begins, nothing_there, bad_token, after_gap, after_token}
 
 abbrev HasAnswer : List ℕ → Type 0
-HasAnswer source = ((tokens : List Token) × IsRead source tokens) ⊎ ((error : LexError) × IsFault source error)
+HasAnswer source = ((tokens : List Token) × IsRead source tokens) ⊎ ((error : LexError) × IsBadPlace source error)
 
 data Taking (k : Kind) : Type 0 where
   taken : IsTaken k → Taking k
@@ -58,5 +58,5 @@ answer_from zero source (b ∷ bs) ts so_far le = absurd (omega (arith, le))
 answer_from (suc n) source (b ∷ bs) ts so_far le =
     by_first source b bs ts so_far n (omega (arith, le)) (λ rest us h m. answer_from n source rest us h m) (first_piece (b ∷ bs)) refl
 
-pub some_answer : (source : List ℕ) → ((tokens : List Token) × IsRead source tokens) ⊎ ((error : LexError) × IsFault source error)
+pub some_answer : (source : List ℕ) → ((tokens : List Token) × IsRead source tokens) ⊎ ((error : LexError) × IsBadPlace source error)
 some_answer source = answer_from (length source) source source [] (begins source) (omega arith)

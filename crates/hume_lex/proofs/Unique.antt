@@ -9,8 +9,8 @@ use Rattle.hume_base.specs.declared.token.Token.{Token}
 use Rattle.hume_lex.specs.declared.lexer.LexError.{LexError}
 use Rattle.hume_lex.specs.declared.lexer.LexError.TheVariants as error
 use Rattle.hume_lex.specs.Reading.{Piece, gap, token, bytes_of, IsPiece, IsLongest, source_of, AreLongest, tokens_at, ReadsTo, IsReading}
-use Rattle.hume_lex.specs.Faults.{IsTaken, IsTooWide, IsTooLong, AreWithinLimits, IsRead, IsBadChar, IsBadToken, IsBadNumber, IsLongName, IsOneTooMany, IsFault}
-use Rattle.hume_lex.specs.Scan.{first_piece}
+use Rattle.hume_lex.specs.BadPlaces.{IsTaken, IsTooWide, IsTooLong, AreWithinLimits, IsRead, IsBadChar, IsBadToken, IsBadNumber, IsLongName, IsOneTooMany, IsBadPlace}
+use Rattle.hume_lex.specs.inner.Scan.{first_piece}
 use Rattle.hume_lex.proofs.Found.{first_found}
 use Rattle.hume_lex.proofs.Fronts.{piece_alone}
 use Rattle.hume_lex.proofs.Readings.{put, tokens_at-append}
@@ -216,42 +216,42 @@ char_and_char source p q a b =
     let stop = one_stop source a.rest b.rest a.tokens b.tokens (char_stops source p a) (char_stops source q b) in
     same_place source a.rest b.rest p q a.before.here b.before.here stop.1
 
-pub one_fault : (source : List ℕ) (e f : LexError) → IsFault source e → IsFault source f → e ≡ f
-one_fault source error.NoMemory f a b = absurd a
-one_fault source (error.BadChar p) error.NoMemory a b = absurd b
-one_fault source (error.BadNumber p) error.NoMemory a b = absurd b
-one_fault source (error.LongName p) error.NoMemory a b = absurd b
-one_fault source (error.TooManyTokens p) error.NoMemory a b = absurd b
-one_fault source (error.BadChar p) (error.BadChar q) a b = ap error.BadChar (char_and_char source p q a b)
-one_fault source (error.BadChar p) (error.BadNumber q) a b = absurd (char_or_token IsBadNumber wide_forbidden source p q a b)
-one_fault source (error.BadChar p) (error.LongName q) a b = absurd (char_or_token IsLongName long_forbidden source p q a b)
-one_fault source (error.BadChar p) (error.TooManyTokens q) a b = absurd (char_or_token IsOneTooMany many_forbidden source p q a b)
-one_fault source (error.BadNumber p) (error.BadChar q) a b = absurd (char_or_token IsBadNumber wide_forbidden source q p b a)
-one_fault source (error.LongName p) (error.BadChar q) a b = absurd (char_or_token IsLongName long_forbidden source q p b a)
-one_fault source (error.TooManyTokens p) (error.BadChar q) a b = absurd (char_or_token IsOneTooMany many_forbidden source q p b a)
-one_fault source (error.BadNumber p) (error.BadNumber q) a b = ap error.BadNumber (same_bad IsBadNumber IsBadNumber wide_forbidden wide_forbidden source p q a b).place
-one_fault source (error.LongName p) (error.LongName q) a b = ap error.LongName (same_bad IsLongName IsLongName long_forbidden long_forbidden source p q a b).place
-one_fault source (error.TooManyTokens p) (error.TooManyTokens q) a b = ap error.TooManyTokens (same_bad IsOneTooMany IsOneTooMany many_forbidden many_forbidden source p q a b).place
-one_fault source (error.BadNumber p) (error.LongName q) a b = let x = same_bad IsBadNumber IsLongName wide_forbidden long_forbidden source p q a b in absurd (wide_not_long x.kind x.wrong.1 x.other.1)
-one_fault source (error.LongName p) (error.BadNumber q) a b = let x = same_bad IsBadNumber IsLongName wide_forbidden long_forbidden source q p b a in absurd (wide_not_long x.kind x.wrong.1 x.other.1)
-one_fault source (error.BadNumber p) (error.TooManyTokens q) a b = let x = same_bad IsBadNumber IsOneTooMany wide_forbidden many_forbidden source p q a b in absurd (omega (arith, x.wrong.0, x.other))
-one_fault source (error.LongName p) (error.TooManyTokens q) a b = let x = same_bad IsLongName IsOneTooMany long_forbidden many_forbidden source p q a b in absurd (omega (arith, x.wrong.0, x.other))
-one_fault source (error.TooManyTokens p) (error.BadNumber q) a b = let x = same_bad IsBadNumber IsOneTooMany wide_forbidden many_forbidden source q p b a in absurd (omega (arith, x.wrong.0, x.other))
-one_fault source (error.TooManyTokens p) (error.LongName q) a b = let x = same_bad IsLongName IsOneTooMany long_forbidden many_forbidden source q p b a in absurd (omega (arith, x.wrong.0, x.other))
+pub one_bad_place : (source : List ℕ) (e f : LexError) → IsBadPlace source e → IsBadPlace source f → e ≡ f
+one_bad_place source error.NoMemory f a b = absurd a
+one_bad_place source (error.BadChar p) error.NoMemory a b = absurd b
+one_bad_place source (error.BadNumber p) error.NoMemory a b = absurd b
+one_bad_place source (error.LongName p) error.NoMemory a b = absurd b
+one_bad_place source (error.TooManyTokens p) error.NoMemory a b = absurd b
+one_bad_place source (error.BadChar p) (error.BadChar q) a b = ap error.BadChar (char_and_char source p q a b)
+one_bad_place source (error.BadChar p) (error.BadNumber q) a b = absurd (char_or_token IsBadNumber wide_forbidden source p q a b)
+one_bad_place source (error.BadChar p) (error.LongName q) a b = absurd (char_or_token IsLongName long_forbidden source p q a b)
+one_bad_place source (error.BadChar p) (error.TooManyTokens q) a b = absurd (char_or_token IsOneTooMany many_forbidden source p q a b)
+one_bad_place source (error.BadNumber p) (error.BadChar q) a b = absurd (char_or_token IsBadNumber wide_forbidden source q p b a)
+one_bad_place source (error.LongName p) (error.BadChar q) a b = absurd (char_or_token IsLongName long_forbidden source q p b a)
+one_bad_place source (error.TooManyTokens p) (error.BadChar q) a b = absurd (char_or_token IsOneTooMany many_forbidden source q p b a)
+one_bad_place source (error.BadNumber p) (error.BadNumber q) a b = ap error.BadNumber (same_bad IsBadNumber IsBadNumber wide_forbidden wide_forbidden source p q a b).place
+one_bad_place source (error.LongName p) (error.LongName q) a b = ap error.LongName (same_bad IsLongName IsLongName long_forbidden long_forbidden source p q a b).place
+one_bad_place source (error.TooManyTokens p) (error.TooManyTokens q) a b = ap error.TooManyTokens (same_bad IsOneTooMany IsOneTooMany many_forbidden many_forbidden source p q a b).place
+one_bad_place source (error.BadNumber p) (error.LongName q) a b = let x = same_bad IsBadNumber IsLongName wide_forbidden long_forbidden source p q a b in absurd (wide_not_long x.kind x.wrong.1 x.other.1)
+one_bad_place source (error.LongName p) (error.BadNumber q) a b = let x = same_bad IsBadNumber IsLongName wide_forbidden long_forbidden source q p b a in absurd (wide_not_long x.kind x.wrong.1 x.other.1)
+one_bad_place source (error.BadNumber p) (error.TooManyTokens q) a b = let x = same_bad IsBadNumber IsOneTooMany wide_forbidden many_forbidden source p q a b in absurd (omega (arith, x.wrong.0, x.other))
+one_bad_place source (error.LongName p) (error.TooManyTokens q) a b = let x = same_bad IsLongName IsOneTooMany long_forbidden many_forbidden source p q a b in absurd (omega (arith, x.wrong.0, x.other))
+one_bad_place source (error.TooManyTokens p) (error.BadNumber q) a b = let x = same_bad IsBadNumber IsOneTooMany wide_forbidden many_forbidden source q p b a in absurd (omega (arith, x.wrong.0, x.other))
+one_bad_place source (error.TooManyTokens p) (error.LongName q) a b = let x = same_bad IsLongName IsOneTooMany long_forbidden many_forbidden source q p b a in absurd (omega (arith, x.wrong.0, x.other))
 
 read_no_token : (IsWrong : List Token → Kind → Type 0) → IsForbidden IsWrong → (source : List ℕ) (ts : List Token) (p : ℕ) → IsRead source ts → IsBadToken IsWrong source p → ⊥
 read_no_token IsWrong f source ts p a b =
     let stop = one_stop source [] b.rest ts b.tokens (read_stops source ts a) (token_stops IsWrong f source p b) in
     omega (arith, piece_some (token b.kind b.bytes) b.spells, ap length (stop.1 ∙ b.is), length-append b.bytes b.left)
 
-pub read_no_fault : (source : List ℕ) (ts : List Token) (e : LexError) → IsRead source ts → IsFault source e → ⊥
-read_no_fault source ts error.NoMemory a b = b
-read_no_fault source ts (error.BadChar p) a b =
+pub read_no_bad_place : (source : List ℕ) (ts : List Token) (e : LexError) → IsRead source ts → IsBadPlace source e → ⊥
+read_no_bad_place source ts error.NoMemory a b = b
+read_no_bad_place source ts (error.BadChar p) a b =
     let stop = one_stop source [] b.rest ts b.tokens (read_stops source ts a) (char_stops source p b) in
     omega (arith, b.some, ap length stop.1)
-read_no_fault source ts (error.BadNumber p) a b = read_no_token IsBadNumber wide_forbidden source ts p a b
-read_no_fault source ts (error.LongName p) a b = read_no_token IsLongName long_forbidden source ts p a b
-read_no_fault source ts (error.TooManyTokens p) a b = read_no_token IsOneTooMany many_forbidden source ts p a b
+read_no_bad_place source ts (error.BadNumber p) a b = read_no_token IsBadNumber wide_forbidden source ts p a b
+read_no_bad_place source ts (error.LongName p) a b = read_no_token IsLongName long_forbidden source ts p a b
+read_no_bad_place source ts (error.TooManyTokens p) a b = read_no_token IsOneTooMany many_forbidden source ts p a b
 
 no_further_end : (ps qs : List Piece) → Further ps qs [] [] → ⊥
 no_further_end ps qs f = omega (arith, piece_some f.next f.right, ap length f.rest, length-append (bytes_of f.next) (source_of f.more ++ []))
@@ -266,13 +266,13 @@ one_reading source ts us a b = elim (two_cuts a.pieces b.pieces [] [] (sym a.cov
 ]
 
 -- an answer that is right is the only one, but for want of memory
-pub no_error : (source : List ℕ) (e : LexError) → (e ≡ error.NoMemory) ⊎ IsFault source e → (ts : List Token) → IsRead source ts → e ≡ error.NoMemory
+pub no_error : (source : List ℕ) (e : LexError) → (e ≡ error.NoMemory) ⊎ IsBadPlace source e → (ts : List Token) → IsRead source ts → e ≡ error.NoMemory
 no_error source e (inl memory) ts h = memory
-no_error source e (inr fault) ts h = absurd (read_no_fault source ts e h fault)
+no_error source e (inr bad) ts h = absurd (read_no_bad_place source ts e h bad)
 
-pub same_error : (source : List ℕ) (e f : LexError) → (e ≡ error.NoMemory) ⊎ IsFault source e → IsFault source f → (e ≡ f) ⊎ (e ≡ error.NoMemory)
+pub same_error : (source : List ℕ) (e f : LexError) → (e ≡ error.NoMemory) ⊎ IsBadPlace source e → IsBadPlace source f → (e ≡ f) ⊎ (e ≡ error.NoMemory)
 same_error source e f (inl memory) h = inr memory
-same_error source e f (inr fault) h = inl (one_fault source e f fault h)
+same_error source e f (inr bad) h = inl (one_bad_place source e f bad h)
 
 pub as_result : {A : Type 0} (r : Result A LexError) (e f : LexError) → r ≡ Err e → (e ≡ f) ⊎ (e ≡ error.NoMemory) → (r ≡ Err f) ⊎ (r ≡ Err error.NoMemory)
 as_result r e f is (inl same) = inl (is ∙ ap Err same)

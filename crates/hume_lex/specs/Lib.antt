@@ -1,5 +1,4 @@
 pub mod Spelling
 pub mod Reading
-pub mod Faults
-pub mod Scan
-pub mod View
+pub mod BadPlaces
+pub mod inner

@@ -63,10 +63,6 @@ is_name_byte byte = is_small byte || is_capital byte || is_digit byte || byte ==
 abbrev pub is_printable : ℕ → Bool
 is_printable byte = between 32 126 byte
 
--- stands between single quotes as it is: no quote and no backslash
-abbrev pub is_plain : ℕ → Bool
-is_plain byte = is_printable byte && not (byte == single_quote) && not (byte == backslash)
-
 -- stands between double quotes: no double quote
 abbrev pub is_quotable : ℕ → Bool
 is_quotable byte = is_printable byte && not (byte == double_quote)

@@ -1,9 +1,10 @@
 // Classes of bytes, and how far they run.
 
-ghost use Rattle.std.specs.Prelude.{◌≡◌, ◌<◌, ◌≤◌, ◌^◌, true, length, take, All, MatchOption, IfSome};
+ghost use Rattle.std.specs.Prelude.{◌≡◌, ◌<◌, ◌≤◌, ◌^◌, true, All, MatchOption, IfSome};
 ghost use Rattle.std.specs.List.{prefix_len};
-ghost use Rattle.hume_lex.specs.Scan.{run};
-ghost use Rattle.hume_lex.specs.Spelling.{is_space as space, is_small as small, is_capital as capital, is_digit as digit, is_name_byte as name_byte, is_plain as plain, is_quotable as quotable, is_no_newline as no_newline, value_of};
+ghost use Rattle.hume_lex.specs.inner.Scan.{run};
+ghost use Rattle.hume_lex.specs.Spelling.{is_space as space, is_small as small, is_capital as capital, is_digit as digit, is_name_byte as name_byte, is_quotable as quotable, is_no_newline as no_newline, value_of};
+ghost use Rattle.hume_lex.specs.inner.Scan.{is_plain as plain};
 
 pub fn is_space(byte: u8) -> bool
     ensures { result ≡ space byte }

@@ -1,7 +1,7 @@
 ghost use Rattle.std.specs.Prelude.{◌≡◌, ◌≤◌, ◌⊎◌, List, length, IfOk, IfErr, OnOk, MatchResult};
 ghost use Rattle.hume_base.specs.declared.token.Token.{Token as TokenValue};
-ghost use Rattle.hume_lex.specs.Faults.{IsRead, IsFault};
-ghost use Rattle.hume_lex.specs.View.{Takes, IsRefused};
+ghost use Rattle.hume_lex.specs.BadPlaces.{IsRead, IsBadPlace};
+ghost use Rattle.hume_lex.specs.inner.View.{Takes, IsRefused};
 
 use crate::scan::{Front, next_front};
 use hume_base::Token;
@@ -48,12 +48,12 @@ impl<T: Drop> From<AllocFailed<T>> for LexError {
 pub fn lex(alloc: Global, source: &[u8]) -> Result<Vec<Token>, LexError>
     requires { length source.now ≤ MAX_SOURCE_BYTES }
     ensures tokens { IfOk result (λ tokens. IsRead source.now tokens.items) }
-    ensures error { IfErr result (λ error. (error ≡ LexError.NoMemory) ⊎ IsFault source.now error) }
+    ensures error { IfErr result (λ error. (error ≡ LexError.NoMemory) ⊎ IsBadPlace source.now error) }
     // An answer that is right for the source is the one that is given, unless memory is wanting.
     ensures only_tokens { (tokens : List TokenValue) → IsRead source.now tokens
         → MatchResult result (λ found. found.items ≡ tokens) (λ error. error ≡ LexError.NoMemory) }
-    ensures only_error { (fault : LexError) → IsFault source.now fault
-        → (result ≡ Err fault) ⊎ (result ≡ Err LexError.NoMemory) }
+    ensures only_error { (bad : LexError) → IsBadPlace source.now bad
+        → (result ≡ Err bad) ⊎ (result ≡ Err LexError.NoMemory) }
 {
     let mut tokens = Vec::new(alloc);
     let mut rest = source;

@@ -3,9 +3,8 @@
 ghost use Rattle.std.specs.Prelude.{◌≡◌, ◌∷◌, ◌<◌, length, IfOk, IfSome};
 ghost use Rattle.hume_base.specs.Keywords.{keyword_of};
 ghost use Rattle.hume_lex.specs.Reading.{token};
-ghost use Rattle.hume_lex.specs.Scan.{run, first_piece, small_piece, escaped as escape_of, starts_with_byte as begins_with, escape_piece, letter_piece, quoted_piece, sign_piece, one_sign as sign_of_one, mark_piece};
-ghost use Rattle.hume_lex.specs.Spelling.{is_quotable};
-ghost use Rattle.hume_lex.specs.View.{Shows, IsScan, IsNext};
+ghost use Rattle.hume_lex.specs.inner.Scan.{first_piece, small_piece, escaped as escape_of, starts_with_byte as begins_with, escape_piece, letter_piece, quoted_piece, sign_piece, one_sign as sign_of_one, mark_piece};
+ghost use Rattle.hume_lex.specs.inner.View.{Shows, IsScan, IsNext};
 
 use crate::bytes::{
     digits_len, is_capital, is_digit, is_plain, is_small, is_space, line_len, name_len, number,
@@ -42,7 +41,7 @@ pub fn next_front(alloc: Global, rest: &[u8]) -> Result<Option<(Front, &[u8])>, 
     }
 }
 
-#[tactic(auto, using(crate::proofs::Scans::small_scan, crate::proofs::Runs::run_steps), unfolding(crate::specs::Scan::first_piece))]
+#[tactic(auto, using(crate::proofs::Scans::small_scan, crate::proofs::Runs::run_steps), unfolding(crate::specs::inner::Scan::first_piece))]
 fn scan(alloc: Global, rest: &[u8]) -> Result<Option<(Front, usize)>, AllocError>
     ensures { IfOk result (λ found. IsScan found (first_piece rest.now)) }
 {

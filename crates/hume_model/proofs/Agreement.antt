@@ -11,7 +11,8 @@ use Rattle.hume_model.specs.declared.core_tree.FunC.{FunC}
 use Rattle.hume_model.specs.declared.core_tree.Core.{Core}
 use Rattle.hume_model.specs.Outcomes.{Meaning, in_order, with_all, and_then, on_match}
 use Rattle.hume_model.specs.Patterns.{matches}
-use Rattle.hume_model.specs.Meaning.{Calls, eval_step, eval_with, call_below, call_of, first_equation, first_arm, arm_with}
+use Rattle.hume_model.specs.Meaning.{Calls, eval_step, eval_with, call_below, call_of, first_equation, first_arm}
+use Rattle.hume_model.specs.inner.Arms.{arm_with}
 use Rattle.hume_model.specs.Calls.{calls_step, calls_below, all_true, CallsGoDown, equation_calls}
 use Rattle.hume_model.proofs.Evaluation.{call-at}
 

@@ -16,12 +16,13 @@ use Rattle.hume_model.specs.declared.outcome.Outcome.{Outcome}
 use Rattle.hume_model.specs.declared.outcome.Outcome.TheVariants.{Gives, Raises}
 use Rattle.hume_model.specs.declared.outcome.Outputs.{Outputs}
 use Rattle.hume_model.specs.declared.outcome.Outputs.TheVariants.{Asserts, Throws}
-use Rattle.hume_model.specs.declared.state.Firing.{Firing}
+use Rattle.hume_model.specs.declared.outcome.Firing.{Firing}
 use Rattle.hume_model.specs.Outcomes.{on_match, then_outputs, then_outs, after_outputs, outs_in_order, raised, thrown}
-use Rattle.hume_model.specs.Operations.{word_of_value}
+use Rattle.hume_base.specs.Flat.{word_of_value}
 use Rattle.hume_model.specs.Patterns.{matches}
 use Rattle.hume_model.specs.Matching.{bound}
-use Rattle.hume_model.specs.Results.{result_of, result_arm_with, first_result, meaning_in}
+use Rattle.hume_model.specs.Results.{result_of, first_result, meaning_in}
+use Rattle.hume_model.specs.inner.Arms.{result_arm_with}
 use Rattle.hume_model.specs.Firing.{fire, firing_of, rule_fits, handled, handled_by, handler_env, outputs_or_none}
 use Rattle.hume_model.specs.ResultTyping.{OutsHave, GivesOutputs, ArmsGiveOutputs, are_outputs}
 use Rattle.hume_model.specs.BoxTyping.{BoxIsTyped, port_types}

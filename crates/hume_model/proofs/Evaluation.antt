@@ -17,9 +17,11 @@ use Rattle.hume_model.specs.declared.outcome.Outputs.{Outputs}
 use Rattle.hume_model.specs.declared.outcome.Outputs.TheVariants.{Asserts, Throws}
 use Rattle.hume_model.specs.declared.outcome.Several.{Several}
 use Rattle.hume_model.specs.declared.outcome.Several.TheVariants.{All, Raised}
-use Rattle.hume_model.specs.Outcomes.{Meaning, and_then, no_case, after, after_outputs, then_outputs}
-use Rattle.hume_model.specs.Meaning.{Calls, call_below, call_of, eval_with, eval_step, first_arm, arm_with}
-use Rattle.hume_model.specs.Results.{ResultMeaning, result_of, result_step, result_arm_with, first_result, meaning_in}
+use Rattle.hume_model.specs.Outcomes.{Meaning, and_then, no_case, after_values, after_outputs, then_outputs}
+use Rattle.hume_model.specs.Meaning.{Calls, call_below, call_of, eval_with, eval_step, first_arm}
+use Rattle.hume_model.specs.inner.Arms.{arm_with}
+use Rattle.hume_model.specs.Results.{ResultMeaning, result_of, result_step, first_result, meaning_in}
+use Rattle.hume_model.specs.inner.Arms.{result_arm_with}
 use Rattle.hume_model.proofs.Ranks.{rank-falls, some_size}
 
 pub call-past : (core : Core) (bound function : ℕ) (args : List Value) → bound ≤ function → call_below core bound function args ≡ no_case
@@ -39,13 +41,13 @@ call-at core (suc bound) function args below = elim (cases_eq function bound) [
 ]
 
 -- more values in front are those values before the others
-pub after-append : (vs ws : List Value) (several : Several) → after (vs ++ ws) several ≡ after vs (after ws several)
-after-append vs ws (All more) = ap All (append_assoc vs ws more)
-after-append vs ws (Raised exn carried) = refl
+pub after_values-append : (vs ws : List Value) (several : Several) → after_values (vs ++ ws) several ≡ after_values vs (after_values ws several)
+after_values-append vs ws (All more) = ap All (append_assoc vs ws more)
+after_values-append vs ws (Raised exn carried) = refl
 
-pub after-none : (several : Several) → after [] several ≡ several
-after-none (All more) = refl
-after-none (Raised exn carried) = refl
+pub after_values-none : (several : Several) → after_values [] several ≡ several
+after_values-none (All more) = refl
+after_values-none (Raised exn carried) = refl
 
 pub after_outputs-append : (vs ws : List (Option Value)) (outputs : Outputs) → after_outputs (vs ++ ws) outputs ≡ after_outputs vs (after_outputs ws outputs)
 after_outputs-append vs ws (Asserts more) = ap Asserts (append_assoc vs ws more)
@@ -66,6 +68,6 @@ pub result-case : (core : Core) (part : Expr) (ty : Ty) (arms : List (PatC × Re
 result-case core part ty arms env =
     ap (λ res. result_of core env res) (sym (rolls_case_result part ty arms)) ∙ ap (λ m. m env) (fold-roll-Res ResultMeaning (result_step (meaning_in core)) (Res-F.Case part ty arms))
 
-pub ruleset eval_steps = (common_steps, expr_lemmas, eval-case, call-past, call-at, after-append, after-none, rank-falls, some_size)
+pub ruleset eval_steps = (common_steps, expr_lemmas, eval-case, call-past, call-at, after_values-append, after_values-none, rank-falls, some_size)
 
 pub ruleset result_steps = (common_steps, res_lemmas, result-case, after_outputs-append, after_outputs-none)

@@ -2,7 +2,7 @@
 use Rattle.std.proofs.Common.{◌≡◌, ℕ, zero, suc, ◌-◌, nat_lt, ◌==◌, ◌&&◌, not, Bool, true, false, if◌then◌else◌, pos, neg_ℤ, List, [], ◌∷◌, ◌++◌, map, length, replicate, Option, Some, None, slice_get, slice_set, refl, ap, sym, ◌∙◌, subst}
 use Rattle.std.proofs.lemmas.Bool.{and_parts, eq-eqb, lt-ltb}
 use Rattle.std.specs.List.{list_all}
-use Rattle.std.specs.Int.RustNames.{int_lt, int_le}
+use Rattle.std.specs.Int.RustNames.{int_lt, int_le, int_div, int_rem}
 use Rattle.hume_base.specs.declared.types.Ty.{Ty, out-Ty}
 use Rattle.hume_base.specs.declared.types.Ty.TheVariants as shape
 use Rattle.hume_base.specs.declared.types.Value.{Value, out-Value}
@@ -23,11 +23,13 @@ use Rattle.hume_model.specs.declared.outcome.Outcome.TheVariants.{Gives, Raises}
 use Rattle.hume_model.specs.declared.outcome.Several.{Several}
 use Rattle.hume_model.specs.declared.outcome.Several.TheVariants.{All, Raised}
 use Rattle.hume_model.specs.Outcomes.{and_then, with_all, in_order, then_rest, on_match}
-use Rattle.hume_model.specs.Operations.{prim, binary, unary, exact, truth, number_at, word_of_value, is_place, item_of, item_or_raise, updated}
+use Rattle.hume_base.specs.Flat.{word_of_value}
+use Rattle.hume_model.specs.Operations.{prim, binary, unary, gives_truth, number_at, is_place, item_of, item_or_raise, updated}
 use Rattle.hume_model.specs.Patterns.{matches}
-use Rattle.hume_model.specs.Meaning.{Calls, eval_with, variable, first_arm, arm_with}
+use Rattle.hume_model.specs.Meaning.{Calls, eval_with, variable, first_arm}
+use Rattle.hume_model.specs.inner.Arms.{arm_with}
 use Rattle.hume_model.specs.Typing.{AreOf, HasType, HaveTypes, ArmsHaveType, is_outcome, is_raised, is_number_type, is_arithmetic, is_comparison}
-use Rattle.hume_model.specs.WellFormed.{HasOwnExceptions}
+use Rattle.hume_model.proofs.OwnExceptions.{AreRaised}
 use Rattle.hume_model.proofs.Layers.{out-word, out-tuple, out-vector, out-con, bool-value, tuple-value, vector-value, eval-word, eval-variable, eval-con, eval-tuple, eval-vector, eval-prim, eval-index, eval-update, eval-choice, eval-case, eval-let, eval-call, eval-raise-none, eval-raise-some}
 use Rattle.hume_model.proofs.Fields.{data-value}
 use Rattle.hume_model.proofs.PatternTypes.{both_true, of_both, one_of, pattern_typed}
@@ -110,7 +112,7 @@ module _ (core : Core) where
       let rest = replicated count item vs ps.1 in
       (ap suc rest.0, both_true _ _ ps.0 rest.1)
 
-  module _ (own : HasOwnExceptions core) where
+  module _ (own : AreRaised core) where
     item_typed : (item : Ty) (vs : List Value) (k : ℕ) → list_all (is_value core.types item) vs ≡ true → GivesOf item (item_or_raise (slice_get vs k))
     item_typed item [] k all = own.range
     item_typed item (v ∷ vs) zero all = (and_parts _ _ all).0
@@ -130,7 +132,7 @@ module _ (core : Core) where
         (vector_of count item (slice_set vs k x) (ap (λ n. n == count) (length_set vs k x) ∙ parts.0) (all_set (is_value core.types item) vs k x parts.1 new))
         own.range
 
-    truth_typed : (b : Bool) → GivesOf shape.Bool (truth b)
+    truth_typed : (b : Bool) → GivesOf shape.Bool (gives_truth b)
     truth_typed true = bool-value named (value.Word 1) ∙ ap (is_word_of (λ word. nat_lt word 2)) (out-word 1)
     truth_typed false = bool-value named (value.Word 0) ∙ ap (is_word_of (λ word. nat_lt word 2)) (out-word 0)
 
@@ -138,8 +140,8 @@ module _ (core : Core) where
     arithmetic_typed op.Add t a b is num = number-value core.types t num _
     arithmetic_typed op.Sub t a b is num = number-value core.types t num _
     arithmetic_typed op.Mul t a b is num = number-value core.types t num _
-    arithmetic_typed op.Div t a b is num = either (GivesOf t) (b == 0) _ _ own.div_zero (number-value core.types t num (exact op.Div (number_at (out-Ty t) a) (number_at (out-Ty t) b)))
-    arithmetic_typed op.Mod t a b is num = either (GivesOf t) (b == 0) _ _ own.div_zero (number-value core.types t num (exact op.Mod (number_at (out-Ty t) a) (number_at (out-Ty t) b)))
+    arithmetic_typed op.Div t a b is num = either (GivesOf t) (b == 0) _ _ own.div_zero (number-value core.types t num (int_div (number_at (out-Ty t) a) (number_at (out-Ty t) b)))
+    arithmetic_typed op.Mod t a b is num = either (GivesOf t) (b == 0) _ _ own.div_zero (number-value core.types t num (int_rem (number_at (out-Ty t) a) (number_at (out-Ty t) b)))
     arithmetic_typed op.Neg t a b is num = cc
     arithmetic_typed op.Not t a b is num = cc
     arithmetic_typed op.Convert t a b is num = cc
@@ -170,12 +172,14 @@ module _ (core : Core) where
     on_two : (o : Op) (t u : Ty) (vs : List Value) → ((a b : ℕ) → GivesOf u (binary o (out-Ty t) a b)) → AllOf (t ∷ t ∷ []) vs → GivesOf u (prim o t vs)
     on_two o t u [] typed is = cc
     on_two o t u (v ∷ []) typed is = absurd (cc_false (is_value core.types t v) is)
-    on_two o t u (v ∷ w ∷ vs) typed is = typed (word_of_value v) (word_of_value w)
+    on_two o t u (v ∷ w ∷ []) typed is = typed (word_of_value v) (word_of_value w)
+    on_two o t u (v ∷ w ∷ x ∷ vs) typed is = absurd (cc_false (is_value core.types t w) (and_parts _ _ is).1)
 
     on_one : (o : Op) (s t u : Ty) (vs : List Value) → ((a : ℕ) → GivesOf u (unary o (out-Ty t) a)) → AllOf (s ∷ []) vs → GivesOf u (prim o t vs)
     on_one o s t u [] typed is = cc
     on_one o s t u (v ∷ []) typed is = typed (word_of_value v)
-    on_one o s t u (v ∷ w ∷ vs) typed is = absurd (cc_false (is_value core.types s v) is)
+    on_one o s t u (v ∷ w ∷ []) typed is = absurd (cc_false (is_value core.types s v) is)
+    on_one o s t u (v ∷ w ∷ x ∷ vs) typed is = absurd (cc_false (is_value core.types s v) is)
 
     module _ (down : HoldSmaller core.types) (call : Calls)
         (called : (f : ℕ) (function : FunC) → slice_get core.funs f ≡ Some function → (args : List Value) → AllOf function.params args → GivesOf function.gives (call f args)) where

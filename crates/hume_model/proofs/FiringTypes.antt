@@ -18,14 +18,14 @@ use Rattle.hume_model.specs.declared.core_tree.ExnDef.{ExnDef}
 use Rattle.hume_model.specs.declared.core_tree.Core.{Core}
 use Rattle.hume_model.specs.declared.outcome.Outputs.{Outputs}
 use Rattle.hume_model.specs.declared.outcome.Outputs.TheVariants.{Asserts, Throws}
-use Rattle.hume_model.specs.declared.state.Firing.{Firing}
+use Rattle.hume_model.specs.declared.outcome.Firing.{Firing}
 use Rattle.hume_model.specs.Patterns.{matches}
 use Rattle.hume_model.specs.Matching.{fits, bound}
 use Rattle.hume_model.specs.Results.{result_of}
 use Rattle.hume_model.specs.Firing.{fire, firing_of, rule_fits, handled, handled_by, handler_env, outputs_or_none}
 use Rattle.hume_model.specs.Typing.{AreOf, is_raised, is_carried}
 use Rattle.hume_model.specs.ResultTyping.{are_outputs, is_result}
-use Rattle.hume_model.specs.BoxTyping.{PositionsHave, HandlerIsTyped, BoxIsTyped, port_types, carried_types}
+use Rattle.hume_model.specs.BoxTyping.{PositionsHave, HandlerIsKnown, BoxIsTyped, port_types, carried_types}
 use Rattle.hume_model.specs.WellFormed.{HasSoundParts}
 use Rattle.hume_model.proofs.PatternTypes.{of_both, one_of, pattern_typed}
 use Rattle.hume_model.proofs.ResultTypes.{result_typed}
@@ -78,17 +78,17 @@ module _ (core : Core) (sound : HasSoundParts core) (b : BoxC) (typed : BoxIsTyp
   or_none_typed (Asserts outs) is = is
   or_none_typed (Throws exn carried) is = refl
 
-  bound_env : (handler : HandC) (has : HandlerIsTyped core b handler) (o : Option ExnDef) (carried : Option Value) → slice_get core.exns handler.exn ≡ o → is_raised core.types o carried ≡ true
-      → handler.bound ≡ true → AreOf core.types has.vars (option_to_list carried)
-  bound_env handler has None carried found is bound = cc
-  bound_env handler has (Some exn) carried found is bound =
-      let same : has.exn ≡ exn = same_Some has.exn exn (sym has.known ∙ found) in
-      subst (λ ts. AreOf core.types ts (option_to_list carried)) (sym (has.binds bound ∙ ap (λ (x : ExnDef). carried_types x.carries) same)) (carried_values core.types exn.carries carried is)
+  bound_env : (handler : HandC) (known : HandlerIsKnown core handler) (o : Option ExnDef) (carried : Option Value) → slice_get core.exns handler.exn ≡ o
+      → is_raised core.types o carried ≡ true → AreOf core.types (carried_types known.exn.carries) (option_to_list carried)
+  bound_env handler known None carried found is = cc
+  bound_env handler known (Some exn) carried found is =
+      let same : known.exn ≡ exn = same_Some known.exn exn (sym known.known ∙ found) in
+      subst (λ (x : ExnDef). AreOf core.types (carried_types x.carries) (option_to_list carried)) (sym same) (carried_values core.types exn.carries carried is)
 
-  env_typed : (handler : HandC) (has : HandlerIsTyped core b handler) (carried : Option Value) → is_raised core.types (slice_get core.exns handler.exn) carried ≡ true
-      → (bound : Bool) → handler.bound ≡ bound → AreOf core.types has.vars (if bound then option_to_list carried else [])
-  env_typed handler has carried is true bound = bound_env handler has (slice_get core.exns handler.exn) carried refl is bound
-  env_typed handler has carried is false bound = subst (λ ts. AreOf core.types ts []) (sym (has.nothing bound)) refl
+  env_typed : (handler : HandC) (known : HandlerIsKnown core handler) (carried : Option Value) → is_raised core.types (slice_get core.exns handler.exn) carried ≡ true
+      → (bound : Bool) → AreOf core.types (if bound then carried_types known.exn.carries else []) (if bound then option_to_list carried else [])
+  env_typed handler known carried is true = bound_env handler known (slice_get core.exns handler.exn) carried refl is
+  env_typed handler known carried is false = refl
 
   handler_typed : (exn : ℕ) (carried : Option Value) → is_raised core.types (slice_get core.exns exn) carried ≡ true → (h : Option HandC)
       → find (λ (handler : HandC). handler.exn == exn) b.handlers ≡ h → AreOutputs (handled_by core carried h)
@@ -98,7 +98,7 @@ module _ (core : Core) (sound : HasSoundParts core) (b : BoxC) (typed : BoxIsTyp
       let has = typed.handlers at.0 handler at.1 in
       let raised_here = subst (λ k. is_raised core.types (slice_get core.exns k) carried ≡ true) (sym (eqb-true handler.exn exn at.2)) is in
       or_none_typed (result_of core (handler_env handler carried) handler.result)
-      (result_typed core sound (port_types b.outs) has.outputs (handler_env handler carried) (env_typed handler has carried raised_here handler.bound refl))
+      (result_typed core sound (port_types b.outs) has.outputs (handler_env handler carried) (env_typed handler has.is carried raised_here handler.bound))
 
   handled_typed : (o : Outputs) → is_result core (port_types b.outs) o ≡ true → AreOutputs (handled core b.handlers o)
   handled_typed (Asserts outs) is = is
@@ -113,7 +113,7 @@ module _ (core : Core) (sound : HasSoundParts core) (b : BoxC) (typed : BoxIsTyp
         let same : firing_of core b number ins rule ≡ firing = cc in
         subst (λ (f : Firing). AreOutputs f.outs) same
         (handled_typed (result_of core (bound rule.pats ins) rule.result)
-        (result_typed core sound (port_types b.outs) has.outputs (bound rule.pats ins) (bound_typed core.types sound.holds has.positions ins are fit)))
+        (result_typed core sound (port_types b.outs) has.outputs (bound rule.pats ins) (bound_typed core.types sound.holds has.positions.have ins are fit)))
 
     by_number : (order : List ℕ) (n : Option ℕ) → find (λ number. rule_fits ins (slice_get b.rules number)) order ≡ n → (firing : Firing)
         → option_and_then (λ number. option_map (firing_of core b number ins) (slice_get b.rules number)) n ≡ Some firing → AreOutputs firing.outs

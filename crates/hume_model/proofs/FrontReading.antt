@@ -1,5 +1,5 @@
 -- Words that begin with those of a value are read as the value, and those after it are left.
-use Rattle.std.proofs.Common.{◌≡◌, ℕ, zero, suc, ◌+◌, ◌-◌, ◌^◌, ◌<◌, ◌≤◌, min, nat_lt, ◌==◌, Bool, true, false, if◌then◌else◌, List, [], ◌∷◌, ◌++◌, map, length, drop, replicate, Option, Some, None, slice_get, refl, ap, sym, ◌∙◌, subst, append_assoc, length-append, arith, inl, inr}
+use Rattle.std.proofs.Common.{◌≡◌, ℕ, zero, suc, ◌+◌, ◌-◌, ◌^◌, ◌<◌, ◌≤◌, nat_lt, ◌==◌, Bool, true, false, if◌then◌else◌, List, [], ◌∷◌, ◌++◌, map, length, drop, replicate, Option, Some, None, slice_get, refl, ap, sym, ◌∙◌, subst, append_assoc, length-append, arith, inl, inr}
 use Rattle.std.proofs.Math.Seq.{drop-append_seam}
 use Rattle.std.proofs.lemmas.Bool.{and_parts, eqb-true, ltb-true, lt-ltb, cases_eq, eq-eqb, ne_eqb}
 use Rattle.std.proofs.lemmas.List.{length-replicate}
@@ -11,10 +11,11 @@ use Rattle.hume_base.specs.declared.types.Value.TheOpen.{Value-F}
 use Rattle.hume_base.specs.declared.types.Value.TheVariants as value
 use Rattle.hume_base.specs.declared.types.Types.{Types}
 use Rattle.hume_base.specs.declared.types.SumDef.{SumDef}
-use Rattle.hume_base.specs.Sizes.{HaveTheirSizes, size_of_sum, named_size}
+use Rattle.hume_base.specs.Sizes.{HaveTheirSizes, size_of_sum, named_size, written_size}
 use Rattle.hume_base.specs.Values.{is_value, is_word_of, is_char_word, is_int_word, all_pass, is_tuple_of, is_vector_of, value_step, is_value_with, is_con_of, is_sum_value, is_named_value, fields_at}
 use Rattle.hume_base.specs.Flat.{flat, joined, word_in, parts_in, flat_step, flat_with, padded, con_words, flat_sum, named_words}
-use Rattle.hume_model.specs.Reading.{Reader, HasReadableSize, HaveReadableSizes, read_word, read_several, made_of, read_con, read_sum, read_step, read_with, read_named}
+use Rattle.hume_model.specs.Reading.{HasReadableSize, HaveReadableSizes}
+use Rattle.hume_model.specs.inner.Readers.{Reader, read_word, read_several, made_of, read_con, read_sum, read_step, read_with, read_named}
 
 -- the values that pass a test are read from their words
 abbrev Reads : (Value → Bool) → (Value → List ℕ) → Reader → Type 0
@@ -162,7 +163,7 @@ module _ (types : Types) (sizes : HaveTheirSizes types) (readable : HaveReadable
   sum_reads bound within named (Some sum) found =
       let small : HasReadableSize types bound sum = readable bound sum found in
       let own : named_size types (length types.sums) bound ≡ size_of_sum (named_size types bound) (Some sum) = size-at types (length types.sums) bound within ∙ ap (size_of_sum (named_size types bound)) found in
-      let least : min (named_size types (length types.sums) bound) 1025 ≡ named_size types (length types.sums) bound = omega (arith, small.words) in
+      let least : written_size (named_size types (length types.sums) bound) ≡ named_size types (length types.sums) bound = omega (arith, small.words) in
       let whole : sum.words ≡ size_of_sum (named_size types bound) (Some sum) = sizes bound sum found ∙ least ∙ own in
       let reader : Ty → Reader = read_with (read_named types bound) in
       let words_of : Ty → Value → List ℕ = flat_with (named_words types bound) in

@@ -1,5 +1,5 @@
 -- The values of a type, and what patterns match and expressions come to, one level at a time.
-use Rattle.std.proofs.Common.{◌≡◌, ℕ, ◌==◌, ◌^◌, nat_lt, Bool, List, [], ◌∷◌, ◌++◌, map, Some, None, slice_get, ap, sym, ◌∙◌, if◌then◌else◌}
+use Rattle.std.proofs.Common.{◌≡◌, ℕ, ◌==◌, nat_lt, Bool, List, [], ◌∷◌, ◌++◌, map, Some, None, slice_get, ap, sym, ◌∙◌, if◌then◌else◌}
 use Rattle.hume_base.specs.declared.boxed.Box.{Box}
 use Rattle.hume_base.specs.declared.types.Ty.{Ty, fold-roll-Ty}
 use Rattle.hume_base.specs.declared.types.Ty.TheOpen.{Ty-F}
@@ -7,7 +7,7 @@ use Rattle.hume_base.specs.declared.types.Ty.TheVariants as ty
 use Rattle.hume_base.specs.declared.types.Value.{Value, out-Value, out-roll-Value}
 use Rattle.hume_base.specs.declared.types.Value.TheOpen.{Value-F}
 use Rattle.hume_base.specs.declared.types.Value.TheVariants as value
-use Rattle.hume_base.specs.Values.{is_value_with, value_step, is_word_of, is_char_word, is_int_word, is_tuple_of, is_vector_of}
+use Rattle.hume_base.specs.Values.{is_value_with, value_step, is_word_of, is_int_word, is_tuple_of, is_vector_of}
 use Rattle.hume_model.specs.declared.core_tree.Op.{Op}
 use Rattle.hume_model.specs.declared.core_tree.PatC.{PatC, fold-roll-PatC}
 use Rattle.hume_model.specs.declared.core_tree.PatC.TheOpen.{PatC-F}
@@ -17,9 +17,11 @@ use Rattle.hume_model.specs.declared.core_tree.Expr.TheOpen.{Expr-F}
 use Rattle.hume_model.specs.declared.core_tree.Expr.TheVariants as expr
 use Rattle.hume_model.specs.declared.outcome.Outcome.TheVariants.{Gives}
 use Rattle.hume_model.specs.Outcomes.{Meaning, and_then, with_all, in_order, raised}
-use Rattle.hume_model.specs.Operations.{prim, word_of_value, item_of, updated}
+use Rattle.hume_base.specs.Flat.{word_of_value}
+use Rattle.hume_model.specs.Operations.{prim, item_of, updated}
 use Rattle.hume_model.specs.Patterns.{Match, match_step, match_word, match_con, match_tuple, matches}
-use Rattle.hume_model.specs.Meaning.{Calls, eval_with, eval_step, variable, first_arm, arm_with}
+use Rattle.hume_model.specs.Meaning.{Calls, eval_with, eval_step, variable, first_arm}
+use Rattle.hume_model.specs.inner.Arms.{arm_with}
 
 -- values
 pub out-word : (w : ℕ) → out-Value (value.Word w) ≡ Value-F.Word w
@@ -38,14 +40,8 @@ module _ (named : ℕ → Value → Bool) (v : Value) where
   pub bool-value : is_value_with named ty.Bool v ≡ is_word_of (λ word. nat_lt word 2) (out-Value v)
   bool-value = ap (λ t. is_value_with named t v) (sym (ty.rolls-Bool)) ∙ ap (λ (t : Value → Bool). t v) (fold-roll-Ty (Value → Bool) (value_step named) Ty-F.Bool)
 
-  pub char-value : is_value_with named ty.Char v ≡ is_word_of is_char_word (out-Value v)
-  char-value = ap (λ t. is_value_with named t v) (sym (ty.rolls-Char)) ∙ ap (λ (t : Value → Bool). t v) (fold-roll-Ty (Value → Bool) (value_step named) Ty-F.Char)
-
   pub int-value : (bits : ℕ) → is_value_with named (ty.Int bits) v ≡ is_word_of (is_int_word bits) (out-Value v)
   int-value bits = ap (λ t. is_value_with named t v) (sym (ty.rolls-Int bits)) ∙ ap (λ (t : Value → Bool). t v) (fold-roll-Ty (Value → Bool) (value_step named) (Ty-F.Int bits))
-
-  pub nat-value : (bits : ℕ) → is_value_with named (ty.Nat bits) v ≡ is_word_of (λ word. nat_lt word (2 ^ bits)) (out-Value v)
-  nat-value bits = ap (λ t. is_value_with named t v) (sym (ty.rolls-Nat bits)) ∙ ap (λ (t : Value → Bool). t v) (fold-roll-Ty (Value → Bool) (value_step named) (Ty-F.Nat bits))
 
   pub tuple-value : (tys : List Ty) → is_value_with named (ty.Tuple tys) v ≡ is_tuple_of (map (is_value_with named) tys) (out-Value v)
   tuple-value tys = ap (λ t. is_value_with named t v) (sym (ty.rolls-Tuple tys)) ∙ ap (λ (t : Value → Bool). t v) (fold-roll-Ty (Value → Bool) (value_step named) (Ty-F.Tuple tys))

@@ -9,7 +9,7 @@ use Rattle.hume_base.specs.declared.types.Value.TheOpen.{Value-F}
 use Rattle.hume_base.specs.Holding.{HoldSmaller}
 use Rattle.hume_base.specs.Values.{is_value, is_named_value, is_con_of, is_tuple_of, fields_at}
 use Rattle.hume_model.specs.declared.core_tree.PatC.{PatC}
-use Rattle.hume_model.specs.Patterns.{Match, matches, matches_all, both, all_match, match_word, match_con, match_tuple}
+use Rattle.hume_model.specs.Patterns.{Match, matches, matches_all, both_match, all_match, match_word, match_con, match_tuple}
 use Rattle.hume_model.specs.Typing.{IsPattern, ArePatterns, AreOf}
 use Rattle.hume_model.proofs.Layers.{variable-match, any-match, word-match, con-match, tuple-match, tuple-value}
 use Rattle.hume_model.proofs.Fields.{data-value}
@@ -31,7 +31,7 @@ one_of types t v p = both_true _ _ p refl
 unwrap : {X : Type 0} (x y : X) → Some x ≡ Some y → x ≡ y
 unwrap x y e = cc
 
-both_some : (a b : Option (List Value)) (vs : List Value) → both a b ≡ Some vs
+both_some : (a b : Option (List Value)) (vs : List Value) → both_match a b ≡ Some vs
     → (x : List Value) × (y : List Value) × (a ≡ Some x) × (b ≡ Some y) × (x ++ y ≡ vs)
 both_some None b vs h = cc
 both_some (Some x) None vs h = cc

@@ -18,12 +18,14 @@ use Rattle.hume_model.specs.declared.outcome.Outcome.TheVariants.{Gives, Raises}
 use Rattle.hume_model.specs.declared.outcome.Outputs.{Outputs}
 use Rattle.hume_model.specs.declared.outcome.Outputs.TheVariants.{Asserts, Throws}
 use Rattle.hume_model.specs.Outcomes.{on_match, raised, then_outputs, then_outs, after_outputs, outs_in_order, thrown}
-use Rattle.hume_model.specs.Operations.{word_of_value}
+use Rattle.hume_base.specs.Flat.{word_of_value}
 use Rattle.hume_model.specs.Patterns.{matches}
-use Rattle.hume_model.specs.Results.{ResultMeaning, result_of, result_step, result_arm_with, first_result, meaning_in}
+use Rattle.hume_model.specs.Results.{ResultMeaning, result_of, result_step, first_result, meaning_in}
+use Rattle.hume_model.specs.inner.Arms.{result_arm_with}
 use Rattle.hume_model.specs.Typing.{AreOf, is_outcome, is_raised}
 use Rattle.hume_model.specs.ResultTyping.{OutsHave, GivesOutputs, ArmsGiveOutputs, is_result}
 use Rattle.hume_model.specs.WellFormed.{HasSoundParts}
+use Rattle.hume_model.proofs.OwnExceptions.{own_raised}
 use Rattle.hume_model.proofs.PatternTypes.{both_true, of_both, one_of, pattern_typed}
 use Rattle.hume_model.proofs.CallTypes.{eval_typed}
 
@@ -107,7 +109,7 @@ module _ (core : Core) (sound : HasSoundParts core) (tys : List Ty) where
 
     pub arms_typed : {vars : List Ty} {of : Ty} {arms : List (PatC × Res)} → ArmsGiveOutputs core tys vars of arms → (env : List Value) → AreOf core.types vars env
         → (v : Value) → is_value core.types of v ≡ true → IsResult (first_result (map (result_arm_with (λ r env. result_of core env r)) arms) v env)
-    arms_typed ArmsGiveOutputs.no_arm env is v is_v = sound.exceptions.no_case
+    arms_typed ArmsGiveOutputs.no_arm env is v is_v = (own_raised core sound.exceptions).no_case
     arms_typed (ArmsGiveOutputs.one_arm {vars = xs} {bound = ys} {p = p} pattern body rest) env is v is_v =
         matched_result (matches p v) _ _ (λ vs found. result_typed body (env ++ vs) (of_both core.types xs ys env vs is (pattern_typed core.types sound.holds pattern v vs is_v found)))
         (arms_typed rest env is v is_v)

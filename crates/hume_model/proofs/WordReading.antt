@@ -13,7 +13,7 @@ use Rattle.hume_base.specs.declared.types.Value.{Value, Word, Vector}
 use Rattle.hume_base.specs.declared.types.Types.{Types}
 use Rattle.hume_base.specs.declared.types.SumDef.{SumDef}
 use Rattle.hume_base.specs.declared.types.ConDef.{ConDef}
-use Rattle.hume_model.specs.Reading.{Reader, read_several, after_values, read_step, read_with, read_named, read_sum, made_of}
+use Rattle.hume_model.specs.inner.Readers.{Reader, read_several, after_read, read_step, read_with, read_named, read_sum, made_of}
 use Rattle.hume_model.proofs.Ranks.{slice_get-most}
 
 abbrev pub con_size : ConDef → ℕ
@@ -32,9 +32,6 @@ rank-falls types bound number sum found below =
     let small : sum_size sum ≤ most sum_size types.sums = slice_get-most sum_size types.sums number sum found in
     let steps : suc number * (2 + most sum_size types.sums) ≤ bound * (2 + most sum_size types.sums) = mul-le-mul_right (2 + most sum_size types.sums) (omega arith) in
     omega arith
-
-pub fields_smaller : (sum : SumDef) (place : ℕ) (con : ConDef) → slice_get sum.cons place ≡ Some con → most size-Ty con.fields ≤ sum_size sum
-fields_smaller sum place con found = slice_get-most con_size sum.cons place con found
 
 pub some_size : (ty : Ty) → 0 < size-Ty ty
 some_size ty = rw (size_is-Ty ty) (omega arith)
@@ -64,8 +61,8 @@ one_more : {X : Type 0} (count place : ℕ) (x : X) → place < count → replic
 one_more {X} count place x below = let step : count - place ≡ suc (count - (place + 1)) = omega arith in rw step refl
 
 pub next_item : (reader : Reader) (count place : ℕ) (values : List Value) (rest : List ℕ) (value : Value) (others : List ℕ) → place < count → (value, others) ≡ reader rest
-    → after_values (values ++ value ∷ []) (read_several (replicate {A = Reader} (count - (place + 1)) reader) others)
-    ≡ after_values values (read_several (replicate {A = Reader} (count - place) reader) rest)
+    → after_read (values ++ value ∷ []) (read_several (replicate {A = Reader} (count - (place + 1)) reader) others)
+    ≡ after_read values (read_several (replicate {A = Reader} (count - place) reader) rest)
 next_item reader count place values rest value others below is =
     rw (one_more count place reader below, ← is) (ap (λ vs. (vs, (read_several (replicate {A = Reader} (count - (place + 1)) reader) others).1)) (append_assoc values (value ∷ []) _))
 

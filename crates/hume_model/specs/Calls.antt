@@ -8,9 +8,11 @@ use Rattle.hume_model.specs.declared.core_tree.EqC.{EqC}
 use Rattle.hume_model.specs.declared.core_tree.FunC.{FunC}
 use Rattle.hume_model.specs.declared.core_tree.Core.{Core}
 
+-- each answer is true
 abbrev pub all_true : List Bool → Bool
 all_true answers = list_all (λ answer. answer) answers
 
+-- the answer is true, if there is one
 abbrev pub if_there : Option Bool → Bool
 if_there None = true
 if_there (Some answer) = answer
@@ -31,9 +33,11 @@ calls_step bound (Expr-F.Let part body) = part && body
 calls_step bound (Expr-F.Call function parts) = nat_lt function bound && all_true parts
 calls_step bound (Expr-F.Raise exn part) = if_there part
 
+-- the expression calls only functions of numbers below the bound
 abbrev pub calls_below : ℕ → Expr → Bool
 calls_below bound = fold-Expr Bool (calls_step bound)
 
+-- the body of the equation does
 abbrev pub equation_calls : ℕ → EqC → Bool
 equation_calls bound equation = calls_below bound equation.body
 

@@ -9,10 +9,11 @@ use Rattle.hume_model.specs.declared.core_tree.BoxC.{BoxC}
 use Rattle.hume_model.specs.declared.core_tree.Core.{Core}
 use Rattle.hume_model.specs.declared.outcome.Outputs.{Outputs}
 use Rattle.hume_model.specs.declared.outcome.Outputs.TheVariants.{Asserts, Throws}
-use Rattle.hume_model.specs.declared.state.Firing.{Firing}
+use Rattle.hume_model.specs.declared.outcome.Firing.{Firing}
 use Rattle.hume_model.specs.Results.{result_of}
 use Rattle.hume_model.specs.Matching.{fits, taken_at, bound}
 
+-- there is such a rule, and it fits
 abbrev pub rule_fits : List (Option Value) → Option RuleC → Bool
 rule_fits ins None = false
 rule_fits ins (Some rule) = fits rule.pats ins
@@ -26,6 +27,7 @@ abbrev pub outputs_or_none : Outputs → List (Option Value)
 outputs_or_none (Asserts outs) = outs
 outputs_or_none (Throws exn carried) = []
 
+-- the outputs of the handler, by what the exception carries; none where there is no handler
 abbrev pub handled_by : Core → Option Value → Option HandC → List (Option Value)
 handled_by core carried None = []
 handled_by core carried (Some handler) = outputs_or_none (result_of core (handler_env handler carried) handler.result)
@@ -35,6 +37,7 @@ abbrev pub handled : Core → List HandC → Outputs → List (Option Value)
 handled core handlers (Asserts outs) = outs
 handled core handlers (Throws exn carried) = handled_by core carried (find (λ (handler : HandC). handler.exn == exn) handlers)
 
+-- what the rule of the number takes and gives
 abbrev pub firing_of : Core → BoxC → ℕ → List (Option Value) → RuleC → Firing
 firing_of core b number ins rule = record {
   rule = number;

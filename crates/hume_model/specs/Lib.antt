@@ -11,14 +11,11 @@ pub mod ResultTyping
 pub mod BoxTyping
 pub mod Handling
 pub mod Firing
-pub mod HalfSteps
-pub mod Lockstep
-pub mod Start
-pub mod Nodes
+pub mod OwnExceptions
+pub mod WireEnds
 pub mod WellFormed
-pub mod StatePlaces
 pub mod Wiring
-pub mod StateTyping
 pub mod TypeLimits
 pub mod PartLimits
 pub mod Limits
+pub mod inner

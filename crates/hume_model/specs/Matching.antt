@@ -6,6 +6,7 @@ use Rattle.hume_model.specs.declared.core_tree.InPat.{InPat}
 use Rattle.hume_model.specs.declared.core_tree.InPat.TheVariants.{Star, AnyStar, Any, Built}
 use Rattle.hume_model.specs.Patterns.{matches}
 
+-- the position fits the value, if one is there: `*` and `_*` always, `_` any value, and a pattern a value that matches
 abbrev pub fits_at : InPat → Option Value → Bool
 fits_at Star input = true
 fits_at AnyStar input = true
@@ -19,6 +20,7 @@ fits [] ins = true
 fits (pat ∷ pats) [] = false
 fits (pat ∷ pats) (input ∷ ins) = fits_at pat input && fits pats ins
 
+-- the position takes the value that is there: `*` never
 abbrev pub taken_by : InPat → Option Value → Bool
 taken_by Star input = false
 taken_by AnyStar input = is_some input
@@ -31,6 +33,7 @@ taken_at [] ins = []
 taken_at (pat ∷ pats) [] = []
 taken_at (pat ∷ pats) (input ∷ ins) = taken_by pat input ∷ taken_at pats ins
 
+-- the values of the variables of the position's pattern
 abbrev pub bound_by : InPat → Option Value → List Value
 bound_by (Built pattern) (Some value) = unwrap_or (matches pattern value) []
 bound_by _ input = []

@@ -10,20 +10,18 @@ use Rattle.hume_model.specs.declared.core_tree.Core.{Core}
 use Rattle.hume_model.specs.declared.outcome.Outcome.{Outcome}
 use Rattle.hume_model.specs.declared.outcome.Outcome.TheVariants.{Gives}
 use Rattle.hume_model.specs.Outcomes.{Meaning, no_case, and_then, with_all, in_order, raised, on_match}
-use Rattle.hume_model.specs.Operations.{prim, word_of_value, item_of, updated}
+use Rattle.hume_base.specs.Flat.{word_of_value}
+use Rattle.hume_model.specs.Operations.{prim, item_of, updated}
 use Rattle.hume_model.specs.Patterns.{matches, matches_all}
 
 -- what each function gives for its arguments
 abbrev pub Calls : Type 0
 Calls = ℕ → List Value → Outcome
 
+-- the value of a variable; the word 0 where there is none, which typed expressions don't meet
 abbrev pub variable : Option Value → Value
 variable None = Word 0
 variable (Some value) = value
-
--- an alternative, with what its expression comes to
-abbrev pub arm_with : (Expr → Meaning) → PatC × Expr → PatC × Meaning
-arm_with meaning arm = (arm.0, meaning arm.1)
 
 -- the first alternative whose pattern the value matches, with the pattern's variables after the others
 abbrev pub first_arm : List (PatC × Meaning) → Value → Meaning
@@ -48,6 +46,7 @@ eval_step call (Expr-F.Let part body) env = and_then (part env) (λ v. body (env
 eval_step call (Expr-F.Call function parts) env = with_all (in_order parts env) (call function)
 eval_step call (Expr-F.Raise exn part) env = raised exn part env
 
+-- what an expression comes to, by what functions give
 abbrev pub eval_with : Calls → Expr → Meaning
 eval_with call = fold-Expr Meaning (eval_step call)
 
@@ -57,6 +56,7 @@ first_equation meaning [] args = no_case
 first_equation meaning (equation ∷ equations) args =
     on_match (matches_all equation.pats args) (meaning equation.body) (first_equation meaning equations args)
 
+-- what a function gives for its arguments; one that isn't there matches nothing
 abbrev pub call_of : (Expr → Meaning) → Option FunC → List Value → Outcome
 call_of meaning None args = no_case
 call_of meaning (Some function) args = first_equation meaning function.equations args

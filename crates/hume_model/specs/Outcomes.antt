@@ -1,6 +1,7 @@
 -- Going on after an evaluation, and from one part to the next.
 use Rattle.std.specs.Prelude.{ℕ, List, [], ◌∷◌, ◌++◌, Option, Some, None}
 use Rattle.hume_base.specs.declared.types.Value.{Value}
+use Rattle.hume_model.specs.declared.exceptions.TheConstants.{DIV_ZERO, RANGE, NO_CASE}
 use Rattle.hume_model.specs.declared.outcome.Outcome.{Outcome}
 use Rattle.hume_model.specs.declared.outcome.Outcome.TheVariants.{Gives, Raises}
 use Rattle.hume_model.specs.declared.outcome.Several.{Several}
@@ -14,30 +15,32 @@ Meaning = List Value → Outcome
 
 -- the exceptions that every program has
 abbrev pub div_zero : Outcome
-div_zero = Raises 0 None
+div_zero = Raises DIV_ZERO None
 
 abbrev pub out_of_range : Outcome
-out_of_range = Raises 1 None
+out_of_range = Raises RANGE None
 
 abbrev pub no_case : Outcome
-no_case = Raises 2 None
+no_case = Raises NO_CASE None
 
 -- goes on with the value, unless an exception was raised
 abbrev pub and_then : Outcome → (Value → Outcome) → Outcome
 and_then (Gives value) go = go value
 and_then (Raises exn carried) go = Raises exn carried
 
+-- goes on with the values, unless an exception was raised
 abbrev pub with_all : Several → (List Value → Outcome) → Outcome
 with_all (All values) go = go values
 with_all (Raised exn carried) go = Raises exn carried
 
 -- the values so far, and then those of the other parts
-abbrev pub after : List Value → Several → Several
-after values (All more) = All (values ++ more)
-after values (Raised exn carried) = Raised exn carried
+abbrev pub after_values : List Value → Several → Several
+after_values values (All more) = All (values ++ more)
+after_values values (Raised exn carried) = Raised exn carried
 
+-- the value and those of the other parts, unless an exception was raised
 abbrev pub then_rest : Outcome → Several → Several
-then_rest (Gives value) rest = after (value ∷ []) rest
+then_rest (Gives value) rest = after_values (value ∷ []) rest
 then_rest (Raises exn carried) rest = Raised exn carried
 
 -- the values of parts from left to right, or the first exception that is raised
@@ -65,6 +68,7 @@ abbrev pub after_outputs : List (Option Value) → Outputs → Outputs
 after_outputs outs (Asserts more) = Asserts (outs ++ more)
 after_outputs outs (Throws exn carried) = Throws exn carried
 
+-- the output and the others, unless an exception was raised
 abbrev pub then_outs : Outcome → Outputs → Outputs
 then_outs (Gives value) rest = after_outputs (Some value ∷ []) rest
 then_outs (Raises exn carried) rest = Throws exn carried

@@ -1,6 +1,7 @@
 -- How many parts tuples, vectors and `case`s may have in patterns, expressions and results, and which types stand there.
 use Rattle.std.specs.Prelude.{ℕ, nat_le, ◌&&◌, Bool, true, List, length, Option, Some, None}
 use Rattle.std.specs.List.{list_all}
+use Rattle.hume_base.specs.declared.limits.TheConstants.{MAX_LENGTH, MAX_PARTS}
 use Rattle.hume_base.specs.declared.types.Types.{Types}
 use Rattle.hume_model.specs.declared.core_tree.PatC.{PatC, fold-PatC}
 use Rattle.hume_model.specs.declared.core_tree.PatC.TheOpen.{PatC-F}
@@ -15,13 +16,13 @@ use Rattle.hume_model.specs.declared.core_tree.RuleC.{RuleC}
 use Rattle.hume_model.specs.Calls.{all_true, if_there}
 use Rattle.hume_model.specs.TypeLimits.{is_between, is_type}
 
--- a tuple has 2 to 16 parts, each of which is as it should be
+-- a tuple has two parts, and no more than are allowed, each of which is as it should be
 abbrev pub is_tuple : List Bool → Bool
-is_tuple parts = is_between 2 16 (length parts) && all_true parts
+is_tuple parts = is_between 2 MAX_PARTS (length parts) && all_true parts
 
--- a vector has 1 to 1,024 elements
+-- a vector has an element, and no more than are allowed
 abbrev pub is_vector : List Bool → Bool
-is_vector parts = is_between 1 1024 (length parts) && all_true parts
+is_vector parts = is_between 1 MAX_LENGTH (length parts) && all_true parts
 
 -- one level of a pattern, with whether its parts are as they should be
 abbrev pub pattern_step : PatC-F Bool → Bool
@@ -29,6 +30,7 @@ pattern_step (PatC-F.Con place parts) = all_true parts
 pattern_step (PatC-F.Tuple parts) = is_tuple parts
 pattern_step _ = true
 
+-- the pattern is as a source may write it
 abbrev pub is_written_pattern : PatC → Bool
 is_written_pattern = fold-PatC Bool pattern_step
 
@@ -38,7 +40,7 @@ are_alternatives arms = nat_le 1 (length arms) && list_all (λ (arm : PatC × Bo
 
 -- a vector of so many is indexed or changed
 abbrev pub is_length : ℕ → Bool
-is_length count = is_between 1 1024 count
+is_length count = is_between 1 MAX_LENGTH count
 
 -- one level of an expression, where the data types are these
 abbrev pub expression_step : Types → Expr-F Bool → Bool
@@ -56,9 +58,11 @@ expression_step types (Expr-F.Let part body) = part && body
 expression_step types (Expr-F.Call function parts) = all_true parts
 expression_step types (Expr-F.Raise exn part) = if_there part
 
+-- the expression is as a source may write it
 abbrev pub is_written : Types → Expr → Bool
 is_written types = fold-Expr Bool (expression_step types)
 
+-- so is an expression, if there is one
 abbrev pub is_written_if_there : Types → Option Expr → Bool
 is_written_if_there types None = true
 is_written_if_there types (Some e) = is_written types e
@@ -71,15 +75,19 @@ result_step types (Res-F.Case part ty arms) = is_type types ty && (is_written ty
 result_step types (Res-F.Let part body) = is_written types part && body
 result_step types (Res-F.Raise exn part) = is_written_if_there types part
 
+-- the result is as a source may write it
 abbrev pub is_written_result : Types → Res → Bool
 is_written_result types = fold-Res Bool (result_step types)
 
+-- the position is
 abbrev pub is_written_position : InPat → Bool
 is_written_position (Built p) = is_written_pattern p
 is_written_position _ = true
 
+-- the patterns and the body of an equation are
 abbrev pub is_written_equation : Types → EqC → Bool
 is_written_equation types equation = list_all is_written_pattern equation.pats && is_written types equation.body
 
+-- the positions and the result of a rule are
 abbrev pub is_written_rule : Types → RuleC → Bool
 is_written_rule types rule = list_all is_written_position rule.pats && is_written_result types rule.result

@@ -10,24 +10,28 @@ abbrev pub Match : Type 0
 Match = Value → Option (List Value)
 
 -- the variables of both, the left ones first
-abbrev pub both : Option (List Value) → Option (List Value) → Option (List Value)
-both None more = None
-both (Some values) None = None
-both (Some values) (Some more) = Some (values ++ more)
+abbrev pub both_match : Option (List Value) → Option (List Value) → Option (List Value)
+both_match None more = None
+both_match (Some values) None = None
+both_match (Some values) (Some more) = Some (values ++ more)
 
+-- the variables of several patterns, each of which its value matches
 abbrev pub all_match : List Match → List Value → Option (List Value)
 all_match [] values = Some []
 all_match (part ∷ parts) [] = None
-all_match (part ∷ parts) (value ∷ values) = both (part value) (all_match parts values)
+all_match (part ∷ parts) (value ∷ values) = both_match (part value) (all_match parts values)
 
+-- a word matches itself alone
 abbrev pub match_word : ℕ → Value-F Value → Option (List Value)
 match_word word (Value-F.Word other) = if other == word then Some [] else None
 match_word word _ = None
 
+-- a constructor matches itself, with fields that match
 abbrev pub match_con : ℕ → List Match → Value-F Value → Option (List Value)
 match_con place parts (Value-F.Con other values) = if other == place then all_match parts values else None
 match_con place parts _ = None
 
+-- a tuple matches a tuple of parts that match
 abbrev pub match_tuple : List Match → Value-F Value → Option (List Value)
 match_tuple parts (Value-F.Tuple values) = all_match parts values
 match_tuple parts _ = None

@@ -37,6 +37,7 @@ mutual
     raise_with : {vars : List Ty} (number : ℕ) (exn : ExnDef) (carried : Ty) {part : Expr} → slice_get core.exns number ≡ Some exn
         → exn.carries ≡ Some carried → HasType core vars part carried → GivesOutputs core tys vars (res.Raise number (Some part))
 
+  -- each alternative has a pattern for values of the one type and a result that gives the outputs
   pub data ArmsGiveOutputs (core : Core) (tys : List Ty) : List Ty → Ty → List (PatC × Res) → Type 0 where
     no_arm : {vars : List Ty} {of : Ty} → ArmsGiveOutputs core tys vars of []
     one_arm : {vars bound : List Ty} {of : Ty} {p : PatC} {r : Res} {arms : List (PatC × Res)} → IsPattern core.types of p bound

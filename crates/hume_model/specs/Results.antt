@@ -7,10 +7,11 @@ use Rattle.hume_model.specs.declared.core_tree.Expr.{Expr}
 use Rattle.hume_model.specs.declared.core_tree.Res.{Res, fold-Res}
 use Rattle.hume_model.specs.declared.core_tree.Res.TheOpen.{Res-F}
 use Rattle.hume_model.specs.declared.core_tree.Core.{Core}
+use Rattle.hume_model.specs.declared.exceptions.TheConstants.{NO_CASE}
 use Rattle.hume_model.specs.declared.outcome.Outputs.{Outputs}
 use Rattle.hume_model.specs.declared.outcome.Outputs.TheVariants.{Throws}
 use Rattle.hume_model.specs.Outcomes.{Meaning, on_match, raised, then_outputs, outs_in_order, thrown}
-use Rattle.hume_model.specs.Operations.{word_of_value}
+use Rattle.hume_base.specs.Flat.{word_of_value}
 use Rattle.hume_model.specs.Patterns.{matches}
 use Rattle.hume_model.specs.Meaning.{eval}
 
@@ -18,13 +19,9 @@ use Rattle.hume_model.specs.Meaning.{eval}
 abbrev pub ResultMeaning : Type 0
 ResultMeaning = List Value → Outputs
 
--- an alternative, with what its result comes to
-abbrev pub result_arm_with : (Res → ResultMeaning) → PatC × Res → PatC × ResultMeaning
-result_arm_with meaning arm = (arm.0, meaning arm.1)
-
 -- the first alternative whose pattern the value matches, with the pattern's variables after the others
 abbrev pub first_result : List (PatC × ResultMeaning) → Value → ResultMeaning
-first_result [] value env = Throws 2 None
+first_result [] value env = Throws NO_CASE None
 first_result (arm ∷ arms) value env = on_match (matches arm.0 value) (λ values. arm.1 (env ++ values)) (first_result arms value env)
 
 -- one level of a result, with what its parts come to in their places
@@ -36,6 +33,7 @@ result_step meaning (Res-F.Case part ty arms) env = then_outputs (meaning part e
 result_step meaning (Res-F.Let part body) env = then_outputs (meaning part env) (λ v. body (env ++ v ∷ []))
 result_step meaning (Res-F.Raise exn part) env = thrown (raised exn (option_map meaning part) env)
 
+-- what an expression comes to in the core
 abbrev pub meaning_in : Core → Expr → Meaning
 meaning_in core e env = eval core env e
 

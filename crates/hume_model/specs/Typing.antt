@@ -1,5 +1,6 @@
 -- Which patterns, expressions and results of a core are of which type, by the types of their variables.
 use Rattle.std.specs.Prelude.{◌≡◌, ℕ, ◌<◌, nat_le, ◌&&◌, Bool, true, false, List, [], ◌∷◌, ◌++◌, length, map, Option, Some, None, slice_get, replicate}
+use Rattle.hume_base.specs.declared.limits.TheConstants.{MAX_WIDTH}
 use Rattle.hume_base.specs.declared.types.Ty.{Ty, out-Ty}
 use Rattle.hume_base.specs.declared.types.Ty.TheOpen.{Ty-F}
 use Rattle.hume_base.specs.declared.types.Ty.TheVariants as shape
@@ -21,19 +22,22 @@ use Rattle.hume_model.specs.declared.core_tree.Core.{Core}
 use Rattle.hume_model.specs.declared.outcome.Outcome.{Outcome}
 use Rattle.hume_model.specs.declared.outcome.Outcome.TheVariants.{Gives, Raises}
 
--- `int` and `nat` of 1 to 64 bits
+-- `int` and `nat` of at least one bit, and no more than are allowed
 abbrev pub is_number_layer : Ty-F Ty → Bool
-is_number_layer (Ty-F.Int bits) = nat_le 1 bits && nat_le bits 64
-is_number_layer (Ty-F.Nat bits) = nat_le 1 bits && nat_le bits 64
+is_number_layer (Ty-F.Int bits) = nat_le 1 bits && nat_le bits MAX_WIDTH
+is_number_layer (Ty-F.Nat bits) = nat_le 1 bits && nat_le bits MAX_WIDTH
 is_number_layer _ = false
 
+-- the type is one of numbers
 abbrev pub is_number_type : Ty → Bool
 is_number_type ty = is_number_layer (out-Ty ty)
 
+-- those and `char`, which are ordered
 abbrev pub is_ordered_layer : Ty-F Ty → Bool
 is_ordered_layer Ty-F.Char = true
 is_ordered_layer layer = is_number_layer layer
 
+-- those and `bool`, which are one word each
 abbrev pub is_scalar_layer : Ty-F Ty → Bool
 is_scalar_layer Ty-F.Bool = true
 is_scalar_layer layer = is_ordered_layer layer
@@ -67,6 +71,7 @@ mutual
         → ArePatterns types (fields_at sum place) pats vars → IsPattern types (shape.Named number) (pat.Con place pats) vars
     tuple : {tys : List Ty} {pats : List PatC} {vars : List Ty} → ArePatterns types tys pats vars → IsPattern types (shape.Tuple tys) (pat.Tuple pats) vars
 
+  -- the same for several patterns, of which the variables of the first ones come first
   pub data ArePatterns (types : Types) : List Ty → List PatC → List Ty → Type 0 where
     none : ArePatterns types [] [] []
     one : {ty : Ty} {tys : List Ty} {p : PatC} {pats : List PatC} {vars more : List Ty} → IsPattern types ty p vars → ArePatterns types tys pats more
@@ -88,7 +93,8 @@ mutual
         → HaveTypes core vars parts (ty ∷ ty ∷ []) → HasType core vars (expr.Prim op ty parts) shape.Bool
     negation : {vars : List Ty} (ty : Ty) {parts : List Expr} → is_number_type ty ≡ true
         → HaveTypes core vars parts (ty ∷ []) → HasType core vars (expr.Prim Neg ty parts) ty
-    opposite : {vars : List Ty} {parts : List Expr} → HaveTypes core vars parts (shape.Bool ∷ []) → HasType core vars (expr.Prim Not shape.Bool parts) shape.Bool
+    opposite : {vars : List Ty} {parts : List Expr} → HaveTypes core vars parts (shape.Bool ∷ [])
+        → HasType core vars (expr.Prim Not shape.Bool parts) shape.Bool
     conversion : {vars : List Ty} (from to : Ty) {parts : List Expr} → is_number_type from ≡ true → is_number_type to ≡ true
         → HaveTypes core vars parts (from ∷ []) → HasType core vars (expr.Prim Convert to parts) to
     index : {vars : List Ty} (count : ℕ) (places item : Ty) {vector place : Expr} → is_number_type places ≡ true
@@ -109,6 +115,7 @@ mutual
     raise_with : {vars : List Ty} {ty : Ty} (number : ℕ) (exn : ExnDef) (carried : Ty) {part : Expr} → slice_get core.exns number ≡ Some exn
         → exn.carries ≡ Some carried → HasType core vars part carried → HasType core vars (expr.Raise number (Some part)) ty
 
+  -- each expression has the type in its place
   pub data HaveTypes (core : Core) : List Ty → List Expr → List Ty → Type 0 where
     none : {vars : List Ty} → HaveTypes core vars [] []
     one : {vars : List Ty} {e : Expr} {es : List Expr} {ty : Ty} {tys : List Ty} → HasType core vars e ty → HaveTypes core vars es tys
@@ -126,6 +133,7 @@ pub data EquationsHave (core : Core) (function : FunC) : List EqC → Type 0 whe
   one : {equation : EqC} {equations : List EqC} (vars : List Ty) → ArePatterns core.types function.params equation.pats vars
       → HasType core vars equation.body function.gives → EquationsHave core function equations → EquationsHave core function (equation ∷ equations)
 
+-- each function is such
 abbrev pub FunctionsAreTyped : Core → Type 0
 FunctionsAreTyped core = (number : ℕ) (function : FunC) → slice_get core.funs number ≡ Some function → EquationsHave core function function.equations
 
@@ -136,6 +144,7 @@ is_carried types None (Some v) = false
 is_carried types (Some ty) None = false
 is_carried types (Some ty) (Some v) = is_value types ty v
 
+-- an exception that there is, and a value of what it carries
 abbrev pub is_raised : Types → Option ExnDef → Option Value → Bool
 is_raised types None carried = false
 is_raised types (Some exn) carried = is_carried types exn.carries carried

@@ -2,7 +2,7 @@
 use hume_base::{Box, List, Text, Ty, Types, Value};
 
 /// An operation on words.
-#[derive(Clone, Copy, Debug, PartialEq, Eq)]
+#[derive(Clone, Copy, Debug)]
 pub enum Op {
     Add,
     Sub,
@@ -129,7 +129,7 @@ pub enum NodeC {
     To(StreamC),
 }
 
-/// A wire from an output of one node to an input of another. The one port of a stream has place 0.
+/// A wire from an output of one node to an input of another, as their places in the node. That of a stream has place 0.
 #[derive(Drop)]
 pub struct WireC {
     pub line: u32,
@@ -138,6 +138,8 @@ pub struct WireC {
     pub to: u32,
     pub to_port: u32,
     pub ty: Ty,
+    /// How many values it holds at most.
+    pub depth: u32,
     pub initial: Option<Value>,
 }
 

@@ -1,11 +1,14 @@
+//! What expressions come to.
 ghost use Rattle.std.specs.Prelude.{◌≡◌, ◌++◌, IfOk, map, slice_get};
 ghost use Rattle.hume_model.specs.Outcomes.{in_order, and_then};
 ghost use Rattle.hume_model.specs.Operations.{item_of, updated};
-ghost use Rattle.hume_model.specs.Meaning.{eval, eval_with, call_below, first_arm, arm_with, first_equation, variable};
+ghost use Rattle.hume_model.specs.Meaning.{eval, eval_with, call_below, first_arm, first_equation, variable};
+ghost use Rattle.hume_model.specs.inner.Arms.{arm_with};
 
 use crate::core_tree::{Core, EqC, Expr, PatC};
-use crate::operations::{changed, item, operate, own_word};
-use crate::outcome::{NO_CASE, Outcome, Several};
+use crate::exceptions::NO_CASE;
+use crate::operations::{changed, item, operate};
+use crate::outcome::{Outcome, Several};
 use crate::patterns::{all_matched, matched};
 use hume_base::{List, Value, copy_value, copy_values};
 use std::alloc::{AllocError, Global};
@@ -62,7 +65,7 @@ fn eval_below(
         }
         Expr::If(test, yes, no) => match eval_below(alloc, core, bound, env, test)? {
             Outcome::Gives(value) => {
-                if own_word(&value) == 0 {
+                if value.word() == 0 {
                     eval_below(alloc, core, bound, env, no)
                 } else {
                     eval_below(alloc, core, bound, env, yes)
@@ -102,7 +105,8 @@ fn eval_index(
     vector: &Expr,
     place: &Expr,
 ) -> Result<Outcome, AllocError>
-    ensures { let meaning = eval_with (call_below core.now bound) in IfOk result (λ outcome. outcome ≡ and_then (meaning vector.now env.now) (λ v. and_then (meaning place.now env.now) (item_of count v))) }
+    ensures { let meaning = eval_with (call_below core.now bound) in IfOk result (λ outcome. outcome
+        ≡ and_then (meaning vector.now env.now) (λ v. and_then (meaning place.now env.now) (item_of count v))) }
 {
     let vector = match eval_below(alloc, core, bound, env, vector)? {
         Outcome::Gives(vector) => vector,
@@ -126,7 +130,9 @@ fn eval_update(
     place: &Expr,
     new_item: &Expr,
 ) -> Result<Outcome, AllocError>
-    ensures { let meaning = eval_with (call_below core.now bound) in IfOk result (λ outcome. outcome ≡ and_then (meaning vector.now env.now) (λ v. and_then (meaning place.now env.now) (λ p. and_then (meaning new_item.now env.now) (updated count v p)))) }
+    ensures { let meaning = eval_with (call_below core.now bound) in IfOk result (λ outcome. outcome
+        ≡ and_then (meaning vector.now env.now) (λ v. and_then (meaning place.now env.now)
+        (λ p. and_then (meaning new_item.now env.now) (updated count v p)))) }
 {
     let vector = match eval_below(alloc, core, bound, env, vector)? {
         Outcome::Gives(vector) => vector,
@@ -152,7 +158,8 @@ fn eval_case(
     part: &Expr,
     arms: &[(PatC, Expr)],
 ) -> Result<Outcome, AllocError>
-    ensures { let meaning = eval_with (call_below core.now bound) in IfOk result (λ outcome. outcome ≡ and_then (meaning part.now env.now) (λ v. first_arm (map (arm_with meaning) arms.now) v env.now)) }
+    ensures { let meaning = eval_with (call_below core.now bound) in IfOk result (λ outcome. outcome
+        ≡ and_then (meaning part.now env.now) (λ v. first_arm (map (arm_with meaning) arms.now) v env.now)) }
 {
     match eval_below(alloc, core, bound, env, part)? {
         Outcome::Gives(value) => eval_arms(alloc, core, bound, env, arms, &value),

@@ -1,3 +1,4 @@
+//! Which rule of a box fires, and what it gives.
 ghost use Rattle.std.specs.Prelude.{◌≡◌, IfOk, MatchOption, slice_get, ◌==◌, [], Some, None, if◌then◌else◌};
 ghost use Rattle.std.specs.List.{find};
 ghost use Rattle.std.specs.Option.{option_map, option_to_list};
@@ -6,9 +7,8 @@ ghost use Rattle.hume_model.specs.Firing.{fire, firing_of, rule_fits, handled, h
 
 use crate::core_tree::{BoxC, Core, HandC, RuleC};
 use crate::matching::{bound_values, is_fitting, taken_inputs};
-use crate::outcome::Outputs;
+use crate::outcome::{Firing, Outputs};
 use crate::results::outputs_of;
-use crate::state::Firing;
 use hume_base::{List, Value};
 use std::alloc::{AllocError, Global};
 
@@ -112,7 +112,8 @@ fn handled_outputs(
 }
 
 fn handler_for(handlers: &[HandC], exn: u8) -> Option<&HandC>
-    ensures { MatchOption result (find (λ (handler : HandC). handler.exn == exn) handlers.now ≡ None) (λ found. find (λ (handler : HandC). handler.exn == exn) handlers.now ≡ Some found.now) }
+    ensures { let found = find (λ (handler : HandC). handler.exn == exn) handlers.now in
+        MatchOption result (found ≡ None) (λ handler. found ≡ Some handler.now) }
 {
     for handler in handlers {
         if handler.exn == exn {

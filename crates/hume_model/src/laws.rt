@@ -1,11 +1,12 @@
 //! Laws of the definitions, as contracts of functions that do nothing.
-ghost use Rattle.std.specs.Prelude.{◌≡◌, ℕ, ◌<◌, Bool, true, List, Option, Some, length, slice_get};
+ghost use Rattle.std.specs.Prelude.{◌≡◌, ℕ, ◌<◌, codes, true, List, Option, Some, length, slice_get};
 ghost use Rattle.std.specs.Option.{is_some, option_flatten};
 ghost use Rattle.hume_base.specs.declared.types.Ty.{Ty};
 ghost use Rattle.hume_base.specs.declared.types.Value.{Value};
 ghost use Rattle.hume_model.specs.declared.core_tree.BoxC.{BoxC};
 ghost use Rattle.hume_model.specs.declared.core_tree.Expr.{Expr};
-ghost use Rattle.hume_model.specs.declared.state.Firing.{Firing as TheFiring};
+ghost use Rattle.hume_model.specs.declared.exceptions.TheConstants.{DIV_ZERO, RANGE, NO_CASE};
+ghost use Rattle.hume_model.specs.declared.outcome.Firing.{Firing as TheFiring};
 ghost use Rattle.hume_model.specs.declared.core_tree.InPat.{InPat};
 ghost use Rattle.hume_model.specs.declared.core_tree.Res.{Res};
 ghost use Rattle.hume_model.specs.declared.core_tree.Core.{Core};
@@ -18,15 +19,8 @@ ghost use Rattle.hume_model.specs.ResultTyping.{GivesOutputs, is_result, are_out
 ghost use Rattle.hume_model.specs.Firing.{fire};
 ghost use Rattle.hume_model.specs.BoxTyping.{BoxIsTyped, port_types};
 ghost use Rattle.hume_model.specs.Handling.{HandlesAll};
-ghost use Rattle.hume_model.specs.declared.state.State.{State};
-ghost use Rattle.hume_model.specs.Lockstep.{superstep, lockstep, on_found, on_wire};
-ghost use Rattle.hume_model.specs.Wiring.{IsTheWire};
-ghost use Rattle.hume_model.specs.declared.core_tree.WireC.{WireC};
-ghost use Rattle.hume_model.specs.Start.{start};
-ghost use Rattle.hume_model.specs.StatePlaces.{HasPlaces};
-ghost use Rattle.hume_model.specs.StateTyping.{WiresAgree, IsTypedNet, IsTypedState, InitialsAreTyped, ComingAreTyped};
-ghost use Rattle.hume_model.specs.WellFormed.{HasSoundParts};
-ghost use Rattle.hume_model.specs.Limits.{IsWellFormed};
+ghost use Rattle.hume_model.specs.OwnExceptions.{own_exceptions, plain_exception};
+ghost use Rattle.hume_model.specs.WellFormed.{HasSmallBoxes, HasSoundParts, IsWellFormed};
 ghost use Rattle.hume_model.specs.Reading.{HaveReadableSizes};
 
 /// A call gives what the body of the first equation that the arguments match gives in the whole program.
@@ -60,49 +54,34 @@ pub fn results_keep_types()
 
 /// What a box gives when it fires is of its outputs' types, if the values at its inputs are of theirs.
 pub fn firing_keeps_types()
-    ensures { (core : Core) → HasSoundParts core → (b : BoxC) → BoxIsTyped core b → (ins : List (Option Value)) → are_outputs core.types (port_types b.ins) ins ≡ true
-        → (order : List ℕ) (firing : TheFiring) → fire core b order ins ≡ Some firing → are_outputs core.types (port_types b.outs) firing.outs ≡ true }
+    ensures { (core : Core) → HasSoundParts core → (b : BoxC) → BoxIsTyped core b
+        → (ins : List (Option Value)) → are_outputs core.types (port_types b.ins) ins ≡ true
+        → (order : List ℕ) (firing : TheFiring) → fire core b order ins ≡ Some firing
+        → are_outputs core.types (port_types b.outs) firing.outs ≡ true }
 {}
 
 /// A box that handles each exception that its rules raise gives something or nothing to each of its outputs when it fires:
 /// no output is left out for want of a handler.
 pub fn handled_boxes_give_all_outputs()
-    ensures { (core : Core) (b : BoxC) → BoxIsTyped core b → HandlesAll core b → (ins : List (Option Value)) → are_outputs core.types (port_types b.ins) ins ≡ true
+    ensures { (core : Core) (b : BoxC) → BoxIsTyped core b → HandlesAll core b
+        → (ins : List (Option Value)) → are_outputs core.types (port_types b.ins) ins ≡ true
         → (order : List ℕ) (firing : TheFiring) → fire core b order ins ≡ Some firing → length firing.outs ≡ length b.outs }
 {}
 
-/// A superstep keeps types: each wire, each pending output and each input to come has a value of its type.
-pub fn supersteps_keep_types()
-    ensures { (core : Core) → IsTypedNet core → (state : State) → IsTypedState core state → IsTypedState core (superstep core state) }
+/// A well-formed core has what the laws on evaluation and firing ask for, and no more rules in a box than are allowed.
+pub fn well_formed_cores_are_sound()
+    ensures parts { (core : Core) → IsWellFormed core → HasSoundParts core }
+    ensures small { (core : Core) → IsWellFormed core → HasSmallBoxes core }
 {}
 
-/// The state before the first superstep has values of the right types, if the initial values and those to come do.
-pub fn starts_have_types()
-    ensures { (core : Core) → InitialsAreTyped core → (coming : List (List Value)) → ComingAreTyped core coming → IsTypedState core (start core coming) }
-{}
-
-/// And so has the state after any number of supersteps.
-pub fn locksteps_keep_types()
-    ensures { (core : Core) → IsTypedNet core → InitialsAreTyped core → (coming : List (List Value)) → ComingAreTyped core coming
-        → (k : ℕ) → IsTypedState core (lockstep core (start core coming) k) }
-{}
-
-/// Each wire and each node has its place in every state of a lockstep, and the order of a box has rules of that box alone.
-pub fn locksteps_have_places()
-    ensures { (core : Core) (coming : List (List Value)) → length coming ≡ length core.nodes → (k : ℕ) → HasPlaces core (lockstep core (start core coming) k) }
-{}
-
-/// A node sees at a port with one wire what is on that wire. Where a core is wired (`IsWired`), each port has one.
-pub fn ports_see_their_wires()
-    ensures { (core : Core) (test : WireC → Bool) (w : ℕ) → IsTheWire test core.wires w → (state : State) → on_found core state test ≡ on_wire state w }
+/// Each exception that every program has stands at its number.
+pub fn own_exceptions_have_their_numbers()
+    ensures div_zero { slice_get own_exceptions DIV_ZERO ≡ Some (plain_exception (codes "DivZero")) }
+    ensures range { slice_get own_exceptions RANGE ≡ Some (plain_exception (codes "Range")) }
+    ensures no_case { slice_get own_exceptions NO_CASE ≡ Some (plain_exception (codes "NoCase")) }
 {}
 
 /// The types of a well-formed core have sizes that `value_of` can read.
 pub fn well_formed_types_are_readable()
     ensures { (core : Core) → IsWellFormed core → HaveReadableSizes core.types }
-{}
-
-/// A well-formed core whose wires agree is a typed net, which begins with values of the right types.
-pub fn well_formed_nets_are_typed()
-    ensures { (core : Core) → IsWellFormed core → WiresAgree core → IsTypedNet core × InitialsAreTyped core }
 {}

@@ -1,51 +1,42 @@
-//! The meaning of a checked program, and a plain, slow net that computes just that.
+//! What checked programs mean, and the plain evaluator that computes just that.
+//!
+//! Main calls: `eval_plain` evaluates an expression, `first_firing` fires a box, and `value_of` reads a value.
+//! Definitions: `specs/Meaning.antt` says what an expression comes to, `Firing.antt` what a box does, and `Reading.antt`
+//! which words are those of a value. `WellFormed.antt` says which cores are checked programs.
+//! Laws: evaluation, results and firing keep types; calls unfold; what a rule takes is there; a box that handles what it
+//! raises leaves no output out; and a well-formed core is what these laws ask for.
+//! Knows checked programs: types, expressions, rules, boxes and the wires between them.
+//! Doesn't know sources, supersteps, ports, or how anything runs fast.
 #![tactic(auto)]
 
 mod arithmetic;
-mod copying;
 mod core_tree;
 mod evaluate;
+mod exceptions;
 mod firing;
-mod half_steps;
 mod laws;
 mod matching;
-mod net;
+#[cfg(test)]
+mod meaning_tests;
+#[cfg(test)]
+mod operation_tests;
 mod operations;
 mod outcome;
 mod patterns;
-mod phases;
 mod reading;
 mod results;
-mod start;
-mod state;
-mod super_steps;
-#[cfg(test)]
-mod test_cores;
-#[cfg(test)]
-mod tests_expressions;
-#[cfg(test)]
-mod tests_nets;
-#[cfg(test)]
-mod tests_operations;
-#[cfg(test)]
-mod tests_reading;
-#[cfg(test)]
-mod tests_variables;
-#[cfg(test)]
-mod tests_widths;
 
 pub use core_tree::{
     BoxC, Core, EqC, ExnDef, Expr, FunC, HandC, InPat, NodeC, Op, PatC, PortC, Res, RuleC, StreamC,
     WireC,
 };
 pub use evaluate::eval_plain;
+pub use exceptions::{DIV_ZERO, NO_CASE, RANGE, own_exceptions};
+pub use firing::first_firing;
 pub use laws::{
     calls_unfold, evaluation_keeps_types, firing_keeps_types, handled_boxes_give_all_outputs,
-    locksteps_have_places, locksteps_keep_types, ports_see_their_wires, results_keep_types,
-    starts_have_types, supersteps_keep_types, well_formed_nets_are_typed,
+    own_exceptions_have_their_numbers, results_keep_types, well_formed_cores_are_sound,
     well_formed_types_are_readable, what_is_taken_is_there,
 };
-pub use net::{Net, net_make};
-pub use outcome::{DIV_ZERO, NO_CASE, Outcome, Outputs, RANGE, Several};
+pub use outcome::{Firing, Outcome, Outputs, Several};
 pub use reading::value_of;
-pub use state::{Firing, HalfStep, Part, State};

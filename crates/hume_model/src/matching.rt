@@ -1,3 +1,4 @@
+//! Whether a rule fits the values at its inputs, what it takes, and what its variables stand for.
 ghost use Rattle.std.specs.Prelude.{◌≡◌, [], IfOk};
 ghost use Rattle.std.specs.Option.{is_some, unwrap_or};
 ghost use Rattle.hume_model.specs.Patterns.{matches};

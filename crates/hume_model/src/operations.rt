@@ -1,14 +1,16 @@
+//! What operations on values give.
 ghost use Rattle.std.specs.Prelude.{◌≡◌, IfOk};
 ghost use Rattle.hume_base.specs.declared.types.Ty.{out-Ty};
 ghost use Rattle.hume_base.specs.declared.types.Value.{out-Value};
 ghost use Rattle.hume_base.specs.Flat.{parts_in};
-ghost use Rattle.hume_model.specs.Operations.{binary, unary, prim, truth, word_of_value, item_of, updated};
+ghost use Rattle.hume_model.specs.Operations.{binary, unary, prim, gives_truth, item_of, updated};
 
 use crate::arithmetic::{
     difference, number_of_word, product, quotient, remainder, sum, wrapped_word,
 };
 use crate::core_tree::Op;
-use crate::outcome::{DIV_ZERO, Outcome, RANGE};
+use crate::exceptions::{DIV_ZERO, RANGE};
+use crate::outcome::Outcome;
 use hume_base::{Ty, Value, copy_value, copy_values};
 use std::alloc::{AllocError, Global};
 
@@ -17,23 +19,15 @@ pub fn operate(op: Op, ty: &Ty, operands: &[Value]) -> Outcome
     ensures { result ≡ prim op ty.now operands.now }
 {
     match operands {
-        [] => Outcome::Gives(Value::Word(0)),
-        [operand] => operate_on_one(op, ty, own_word(operand)),
-        [left, right, ..] => operate_on_two(op, ty, own_word(left), own_word(right)),
+        [] => MISAPPLIED,
+        [operand] => operate_on_one(op, ty, operand.word()),
+        [left, right] => operate_on_two(op, ty, left.word(), right.word()),
+        [_, _, _, ..] => MISAPPLIED,
     }
 }
 
-/// A scalar's word.
-pub fn own_word(value: &Value) -> u64
-    ensures { result ≡ word_of_value value.now }
-{
-    match value {
-        Value::Word(word) => *word,
-        Value::Con(place, _) => u64::from(*place),
-        Value::Tuple(_) => 0,
-        Value::Vector(_) => 0,
-    }
-}
+// What an operation on another number of operands than its own gives.
+const MISAPPLIED: Outcome = Outcome::Gives(Value::Word(0));
 
 fn operate_on_one(op: Op, ty: &Ty, word: u64) -> Outcome
     ensures { result ≡ unary op (out-Ty ty.now) word }
@@ -42,7 +36,8 @@ fn operate_on_one(op: Op, ty: &Ty, word: u64) -> Outcome
         Op::Neg => Outcome::Gives(Value::Word(wrapped_word(ty, -number_of_word(ty, word)))),
         Op::Not => answer(word == 0),
         Op::Convert => Outcome::Gives(Value::Word(wrapped_word(ty, i128::from(word)))),
-        _ => Outcome::Gives(Value::Word(0)),
+        Op::Add | Op::Sub | Op::Mul | Op::Div | Op::Mod => MISAPPLIED,
+        Op::Eq | Op::Ne | Op::Lt | Op::Le | Op::Gt | Op::Ge => MISAPPLIED,
     }
 }
 
@@ -63,12 +58,12 @@ fn operate_on_two(op: Op, ty: &Ty, left: u64, right: u64) -> Outcome
         Op::Le => answer(number_of_word(ty, left) <= number_of_word(ty, right)),
         Op::Gt => answer(number_of_word(ty, left) > number_of_word(ty, right)),
         Op::Ge => answer(number_of_word(ty, left) >= number_of_word(ty, right)),
-        _ => Outcome::Gives(Value::Word(0)),
+        Op::Neg | Op::Not | Op::Convert => MISAPPLIED,
     }
 }
 
 fn answer(holds: bool) -> Outcome
-    ensures { result ≡ truth holds }
+    ensures { result ≡ gives_truth holds }
 {
     Outcome::Gives(Value::Word(u64::from(holds)))
 }
@@ -77,7 +72,7 @@ fn answer(holds: bool) -> Outcome
 pub fn item(alloc: Global, count: u32, vector: &Value, place: &Value) -> Result<Outcome, AllocError>
     ensures { IfOk result (λ outcome. outcome ≡ item_of count vector.now place.now) }
 {
-    let place = own_word(place);
+    let place = place.word();
     if place == 0 || place > u64::from(count) {
         return Ok(Outcome::Raises(RANGE, None));
     }
@@ -97,7 +92,7 @@ pub fn changed(
 ) -> Result<Outcome, AllocError>
     ensures { IfOk result (λ outcome. outcome ≡ updated count vector.now place.now item) }
 {
-    let place = own_word(place);
+    let place = place.word();
     if place == 0 || place > u64::from(count) {
         return Ok(Outcome::Raises(RANGE, None));
     }

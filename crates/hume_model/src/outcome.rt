@@ -1,15 +1,8 @@
 //! What evaluations come to.
 use hume_base::{List, Value};
 
-/// The exception of a division by 0.
-pub const DIV_ZERO: u8 = 0;
-/// The exception of an index outside a vector.
-pub const RANGE: u8 = 1;
-/// The exception of a `case` or a call that nothing matches.
-pub const NO_CASE: u8 = 2;
-
 /// What an expression comes to.
-#[derive(Debug, PartialEq, Eq, Drop)]
+#[derive(Drop)]
 pub enum Outcome {
     Gives(Value),
     /// An exception, with what it carries.
@@ -28,4 +21,12 @@ pub enum Several {
 pub enum Outputs {
     Asserts(List<Option<Value>>),
     Throws(u8, Option<Value>),
+}
+
+/// A box that fires: the rule's number, which inputs are taken, and the outputs.
+#[derive(Drop)]
+pub struct Firing {
+    pub rule: u32,
+    pub taken: List<bool>,
+    pub outs: List<Option<Value>>,
 }

@@ -1,3 +1,4 @@
+//! Which values patterns match.
 ghost use Rattle.std.specs.Prelude.{◌≡◌, IfOk};
 ghost use Rattle.hume_model.specs.Patterns.{matches, matches_all};
 

@@ -1,8 +1,9 @@
-//! The value that flat words tell.
-ghost use Rattle.std.specs.Prelude.{◌≡◌, IfOk, map, length, replicate, slice_get, Some};
+//! The value that has the given words.
+ghost use Rattle.std.specs.Prelude.{◌≡◌, IfOk, map, replicate, Some};
 ghost use Rattle.hume_base.specs.declared.types.Value.{Value, Tuple, Vector};
 ghost use Rattle.hume_base.specs.Sizes.{HaveTheirSizes};
-ghost use Rattle.hume_model.specs.Reading.{AreWordsOf, HaveReadableSizes, Reader, read_with, read_named, read_several, read_con, read_sum, read_word, made_of};
+ghost use Rattle.hume_model.specs.Reading.{AreWordsOf, HaveReadableSizes};
+ghost use Rattle.hume_model.specs.inner.Readers.{Reader, read_with, read_named, read_several, read_con, read_word};
 
 use hume_base::{List, SumDef, Ty, Types, Value};
 use std::alloc::{AllocError, Global};
@@ -79,7 +80,8 @@ fn read_items<'a>(
     item: &Ty,
     words: &'a [u64],
 ) -> Result<(List<Value>, &'a [u64]), AllocError>
-    ensures { IfOk result (λ read. (read.0, read.1.now) ≡ read_several (replicate {A = Reader} count (read_with (read_named types.now bound) item.now)) words.now) }
+    ensures { IfOk result (λ read. (read.0, read.1.now)
+        ≡ read_several (replicate {A = Reader} count (read_with (read_named types.now bound) item.now)) words.now) }
 {
     let mut values = List::new(alloc);
     let mut rest = words;

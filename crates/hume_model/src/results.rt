@@ -1,12 +1,14 @@
+//! What the results of rules and handlers come to.
 ghost use Rattle.std.specs.Prelude.{◌≡◌, IfOk, map};
 ghost use Rattle.std.specs.Option.{option_map};
 ghost use Rattle.hume_model.specs.Outcomes.{outs_in_order, raised, thrown, then_outputs};
-ghost use Rattle.hume_model.specs.Results.{result_of, meaning_in, first_result, result_arm_with};
+ghost use Rattle.hume_model.specs.Results.{result_of, meaning_in, first_result};
+ghost use Rattle.hume_model.specs.inner.Arms.{result_arm_with};
 
 use crate::core_tree::{Core, Expr, PatC, Res};
 use crate::evaluate::eval_plain;
-use crate::operations::own_word;
-use crate::outcome::{NO_CASE, Outcome, Outputs};
+use crate::exceptions::NO_CASE;
+use crate::outcome::{Outcome, Outputs};
 use crate::patterns::matched;
 use hume_base::{List, Value, copy_values};
 use std::alloc::{AllocError, Global};
@@ -26,7 +28,7 @@ pub fn outputs_of(
         Res::Outs(outs) => listed_outputs(alloc, core, env, outs.as_slice()),
         Res::If(test, yes, no) => match eval_plain(alloc, core, env, test)? {
             Outcome::Gives(value) => {
-                if own_word(&value) == 0 {
+                if value.word() == 0 {
                     outputs_of(alloc, core, env, no)
                 } else {
                     outputs_of(alloc, core, env, yes)
@@ -56,7 +58,8 @@ fn case_outputs(
     part: &Expr,
     arms: &[(PatC, Res)],
 ) -> Result<Outputs, AllocError>
-    ensures { IfOk result (λ outputs. outputs ≡ then_outputs (meaning_in core.now part.now env.now) (λ v. first_result (map (result_arm_with (λ res env. result_of core.now env res)) arms.now) v env.now)) }
+    ensures { IfOk result (λ outputs. outputs ≡ then_outputs (meaning_in core.now part.now env.now)
+        (λ v. first_result (map (result_arm_with (λ res env. result_of core.now env res)) arms.now) v env.now)) }
 {
     match eval_plain(alloc, core, env, part)? {
         Outcome::Gives(value) => arm_outputs(alloc, core, env, arms, &value),

@@ -1,10 +1,14 @@
+pub mod Sameness
 pub mod Loops
 pub mod TypeSteps
 pub mod PatternSteps
+pub mod Climbing
+pub mod TreeSteps
 pub mod ExpSteps
+pub mod ExpLoops
 pub mod DeclSteps
 pub mod BoxSteps
-pub mod LineSteps
+pub mod ItemSteps
 pub mod Running
-pub mod Faults
+pub mod Reports
 pub mod Answered

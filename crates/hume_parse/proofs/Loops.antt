@@ -6,12 +6,12 @@ use Rattle.hume_base.specs.declared.token.Kind.{Kind}
 use Rattle.hume_base.specs.declared.token.Kind.TheVariants.{Sign}
 use Rattle.hume_base.specs.declared.token.Token.{Token}
 use Rattle.hume_ast.specs.Places.{kinds}
-use Rattle.hume_parse.specs.Gives.{Fails}
-use Rattle.hume_parse.specs.declared.fault.Fault.{Fault}
-use Rattle.hume_parse.specs.declared.fault.Fault.TheVariants.{Memory, Syntax, Deep}
-use Rattle.hume_grammar.specs.Readers.{Reader, ◌>>=◌, next, behind, is_sign, made, many, led}
-use Rattle.hume_grammar.proofs.Local.{many_stop, many_turn}
-use Rattle.hume_grammar.proofs.Forms.{Reads, led_reads}
+use Rattle.hume_parse.specs.inner.Gives.{Fails}
+use Rattle.hume_parse.specs.declared.stop.Stop.{Stop}
+use Rattle.hume_parse.specs.declared.stop.Stop.TheVariants.{Memory, Syntax, Deep}
+use Rattle.token_readers.specs.inner.Readers.{Reader, ◌>>=◌, next, behind, is_sign, made, many, led}
+use Rattle.token_readers.proofs.Local.{many_stop, many_turn}
+use Rattle.token_readers.proofs.Forms.{Reads, led_reads}
 
 pub kinds_length : (tokens : List Token) → length (kinds tokens) ≡ length tokens
 kinds_length [] = refl
@@ -47,7 +47,7 @@ module _ {A : Type 0} (test : Kind → Bool) (p : Reader A) (shrinks : (ks : Lis
   pub loop_fails : (n : ℕ) → next test ks ≡ true → p ks ≡ Err n → joined front (many test p ks) ≡ Err n
   loop_fails n e g = ap (joined front) (many_turn test p shrinks ks e) ∙ rw g
 
-pub fails_on : {Y Z : Type 0} (f : Fault) (r : Result Y ℕ) (s : Result Z ℕ) → ((n : ℕ) → r ≡ Err n → s ≡ Err n) → Fails f r → Fails f s
+pub fails_on : {Y Z : Type 0} (f : Stop) (r : Result Y ℕ) (s : Result Z ℕ) → ((n : ℕ) → r ≡ Err n → s ≡ Err n) → Fails f r → Fails f s
 fails_on Memory r s h e = tt
 fails_on (Syntax n) r s h e = h n e
 fails_on (Deep n) r s h e = h n e
@@ -69,8 +69,8 @@ module _ {A : Type 0} {spell : A → List Kind} {Fit : A → Type 0} {Ends : Lis
         is ∙ ap f (loop_turn (is_sign sign) (led (Sign sign) p) led_shrinks front ks a ls e (led_on sign p ks e ∙ ap p (sym same) ∙ g))
         ∙ ap (λ l. f (joined l (parts ls))) (sym grown)
 
-    pub parts_fail : (fault : Fault) → next (is_sign sign) ks ≡ true → b ≡ behind ks → Fails fault (p b) → Fails fault whole
-    parts_fail fault e same g = fails_on fault (p b) whole (λ n h. is ∙ ap f (loop_fails (is_sign sign) (led (Sign sign) p) led_shrinks front ks n e (led_on sign p ks e ∙ ap p (sym same) ∙ h)) ∙ errs n) g
+    pub parts_fail : (stop : Stop) → next (is_sign sign) ks ≡ true → b ≡ behind ks → Fails stop (p b) → Fails stop whole
+    parts_fail stop e same g = fails_on stop (p b) whole (λ n h. is ∙ ap f (loop_fails (is_sign sign) (led (Sign sign) p) led_shrinks front ks n e (led_on sign p ks e ∙ ap p (sym same) ∙ h)) ∙ errs n) g
 
 -- parts side by side
 module _ {A : Type 0} (test : Kind → Bool) (p : Reader A) (shr : (ks : List Kind) (x : A × List Kind) → p ks ≡ Ok x → length x.1 < length ks) where
@@ -81,5 +81,5 @@ module _ {A : Type 0} (test : Kind → Bool) (p : Reader A) (shr : (ks : List Ki
     pub beside_turn : (more : List A) (a : A) (ls : List Kind) → next test ks ≡ true → p ks ≡ Ok (a, ls) → more ≡ front ++ a ∷ [] → whole ≡ f (joined more (many test p ls))
     beside_turn more a ls e g grown = is ∙ ap f (loop_turn test p shr front ks a ls e g) ∙ ap (λ l. f (joined l (many test p ls))) (sym grown)
 
-    pub beside_fail : (fault : Fault) → next test ks ≡ true → Fails fault (p ks) → Fails fault whole
-    beside_fail fault e g = fails_on fault (p ks) whole (λ n h. is ∙ ap f (loop_fails test p shr front ks n e h) ∙ errs n) g
+    pub beside_fail : (stop : Stop) → next test ks ≡ true → Fails stop (p ks) → Fails stop whole
+    beside_fail stop e g = fails_on stop (p ks) whole (λ n h. is ∙ ap f (loop_fails test p shr front ks n e h) ∙ errs n) g

@@ -12,10 +12,10 @@ use Rattle.hume_ast.specs.declared.tree.Pat.TheVariants as tree
 use Rattle.hume_ast.specs.declared.tree.Pat.TheVariants.{rolls-Name, rolls-Any, rolls-Num, rolls-Letter, rolls-Truth, rolls-Con, rolls-Paren, rolls-Tuple, rolls-Star, rolls-AnyStar}
 use Rattle.hume_ast.specs.declared.tree.Pat.TheOpen.{Pat-F}
 use Rattle.hume_ast.specs.Places.{kinds}
-use Rattle.hume_parse.specs.Gives.{Fails}
-use Rattle.hume_parse.specs.declared.fault.Fault.{Fault}
-use Rattle.hume_grammar.specs.Readers.{Reader, next, behind, is_word, is_sign, after, made, both, closed, give, pick, number_of, many, led}
-use Rattle.hume_grammar.specs.Patterns.{patterns, pat_leaf, is_upper, con_pat, pat_in_parens, input_pattern}
+use Rattle.hume_parse.specs.inner.Gives.{Fails}
+use Rattle.hume_parse.specs.declared.stop.Stop.{Stop}
+use Rattle.token_readers.specs.inner.Readers.{Reader, next, behind, is_word, is_sign, after, made, both, closed, give, pick, number_of, many, led}
+use Rattle.token_readers.specs.inner.Patterns.{patterns, pat_leaf, is_upper, con_pat, pat_in_parens, input_pattern}
 use Rattle.hume_parse.proofs.Loops.{made_twice, kinds_length, fails_on}
 
 pub pat_zero : (n : ℕ) (ts : List Token) → n ≡ 0 → (patterns n).atom (kinds ts) ≡ Err (length ts)
@@ -124,5 +124,5 @@ con_stop name other whole parts ks same e = e ∙ ap (λ x. Ok (tree.Con x parts
 pub parens_stop : (first : Pat) (whole : Result (Pat × List Kind) ℕ) (others : List Pat) (ks ls : List Kind) (p : Pat) → whole ≡ parens_from first (Ok (others, ks)) → after (Sign symbol.CloseParen) ks ≡ Ok ls → p ≡ roll-Pat (pat_in_parens (first, others)) → whole ≡ Ok (p, ls)
 parens_stop first whole others ks ls p e g h = e ∙ rw g (ap (λ q. Ok (q, ls)) (sym h))
 
-pub parens_fail : (first : Pat) (whole : Result (Pat × List Kind) ℕ) (others : List Pat) (ks : List Kind) (fault : Fault) → whole ≡ parens_from first (Ok (others, ks)) → Fails fault (after (Sign symbol.CloseParen) ks) → Fails fault whole
-parens_fail first whole others ks fault e g = fails_on fault (after (Sign symbol.CloseParen) ks) whole (λ n h. e ∙ rw h) g
+pub parens_fail : (first : Pat) (whole : Result (Pat × List Kind) ℕ) (others : List Pat) (ks : List Kind) (stop : Stop) → whole ≡ parens_from first (Ok (others, ks)) → Fails stop (after (Sign symbol.CloseParen) ks) → Fails stop whole
+parens_fail first whole others ks stop e g = fails_on stop (after (Sign symbol.CloseParen) ks) whole (λ n h. e ∙ rw h) g

@@ -1,5 +1,6 @@
 -- Reading a program line by line: what the loop keeps.
 use Rattle.std.proofs.Common.{◌≡◌, ℕ, ◌-◌, ◌<◌, List, [], ◌∷◌, ◌++◌, length, map, drop, true, false, refl, sym, ap, ◌∙◌, arith, length-append, append_assoc, append-nil}
+use Rattle.hume_base.specs.declared.limits.TheConstants.{MAX_DEPTH}
 use Rattle.std.specs.Prelude.{Result, Ok, Err, Option, Some, None}
 use Rattle.std.proofs.lemmas.List.{drop-drop, map-append}
 use Rattle.hume_base.specs.declared.token.Kind.{Kind}
@@ -12,19 +13,19 @@ use Rattle.hume_ast.specs.declared.tree.Decl.{Decl}
 use Rattle.hume_ast.specs.declared.tree.Decl.TheVariants.{Fun}
 use Rattle.hume_ast.specs.Spelling.{spelled_equation, spelled_decl, separated, spelled_ty, beside}
 use Rattle.hume_ast.specs.Places.{unplaced, placed, first_place}
-use Rattle.hume_parse.specs.declared.fault.Fault.{Fault}
+use Rattle.hume_parse.specs.declared.stop.Stop.{Stop}
 use Rattle.hume_parse.specs.declared.program.OpenFunction.{OpenFunction}
 use Rattle.hume_parse.specs.declared.program.Progress.{Progress}
 use Rattle.hume_ast.specs.Places.{kinds}
-use Rattle.hume_parse.specs.Gives.{Fails}
-use Rattle.hume_parse.specs.Lines.{wants}
-use Rattle.hume_parse.specs.Progress.{place_with, place_behind, as_decl, closed, with_equation, took}
-use Rattle.hume_grammar.specs.Readers.{◌>>=◌}
-use Rattle.hume_grammar.specs.Lines.{Line, Whole, Signature, Equation, Place, Outside, Wanting, Within, place_after, no_lines, line, lines}
-use Rattle.hume_grammar.specs.Programs.{Gathered, with_line, gathered, program}
-use Rattle.hume_grammar.proofs.LinesRead.{spelled_line, MayStand, line_reads}
-use Rattle.hume_grammar.proofs.AllLinesRead.{lines_end, lines_turn}
-use Rattle.hume_grammar.proofs.ProgramsRead.{all_tokens}
+use Rattle.hume_parse.specs.inner.Gives.{Fails}
+use Rattle.hume_parse.specs.inner.Items.{wants}
+use Rattle.hume_parse.specs.inner.Progress.{place_with, place_behind, as_decl, closed, with_equation, took}
+use Rattle.token_readers.specs.inner.Readers.{◌>>=◌}
+use Rattle.token_readers.specs.inner.Items.{Item as Line, Whole, Signature, Equation, Expecting as Place, Outside, Wanting, Within, expecting_after as place_after, no_items as no_lines, item as line, items as lines}
+use Rattle.token_readers.specs.inner.Programs.{Gathered, with_line, gathered, program}
+use Rattle.token_readers.proofs.ItemsRead.{spelled_item as spelled_line, MayStand, item_reads as line_reads}
+use Rattle.token_readers.proofs.AllItemsRead.{items_end as lines_end, items_turn as lines_turn}
+use Rattle.token_readers.proofs.ProgramsRead.{all_tokens}
 use Rattle.hume_parse.proofs.Loops.{kinds_length, fails_on}
 
 abbrev Equations : Type 0
@@ -107,20 +108,10 @@ StandsAt at (Some function) = function.place ≡ at
 
 -- what the loop keeps
 pub record Running (all : List Token) (progress : Progress) (rest : List Token) : Type 0 where
-  pub reads : program 64 (kinds all) ≡ ending progress (lines 64 (place_behind progress.function) (kinds rest))
+  pub reads : program MAX_DEPTH (kinds all) ≡ ending progress (lines MAX_DEPTH (place_behind progress.function) (kinds rest))
   pub decls : progress.decls ≡ placed all (unplaced progress.decls)
   pub function : StandsAt (first_place (behind_all all progress.decls)) progress.function
   pub left : rest ≡ behind_all all (closed progress)
-
-abbrev empty : Progress
-empty = record { decls = []; function = None }
-
-first_reads : (r : Result (List Line × List Kind) ℕ) → (r >>= λ x. Ok ((gathered x.0).1, x.1)) ≡ ending empty r
-first_reads (Ok x) = refl
-first_reads (Err n) = refl
-
-pub running_first : (all : List Token) → Running all empty all
-running_first all = record { reads = first_reads (lines 64 Outside (kinds all)); decls = refl; function = tt; left = refl }
 
 -- all that is declared has its places
 pub closed_placed : (all : List Token) (progress : Progress) → progress.decls ≡ placed all (unplaced progress.decls) → StandsAt (first_place (behind_all all progress.decls)) progress.function → closed progress ≡ placed all (unplaced (closed progress))
@@ -175,23 +166,23 @@ line_tokens place (Equation parts) progress h = by progress.function h where
 
 module _ (all : List Token) (progress : Progress) (rest : List Token) (running : Running all progress rest) where
   -- a line that is read may stand here, and its tokens are in front
-  module _ (l : Line) (after : List Token) (is : line 64 (place_behind progress.function) (kinds rest) ≡ Ok (l, kinds after)) where
+  module _ (l : Line) (after : List Token) (is : line MAX_DEPTH (place_behind progress.function) (kinds rest) ≡ Ok (l, kinds after)) where
     may_stand : MayStand (place_behind progress.function) l
-    may_stand = ((line_reads 64 (place_behind progress.function)).sound (kinds rest) (l, kinds after) is).0.0
+    may_stand = ((line_reads MAX_DEPTH (place_behind progress.function)).sound (kinds rest) (l, kinds after) is).0.0
 
     taken : length rest - length after ≡ length (spelled_line l)
     taken =
-        let s = ((line_reads 64 (place_behind progress.function)).sound (kinds rest) (l, kinds after) is).1 in
+        let s = ((line_reads MAX_DEPTH (place_behind progress.function)).sound (kinds rest) (l, kinds after) is).1 in
         omega (arith, ap length s, length-append (spelled_line l) (kinds after), kinds_length rest, kinds_length after)
 
     pub running_turn : 0 < length rest → after ≡ drop (length rest - length after) rest → Running all (took (first_place rest) l progress) after
     running_turn some cut = record {
       reads =
           running.reads
-          ∙ ap (ending progress) (lines_turn 64 (place_behind progress.function) (kinds rest) (omega (arith, some, kinds_length rest)))
-          ∙ ap (λ r. ending progress (r >>= λ x. lines 64 (place_after x.0) x.1 >>= λ others. Ok (x.0 ∷ others.0, others.1))) is
-          ∙ ending_turn (first_place rest) l progress may_stand (lines 64 (place_after l) (kinds after))
-          ∙ ap (λ p. ending (took (first_place rest) l progress) (lines 64 p (kinds after))) (sym (next_place (first_place rest) l progress may_stand));
+          ∙ ap (ending progress) (lines_turn MAX_DEPTH (place_behind progress.function) (kinds rest) (omega (arith, some, kinds_length rest)))
+          ∙ ap (λ r. ending progress (r >>= λ x. lines MAX_DEPTH (place_after x.0) x.1 >>= λ others. Ok (x.0 ∷ others.0, others.1))) is
+          ∙ ending_turn (first_place rest) l progress may_stand (lines MAX_DEPTH (place_after l) (kinds after))
+          ∙ ap (λ p. ending (took (first_place rest) l progress) (lines MAX_DEPTH p (kinds after))) (sym (next_place (first_place rest) l progress may_stand));
       decls = decls_kept l;
       function = function_kept l;
       left =
@@ -223,24 +214,24 @@ module _ (all : List Token) (progress : Progress) (rest : List Token) (running :
       function_kept (Signature name types) = here
       function_kept (Equation parts) = same_place parts (first_place (behind_all all progress.decls)) progress.function running.function
 
-  pub running_fails : (fault : Fault) → 0 < length rest → Fails fault (line 64 (place_behind progress.function) (kinds rest)) → Fails fault (program 64 (kinds all))
-  running_fails fault some f = fails_on fault (line 64 (place_behind progress.function) (kinds rest)) (program 64 (kinds all)) (λ n e.
+  pub running_fails : (stop : Stop) → 0 < length rest → Fails stop (line MAX_DEPTH (place_behind progress.function) (kinds rest)) → Fails stop (program MAX_DEPTH (kinds all))
+  running_fails stop some f = fails_on stop (line MAX_DEPTH (place_behind progress.function) (kinds rest)) (program MAX_DEPTH (kinds all)) (λ n e.
       running.reads
-      ∙ ap (ending progress) (lines_turn 64 (place_behind progress.function) (kinds rest) (omega (arith, some, kinds_length rest)))
-      ∙ ap (λ r. ending progress (r >>= λ x. lines 64 (place_after x.0) x.1 >>= λ others. Ok (x.0 ∷ others.0, others.1))) e) f
+      ∙ ap (ending progress) (lines_turn MAX_DEPTH (place_behind progress.function) (kinds rest) (omega (arith, some, kinds_length rest)))
+      ∙ ap (λ r. ending progress (r >>= λ x. lines MAX_DEPTH (place_after x.0) x.1 >>= λ others. Ok (x.0 ∷ others.0, others.1))) e) f
 
   module _ (over : rest ≡ []) where
-    at_end : program 64 (kinds all) ≡ ending progress (no_lines (place_behind progress.function) [])
-    at_end = running.reads ∙ ap (λ (ts : List Token). ending progress (lines 64 (place_behind progress.function) (kinds ts))) over ∙ ap (ending progress) (lines_end 64 (place_behind progress.function))
+    at_end : program MAX_DEPTH (kinds all) ≡ ending progress (no_lines (place_behind progress.function) [])
+    at_end = running.reads ∙ ap (λ (ts : List Token). ending progress (lines MAX_DEPTH (place_behind progress.function) (kinds ts))) over ∙ ap (ending progress) (lines_end MAX_DEPTH (place_behind progress.function))
 
-    pub running_wants : wants (place_behind progress.function) ≡ true → program 64 (kinds all) ≡ Err 0
+    pub running_wants : wants (place_behind progress.function) ≡ true → program MAX_DEPTH (kinds all) ≡ Err 0
     running_wants w = at_end ∙ ap (ending progress) (by (place_behind progress.function) w) where
       by : (place : Place) → wants place ≡ true → no_lines place [] ≡ Err 0
       by Outside w = cc
       by Wanting w = refl
       by Within w = cc
 
-    pub running_ends : wants (place_behind progress.function) ≡ false → program 64 (kinds all) ≡ Ok (unplaced (closed progress), [])
+    pub running_ends : wants (place_behind progress.function) ≡ false → program MAX_DEPTH (kinds all) ≡ Ok (unplaced (closed progress), [])
     running_ends w = at_end ∙ ap (ending progress) (by (place_behind progress.function) w) ∙ ap (λ decls. Ok (decls, [])) (closed_finished progress [] ∙ append-nil (unplaced (closed progress))) where
       by : (place : Place) → wants place ≡ false → no_lines place [] ≡ Ok ([], [])
       by Outside w = refl

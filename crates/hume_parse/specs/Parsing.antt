@@ -26,8 +26,8 @@ pub record IsWrongToken (tokens : List Token) (place : ℕ) : Type 0 where
   pub here : token.place ≡ place
   pub wrong : BeginsNone (kinds (front ++ token ∷ []))
 
--- Why the tokens stand for no program: a place is told, that of a wrong token or the end.
-abbrev pub IsFault : List Token → ℕ → ParseError → Type 0
-IsFault tokens end (Syntax place) = IsNoProgram tokens × (IsWrongToken tokens place ⊎ (place ≡ end))
-IsFault tokens end (Deep place) = IsNoProgram tokens × IsWrongToken tokens place
-IsFault tokens end NoMemory = ⊥
+-- Why the tokens stand for no program: a place is reported, that of a wrong token or the end.
+abbrev pub IsWrongPlace : List Token → ℕ → ParseError → Type 0
+IsWrongPlace tokens end (Syntax place) = IsNoProgram tokens × (IsWrongToken tokens place ⊎ (place ≡ end))
+IsWrongPlace tokens end (Deep place) = IsNoProgram tokens × IsWrongToken tokens place
+IsWrongPlace tokens end NoMemory = ⊥

@@ -3,20 +3,21 @@ ghost use Rattle.hume_base.specs.declared.symbol.Symbol.TheVariants.{Comma, Bar}
 ghost use Rattle.hume_base.specs.declared.keyword.Keyword.TheVariants.{In};
 ghost use Rattle.hume_base.specs.declared.token.Kind.TheVariants.{Word, Sign};
 ghost use Rattle.hume_ast.specs.Places.{kinds};
-ghost use Rattle.hume_parse.specs.Gives.{Gives};
-ghost use Rattle.hume_grammar.specs.Readers.{made, both, closed, listed, maybe, pick, lower_name};
-ghost use Rattle.hume_grammar.specs.Patterns.{input_pattern as input};
-ghost use Rattle.hume_grammar.specs.Declarations.{box_of, sides as sides_read, ports as ports_read, port as port_read};
-ghost use Rattle.hume_grammar.specs.Declarations.{rules as rules_read, order as order_read, in_commas, rule as rule_read};
-ghost use Rattle.hume_grammar.specs.Declarations.{handlers as handlers_read, handler as handler_read};
-ghost use Rattle.hume_grammar.specs.Declarations.{is_carried, carried_pat};
+ghost use Rattle.hume_parse.specs.inner.Gives.{Gives};
+ghost use Rattle.token_readers.specs.inner.Readers.{made, both, closed, listed, maybe, pick, lower_name};
+ghost use Rattle.token_readers.specs.inner.Patterns.{input_pattern as input};
+ghost use Rattle.token_readers.specs.inner.Declarations.{box_of, sides as sides_read, side as ports_read, typed_name as port_read};
+ghost use Rattle.token_readers.specs.inner.Declarations.{rules as rules_read, order as order_read, in_commas, rule as rule_read};
+ghost use Rattle.token_readers.specs.inner.Declarations.{handlers as handlers_read, handler as handler_read};
+ghost use Rattle.token_readers.specs.inner.Declarations.{is_carried, carried_pat};
 
-use crate::expressions::{MAX_DEPTH, exp};
-use crate::fault::Fault;
+use crate::expressions::expression;
 use crate::patterns::input_pattern;
+use crate::stop::Stop;
 use crate::tokens::{after_sign, after_word, behind, lower, next_is_sign, next_is_word, upper};
 use crate::types::ty;
 use hume_ast::{Decl, Exp, Pat, TyExp};
+use hume_base::limits::MAX_DEPTH;
 use hume_base::{Keyword, Kind, List, Symbol, Text, Token};
 use std::alloc::Global;
 
@@ -36,9 +37,9 @@ pub struct Rules {
 }
 
 /// A box, behind its keyword.
-pub fn box_decl(alloc: Global, rest: &[Token]) -> Result<(Decl, &[Token]), Fault>
+pub fn box_decl(alloc: Global, rest: &[Token]) -> Result<(Decl, &[Token]), Stop>
     ensures reads { Gives (λ x. (x.0, kinds x.1.now)) result
-        (made box_of (both (closed (pick lower_name) (Word In)) (both (sides_read 64) (rules_read 64))) (kinds rest.now)) }
+        (made box_of (both (closed (pick lower_name) (Word In)) (both (sides_read MAX_DEPTH) (rules_read MAX_DEPTH))) (kinds rest.now)) }
     ensures shorter { IfOk result (λ x. length x.1.now < length rest.now) }
 {
     let (name, rest) = lower(rest)?;
@@ -58,8 +59,8 @@ pub fn box_decl(alloc: Global, rest: &[Token]) -> Result<(Decl, &[Token]), Fault
     ))
 }
 
-fn both_sides(alloc: Global, rest: &[Token]) -> Result<(Sides, &[Token]), Fault>
-    ensures reads { Gives (λ x. ((x.0.inputs, x.0.outputs), kinds x.1.now)) result (sides_read 64 (kinds rest.now)) }
+fn both_sides(alloc: Global, rest: &[Token]) -> Result<(Sides, &[Token]), Stop>
+    ensures reads { Gives (λ x. ((x.0.inputs, x.0.outputs), kinds x.1.now)) result (sides_read MAX_DEPTH (kinds rest.now)) }
     ensures shorter { IfOk result (λ x. length x.1.now < length rest.now) }
 {
     let (inputs, rest) = ports(alloc, rest)?;
@@ -69,8 +70,8 @@ fn both_sides(alloc: Global, rest: &[Token]) -> Result<(Sides, &[Token]), Fault>
 }
 
 /// Ports in parentheses.
-fn ports(alloc: Global, rest: &[Token]) -> Result<(List<(Text, TyExp)>, &[Token]), Fault>
-    ensures reads { Gives (λ x. (x.0, kinds x.1.now)) result (ports_read 64 (kinds rest.now)) }
+fn ports(alloc: Global, rest: &[Token]) -> Result<(List<(Text, TyExp)>, &[Token]), Stop>
+    ensures reads { Gives (λ x. (x.0, kinds x.1.now)) result (ports_read MAX_DEPTH (kinds rest.now)) }
     ensures shorter { IfOk result (λ x. length x.1.now < length rest.now) }
 {
     let rest = after_sign(rest, Symbol::OpenParen)?;
@@ -80,8 +81,8 @@ fn ports(alloc: Global, rest: &[Token]) -> Result<(List<(Text, TyExp)>, &[Token]
 }
 
 /// One or more ports, with commas between them.
-fn port_list(alloc: Global, tokens: &[Token]) -> Result<(List<(Text, TyExp)>, &[Token]), Fault>
-    ensures reads { Gives (λ x. (x.0, kinds x.1.now)) result (listed Comma (port_read 64) (kinds tokens.now)) }
+fn port_list(alloc: Global, tokens: &[Token]) -> Result<(List<(Text, TyExp)>, &[Token]), Stop>
+    ensures reads { Gives (λ x. (x.0, kinds x.1.now)) result (listed Comma (port_read MAX_DEPTH) (kinds tokens.now)) }
     ensures shorter { IfOk result (λ x. length x.1.now < length tokens.now) }
 {
     let mut items = List::new(alloc);
@@ -96,8 +97,8 @@ fn port_list(alloc: Global, tokens: &[Token]) -> Result<(List<(Text, TyExp)>, &[
     Ok((items, rest))
 }
 
-fn one_port(alloc: Global, rest: &[Token]) -> Result<((Text, TyExp), &[Token]), Fault>
-    ensures reads { Gives (λ x. (x.0, kinds x.1.now)) result (port_read 64 (kinds rest.now)) }
+fn one_port(alloc: Global, rest: &[Token]) -> Result<((Text, TyExp), &[Token]), Stop>
+    ensures reads { Gives (λ x. (x.0, kinds x.1.now)) result (port_read MAX_DEPTH (kinds rest.now)) }
     ensures shorter { IfOk result (λ x. length x.1.now < length rest.now) }
 {
     let (name, rest) = lower(rest)?;
@@ -106,9 +107,9 @@ fn one_port(alloc: Global, rest: &[Token]) -> Result<((Text, TyExp), &[Token]), 
     Ok(((name, carries), rest))
 }
 
-fn box_rules(alloc: Global, rest: &[Token]) -> Result<(Rules, &[Token]), Fault>
+fn box_rules(alloc: Global, rest: &[Token]) -> Result<(Rules, &[Token]), Stop>
     ensures reads { Gives (λ x. ((x.0.fair, (x.0.rules, x.0.handlers)), kinds x.1.now)) result
-        (rules_read 64 (kinds rest.now)) }
+        (rules_read MAX_DEPTH (kinds rest.now)) }
     ensures shorter { IfOk result (λ x. length x.1.now < length rest.now) }
 {
     let (fair, rest) = order(rest)?;
@@ -127,7 +128,7 @@ fn box_rules(alloc: Global, rest: &[Token]) -> Result<(Rules, &[Token]), Fault>
 
 /// Whether the rules of a box are fair.
 #[tactic(auto, using(crate::proofs::BoxSteps::order_steps))]
-fn order(rest: &[Token]) -> Result<(bool, &[Token]), Fault>
+fn order(rest: &[Token]) -> Result<(bool, &[Token]), Stop>
     ensures reads { Gives (λ x. (x.0, kinds x.1.now)) result (order_read (kinds rest.now)) }
     ensures shorter { IfOk result (λ x. length x.1.now < length rest.now) }
 {
@@ -139,8 +140,8 @@ fn order(rest: &[Token]) -> Result<(bool, &[Token]), Fault>
 }
 
 /// One or more rules, with `|` between each two.
-fn rule_list(alloc: Global, tokens: &[Token]) -> Result<(List<(List<Pat>, Exp)>, &[Token]), Fault>
-    ensures reads { Gives (λ x. (x.0, kinds x.1.now)) result (listed Bar (rule_read 64) (kinds tokens.now)) }
+fn rule_list(alloc: Global, tokens: &[Token]) -> Result<(List<(List<Pat>, Exp)>, &[Token]), Stop>
+    ensures reads { Gives (λ x. (x.0, kinds x.1.now)) result (listed Bar (rule_read MAX_DEPTH) (kinds tokens.now)) }
     ensures shorter { IfOk result (λ x. length x.1.now < length tokens.now) }
 {
     let mut items = List::new(alloc);
@@ -155,19 +156,19 @@ fn rule_list(alloc: Global, tokens: &[Token]) -> Result<(List<(List<Pat>, Exp)>,
     Ok((items, rest))
 }
 
-fn rule(alloc: Global, rest: &[Token]) -> Result<((List<Pat>, Exp), &[Token]), Fault>
-    ensures reads { Gives (λ x. (x.0, kinds x.1.now)) result (rule_read 64 (kinds rest.now)) }
+fn rule(alloc: Global, rest: &[Token]) -> Result<((List<Pat>, Exp), &[Token]), Stop>
+    ensures reads { Gives (λ x. (x.0, kinds x.1.now)) result (rule_read MAX_DEPTH (kinds rest.now)) }
     ensures shorter { IfOk result (λ x. length x.1.now < length rest.now) }
 {
     let (patterns, rest) = inputs(alloc, rest)?;
     let rest = after_sign(rest, Symbol::Arrow)?;
-    let found = exp(alloc, rest, MAX_DEPTH)?;
-    Ok(((patterns, found.exp), found.rest))
+    let (exp, rest) = expression(alloc, rest)?;
+    Ok(((patterns, exp), rest))
 }
 
 /// What stands at the inputs, in parentheses.
-fn inputs(alloc: Global, rest: &[Token]) -> Result<(List<Pat>, &[Token]), Fault>
-    ensures reads { Gives (λ x. (x.0, kinds x.1.now)) result (in_commas (input 64) (kinds rest.now)) }
+fn inputs(alloc: Global, rest: &[Token]) -> Result<(List<Pat>, &[Token]), Stop>
+    ensures reads { Gives (λ x. (x.0, kinds x.1.now)) result (in_commas (input MAX_DEPTH) (kinds rest.now)) }
     ensures shorter { IfOk result (λ x. length x.1.now < length rest.now) }
 {
     let rest = after_sign(rest, Symbol::OpenParen)?;
@@ -177,8 +178,8 @@ fn inputs(alloc: Global, rest: &[Token]) -> Result<(List<Pat>, &[Token]), Fault>
 }
 
 /// What stands at the inputs, with commas between them.
-fn input_list(alloc: Global, tokens: &[Token]) -> Result<(List<Pat>, &[Token]), Fault>
-    ensures reads { Gives (λ x. (x.0, kinds x.1.now)) result (listed Comma (input 64) (kinds tokens.now)) }
+fn input_list(alloc: Global, tokens: &[Token]) -> Result<(List<Pat>, &[Token]), Stop>
+    ensures reads { Gives (λ x. (x.0, kinds x.1.now)) result (listed Comma (input MAX_DEPTH) (kinds tokens.now)) }
     ensures shorter { IfOk result (λ x. length x.1.now < length tokens.now) }
 {
     let mut items = List::new(alloc);
@@ -198,8 +199,8 @@ fn input_list(alloc: Global, tokens: &[Token]) -> Result<(List<Pat>, &[Token]), 
 fn handlers(
     alloc: Global,
     rest: &[Token],
-) -> Result<(List<(Text, Option<Pat>, Exp)>, &[Token]), Fault>
-    ensures reads { Gives (λ x. (x.0, kinds x.1.now)) result (handlers_read 64 (kinds rest.now)) }
+) -> Result<(List<(Text, Option<Pat>, Exp)>, &[Token]), Stop>
+    ensures reads { Gives (λ x. (x.0, kinds x.1.now)) result (handlers_read MAX_DEPTH (kinds rest.now)) }
     ensures shorter { IfOk result (λ x. length x.1.now ≤ length rest.now) }
 {
     if next_is_word(rest, Keyword::Handle) {
@@ -212,8 +213,8 @@ fn handlers(
 fn handler_list(
     alloc: Global,
     tokens: &[Token],
-) -> Result<(List<(Text, Option<Pat>, Exp)>, &[Token]), Fault>
-    ensures reads { Gives (λ x. (x.0, kinds x.1.now)) result (listed Bar (handler_read 64) (kinds tokens.now)) }
+) -> Result<(List<(Text, Option<Pat>, Exp)>, &[Token]), Stop>
+    ensures reads { Gives (λ x. (x.0, kinds x.1.now)) result (listed Bar (handler_read MAX_DEPTH) (kinds tokens.now)) }
     ensures shorter { IfOk result (λ x. length x.1.now < length tokens.now) }
 {
     let mut items = List::new(alloc);
@@ -228,20 +229,20 @@ fn handler_list(
     Ok((items, rest))
 }
 
-fn handler(alloc: Global, rest: &[Token]) -> Result<((Text, Option<Pat>, Exp), &[Token]), Fault>
-    ensures reads { Gives (λ x. (x.0, kinds x.1.now)) result (handler_read 64 (kinds rest.now)) }
+fn handler(alloc: Global, rest: &[Token]) -> Result<((Text, Option<Pat>, Exp), &[Token]), Stop>
+    ensures reads { Gives (λ x. (x.0, kinds x.1.now)) result (handler_read MAX_DEPTH (kinds rest.now)) }
     ensures shorter { IfOk result (λ x. length x.1.now < length rest.now) }
 {
     let (name, rest) = upper(rest)?;
     let (carried, rest) = carried(rest)?;
     let rest = after_sign(rest, Symbol::Arrow)?;
-    let found = exp(alloc, rest, MAX_DEPTH)?;
-    Ok(((name, carried, found.exp), found.rest))
+    let (exp, rest) = expression(alloc, rest)?;
+    Ok(((name, carried, exp), rest))
 }
 
 /// What a handler takes of an exception, if it takes anything.
 #[tactic(auto, using(crate::proofs::BoxSteps::carried_steps))]
-fn carried(rest: &[Token]) -> Result<(Option<Pat>, &[Token]), Fault>
+fn carried(rest: &[Token]) -> Result<(Option<Pat>, &[Token]), Stop>
     ensures reads { Gives (λ x. (x.0, kinds x.1.now)) result (maybe is_carried (pick carried_pat) (kinds rest.now)) }
     ensures shorter { IfOk result (λ x. length x.1.now ≤ length rest.now) }
 {

@@ -3,29 +3,31 @@ ghost use Rattle.hume_base.specs.declared.symbol.Symbol.TheVariants.{Equals, Bar
 ghost use Rattle.hume_base.specs.declared.keyword.Keyword.TheVariants.{To};
 ghost use Rattle.hume_base.specs.declared.token.Kind.TheVariants.{Word, Sign};
 ghost use Rattle.hume_ast.specs.Places.{kinds};
-ghost use Rattle.hume_parse.specs.Gives.{Gives};
-ghost use Rattle.hume_grammar.specs.Readers.{made, both, closed, listed, many, maybe, next};
-ghost use Rattle.hume_grammar.specs.Readers.{pick, lower_name, upper_name, port_name};
-ghost use Rattle.hume_grammar.specs.Types.{types};
-ghost use Rattle.hume_grammar.specs.Declarations.{whole_decl as decl_read, sum_of, exn_of, stream_of, wire_of};
-ghost use Rattle.hume_grammar.specs.Declarations.{constructor as constructor_read, starts_type as type_starts};
-ghost use Rattle.hume_grammar.specs.Declarations.{way as way_read, wire_end as end_read, first_value as first_read};
+ghost use Rattle.hume_parse.specs.inner.Gives.{Gives};
+ghost use Rattle.token_readers.specs.inner.Readers.{made, both, closed, listed, many, maybe, next};
+ghost use Rattle.token_readers.specs.inner.Readers.{pick, lower_name, upper_name, port_name};
+ghost use Rattle.token_readers.specs.inner.Types.{types};
+ghost use Rattle.token_readers.specs.inner.Declarations.{whole_decl as decl_read, sum_of, exn_of, stream_of, wire_of};
+ghost use Rattle.token_readers.specs.inner.Declarations.{constructor as constructor_read, starts_type as type_starts};
+ghost use Rattle.token_readers.specs.inner.Declarations.{way as way_read, wire_end as end_read, wire_depth as depth_read};
+ghost use Rattle.token_readers.specs.inner.Declarations.{first_value as first_read};
 
 use crate::boxes::box_decl;
-use crate::expressions::{MAX_DEPTH, exp};
-use crate::fault::Fault;
+use crate::expressions::expression;
+use crate::stop::Stop;
 use crate::tokens::{
-    after_sign, after_word, behind, lower, next_is_sign, next_is_word, port, upper,
+    after_sign, after_word, behind, lower, next_is_sign, next_is_word, number, port, upper,
 };
 use crate::types::ty;
 use hume_ast::{Decl, Exp, TyExp};
+use hume_base::limits::MAX_DEPTH;
 use hume_base::{Keyword, Kind, List, Symbol, Text, Token};
 use std::alloc::Global;
 
 /// A declaration of anything but a function from the front of the tokens.
 #[tactic(auto, using(crate::proofs::DeclSteps::whole_steps))]
-pub fn whole_decl(alloc: Global, rest: &[Token]) -> Result<(Decl, &[Token]), Fault>
-    ensures reads { Gives (λ x. (x.0, kinds x.1.now)) result (decl_read 64 (kinds rest.now)) }
+pub fn whole_decl(alloc: Global, rest: &[Token]) -> Result<(Decl, &[Token]), Stop>
+    ensures reads { Gives (λ x. (x.0, kinds x.1.now)) result (decl_read MAX_DEPTH (kinds rest.now)) }
     ensures shorter { IfOk result (λ x. length x.1.now < length rest.now) }
 {
     if next_is_word(rest, Keyword::Data) {
@@ -43,12 +45,12 @@ pub fn whole_decl(alloc: Global, rest: &[Token]) -> Result<(Decl, &[Token]), Fau
     if next_is_word(rest, Keyword::Wire) {
         return wire_decl(alloc, behind(rest));
     }
-    Err(Fault::Syntax(rest.len()))
+    Err(Stop::Syntax(rest.len()))
 }
 
-fn data_decl(alloc: Global, rest: &[Token]) -> Result<(Decl, &[Token]), Fault>
+fn data_decl(alloc: Global, rest: &[Token]) -> Result<(Decl, &[Token]), Stop>
     ensures reads { Gives (λ x. (x.0, kinds x.1.now)) result
-        (made sum_of (both (closed (pick upper_name) (Sign Equals)) (closed (listed Bar (constructor_read 64)) (Sign Semicolon))) (kinds rest.now)) }
+        (made sum_of (both (closed (pick upper_name) (Sign Equals)) (closed (listed Bar (constructor_read MAX_DEPTH)) (Sign Semicolon))) (kinds rest.now)) }
     ensures shorter { IfOk result (λ x. length x.1.now < length rest.now) }
 {
     let (name, rest) = upper(rest)?;
@@ -62,8 +64,8 @@ fn data_decl(alloc: Global, rest: &[Token]) -> Result<(Decl, &[Token]), Fault>
 fn constructors(
     alloc: Global,
     tokens: &[Token],
-) -> Result<(List<(Text, List<TyExp>)>, &[Token]), Fault>
-    ensures reads { Gives (λ x. (x.0, kinds x.1.now)) result (listed Bar (constructor_read 64) (kinds tokens.now)) }
+) -> Result<(List<(Text, List<TyExp>)>, &[Token]), Stop>
+    ensures reads { Gives (λ x. (x.0, kinds x.1.now)) result (listed Bar (constructor_read MAX_DEPTH) (kinds tokens.now)) }
     ensures shorter { IfOk result (λ x. length x.1.now < length tokens.now) }
 {
     let mut items = List::new(alloc);
@@ -78,8 +80,8 @@ fn constructors(
     Ok((items, rest))
 }
 
-fn constructor(alloc: Global, rest: &[Token]) -> Result<((Text, List<TyExp>), &[Token]), Fault>
-    ensures reads { Gives (λ x. (x.0, kinds x.1.now)) result (constructor_read 64 (kinds rest.now)) }
+fn constructor(alloc: Global, rest: &[Token]) -> Result<((Text, List<TyExp>), &[Token]), Stop>
+    ensures reads { Gives (λ x. (x.0, kinds x.1.now)) result (constructor_read MAX_DEPTH (kinds rest.now)) }
     ensures shorter { IfOk result (λ x. length x.1.now < length rest.now) }
 {
     let (name, rest) = upper(rest)?;
@@ -88,8 +90,8 @@ fn constructor(alloc: Global, rest: &[Token]) -> Result<((Text, List<TyExp>), &[
 }
 
 /// Types side by side, or none.
-fn types_beside(alloc: Global, tokens: &[Token]) -> Result<(List<TyExp>, &[Token]), Fault>
-    ensures reads { Gives (λ x. (x.0, kinds x.1.now)) result (many type_starts (types 64) (kinds tokens.now)) }
+fn types_beside(alloc: Global, tokens: &[Token]) -> Result<(List<TyExp>, &[Token]), Stop>
+    ensures reads { Gives (λ x. (x.0, kinds x.1.now)) result (many type_starts (types MAX_DEPTH) (kinds tokens.now)) }
     ensures shorter { IfOk result (λ x. length x.1.now ≤ length tokens.now) }
 {
     let mut items = List::new(alloc);
@@ -102,9 +104,9 @@ fn types_beside(alloc: Global, tokens: &[Token]) -> Result<(List<TyExp>, &[Token
     Ok((items, rest))
 }
 
-fn exception_decl(alloc: Global, rest: &[Token]) -> Result<(Decl, &[Token]), Fault>
+fn exception_decl(alloc: Global, rest: &[Token]) -> Result<(Decl, &[Token]), Stop>
     ensures reads { Gives (λ x. (x.0, kinds x.1.now)) result
-        (made exn_of (both (pick upper_name) (closed (maybe type_starts (types 64)) (Sign Semicolon))) (kinds rest.now)) }
+        (made exn_of (both (pick upper_name) (closed (maybe type_starts (types MAX_DEPTH)) (Sign Semicolon))) (kinds rest.now)) }
     ensures shorter { IfOk result (λ x. length x.1.now < length rest.now) }
 {
     let (name, rest) = upper(rest)?;
@@ -115,8 +117,8 @@ fn exception_decl(alloc: Global, rest: &[Token]) -> Result<(Decl, &[Token]), Fau
 
 /// The type that an exception carries, if it carries one.
 #[tactic(auto, using(crate::proofs::DeclSteps::carried_steps))]
-fn carried(alloc: Global, rest: &[Token]) -> Result<(Option<TyExp>, &[Token]), Fault>
-    ensures reads { Gives (λ x. (x.0, kinds x.1.now)) result (maybe type_starts (types 64) (kinds rest.now)) }
+fn carried(alloc: Global, rest: &[Token]) -> Result<(Option<TyExp>, &[Token]), Stop>
+    ensures reads { Gives (λ x. (x.0, kinds x.1.now)) result (maybe type_starts (types MAX_DEPTH) (kinds rest.now)) }
     ensures shorter { IfOk result (λ x. length x.1.now ≤ length rest.now) }
 {
     if starts_type(rest) {
@@ -126,7 +128,7 @@ fn carried(alloc: Global, rest: &[Token]) -> Result<(Option<TyExp>, &[Token]), F
     Ok((None, rest))
 }
 
-fn stream_decl(rest: &[Token]) -> Result<(Decl, &[Token]), Fault>
+fn stream_decl(rest: &[Token]) -> Result<(Decl, &[Token]), Stop>
     ensures reads { Gives (λ x. (x.0, kinds x.1.now)) result
         (made stream_of (both (pick lower_name) (both way_read (closed (pick port_name) (Sign Semicolon)))) (kinds rest.now)) }
     ensures shorter { IfOk result (λ x. length x.1.now < length rest.now) }
@@ -140,7 +142,7 @@ fn stream_decl(rest: &[Token]) -> Result<(Decl, &[Token]), Fault>
 
 /// Whether a stream comes in.
 #[tactic(auto, using(crate::proofs::DeclSteps::way_steps))]
-fn way(rest: &[Token]) -> Result<(bool, &[Token]), Fault>
+fn way(rest: &[Token]) -> Result<(bool, &[Token]), Stop>
     ensures reads { Gives (λ x. (x.0, kinds x.1.now)) result (way_read (kinds rest.now)) }
     ensures shorter { IfOk result (λ x. length x.1.now < length rest.now) }
 {
@@ -151,22 +153,23 @@ fn way(rest: &[Token]) -> Result<(bool, &[Token]), Fault>
     Ok((false, rest))
 }
 
-fn wire_decl(alloc: Global, rest: &[Token]) -> Result<(Decl, &[Token]), Fault>
+fn wire_decl(alloc: Global, rest: &[Token]) -> Result<(Decl, &[Token]), Stop>
     ensures reads { Gives (λ x. (x.0, kinds x.1.now)) result
-        (made wire_of (both (closed end_read (Word To)) (both end_read (closed (first_read 64) (Sign Semicolon)))) (kinds rest.now)) }
+        (made wire_of (both (closed end_read (Word To)) (both end_read (both depth_read (closed (first_read MAX_DEPTH) (Sign Semicolon))))) (kinds rest.now)) }
     ensures shorter { IfOk result (λ x. length x.1.now < length rest.now) }
 {
     let (source, rest) = wire_end(rest)?;
     let rest = after_word(rest, Keyword::To)?;
     let (target, rest) = wire_end(rest)?;
+    let (depth, rest) = wire_depth(rest)?;
     let (initial, rest) = first_value(alloc, rest)?;
     let rest = after_sign(rest, Symbol::Semicolon)?;
-    Ok((Decl::Wire(source, target, initial), rest))
+    Ok((Decl::Wire(source, target, depth, initial), rest))
 }
 
 /// An end of a wire: a box with its port, or a stream alone.
 #[tactic(auto, using(crate::proofs::DeclSteps::end_steps))]
-fn wire_end(rest: &[Token]) -> Result<((Text, Option<Text>), &[Token]), Fault>
+fn wire_end(rest: &[Token]) -> Result<((Text, Option<Text>), &[Token]), Stop>
     ensures reads { Gives (λ x. (x.0, kinds x.1.now)) result (end_read (kinds rest.now)) }
     ensures shorter { IfOk result (λ x. length x.1.now < length rest.now) }
 {
@@ -178,15 +181,28 @@ fn wire_end(rest: &[Token]) -> Result<((Text, Option<Text>), &[Token]), Fault>
     Ok(((name, None), rest))
 }
 
+/// How many values a wire holds, if that is said.
+#[tactic(auto, using(crate::proofs::DeclSteps::depth_steps))]
+fn wire_depth(rest: &[Token]) -> Result<(Option<u64>, &[Token]), Stop>
+    ensures reads { Gives (λ x. (x.0, kinds x.1.now)) result (depth_read (kinds rest.now)) }
+    ensures shorter { IfOk result (λ x. length x.1.now ≤ length rest.now) }
+{
+    if next_is_sign(rest, Symbol::At) {
+        let (depth, rest) = number(behind(rest))?;
+        return Ok((Some(depth), rest));
+    }
+    Ok((None, rest))
+}
+
 /// The first value of a wire, if it has one.
 #[tactic(auto, using(crate::proofs::DeclSteps::first_steps))]
-fn first_value(alloc: Global, rest: &[Token]) -> Result<(Option<Exp>, &[Token]), Fault>
-    ensures reads { Gives (λ x. (x.0, kinds x.1.now)) result (first_read 64 (kinds rest.now)) }
+fn first_value(alloc: Global, rest: &[Token]) -> Result<(Option<Exp>, &[Token]), Stop>
+    ensures reads { Gives (λ x. (x.0, kinds x.1.now)) result (first_read MAX_DEPTH (kinds rest.now)) }
     ensures shorter { IfOk result (λ x. length x.1.now ≤ length rest.now) }
 {
     if next_is_word(rest, Keyword::Initial) {
-        let found = exp(alloc, behind(rest), MAX_DEPTH)?;
-        return Ok((Some(found.exp), found.rest));
+        let (exp, rest) = expression(alloc, behind(rest))?;
+        return Ok((Some(exp), rest));
     }
     Ok((None, rest))
 }

@@ -1,713 +1,373 @@
-ghost use Rattle.std.specs.Prelude.{◌≡◌, ◌≢◌, ◌+◌, ◌-◌, ◌<◌, ◌≤◌, ◌∷◌, length, map, max, IfOk, Some, None};
-ghost use Rattle.hume_base.specs.declared.keyword.Keyword.TheVariants.{In, Then, Else, Of, End};
-ghost use Rattle.hume_base.specs.declared.symbol.Symbol.TheVariants.{Equals, Comma, CloseParen, CloseAngles, Bar};
-ghost use Rattle.hume_base.specs.declared.token.Kind.TheVariants.{Word, Sign};
-ghost use Rattle.hume_ast.specs.Depth.{exp_depth, deepest};
+ghost use Rattle.std.specs.Prelude.{◌≡◌, ◌+◌, ◌-◌, ◌<◌, ◌≤◌, ◌∷◌, length, IfOk, Some};
+ghost use Rattle.hume_base.specs.declared.keyword.Keyword.TheVariants.{Of};
+ghost use Rattle.hume_base.specs.declared.token.Kind.TheVariants.{Word};
 ghost use Rattle.hume_ast.specs.declared.tree.Exp.{roll-Exp, out-Exp};
-ghost use Rattle.hume_ast.specs.declared.tree.Exp.TheOpen.{Exp-F};
+ghost use Rattle.hume_ast.specs.Fits.{op_level as level_of};
 ghost use Rattle.hume_ast.specs.Places.{kinds};
-ghost use Rattle.hume_parse.specs.Gives.{Gives};
-ghost use Rattle.hume_parse.specs.Found.{found, found_two, found_list, found_alternative, found_alternatives, alternatives_depth};
-ghost use Rattle.hume_grammar.specs.Readers.{made, both, closed, listed, many, maybe, led, alternatives, pick, next, is_sign, lower_name, upper_name};
-ghost use Rattle.hume_grammar.specs.Types.{types};
-ghost use Rattle.hume_grammar.specs.Patterns.{patterns};
-ghost use Rattle.hume_grammar.specs.Expressions.{exps, at_level, let_of, if_of, case_of, alternative, raise_of, minus_ways, next_operator as operator_read, one_operand, starts_atom as atom_starts, update_of, exp_in_parens, tail_ways, exp_leaf as leaf_said, begins_part as part_begins};
+ghost use Rattle.hume_parse.specs.inner.Climbing.{operand_level};
+ghost use Rattle.hume_parse.specs.inner.Gives.{Gives};
+ghost use Rattle.hume_parse.specs.inner.Parts.{let_parts, if_parts, case_parts, case_alternatives, raise_parts, update_parts, other_parts, minus_parts, parens_parts, vect_parts};
+ghost use Rattle.token_readers.specs.inner.Readers.{made, closed, many};
+ghost use Rattle.token_readers.specs.inner.Patterns.{patterns};
+ghost use Rattle.token_readers.specs.inner.Expressions.{exps, at_level, alternative as alternative_read, starts_atom as atom_starts, with_operator};
 
-use crate::fault::Fault;
-use crate::operators::{next_is_lower, next_is_number, next_operator, starts_atom};
-use crate::patterns::{next_is_upper, pattern};
-use crate::tokens::{
-    after_sign, after_word, behind, lower, next_is_sign, next_is_word, number, upper,
+use crate::leaves::{
+    closed_type, head, name_and_equals, negative_number, part_stop, pattern_and_arrow, plain_atom,
 };
+use crate::operators::{
+    are_parts_too_deep, first_limit, is_form_too_deep, limit_behind, next_is_name, next_is_number,
+    next_operator, right_level, starts_atom,
+};
+use crate::stop::Stop;
+use crate::tokens::{after_sign, after_word, behind, next_is_sign, next_is_word, upper};
 use crate::trees::{
-    binary_tree, cast_tree, if_tree, in_parens, let_tree, raise_tree, update_tree, with_first,
+    Alternatives, Tree, Trees, binary_tree, call_tree, case_tree, cast_tree, if_tree, let_tree,
+    neg_tree, not_tree, parens_tree, raise_tree, update_tree, vect_tree,
 };
-use crate::types::ty;
-use hume_ast::{BinOp, Exp, Pat, TyExp};
-use hume_base::{Box, Keyword, Kind, List, Symbol, Text, Token};
+use hume_ast::{BinOp, Exp, Pat};
+use hume_base::limits::MAX_DEPTH;
+use hume_base::{Keyword, Symbol, Token};
 use std::alloc::Global;
 
-/// How deep types, patterns and expressions may be.
-pub const MAX_DEPTH: u32 = 64;
-
-/// An expression, how deep it is, and the tokens behind it.
-#[derive(Drop)]
-pub struct Found<'a> {
-    pub exp: Exp,
-    pub depth: u32,
-    pub rest: &'a [Token],
-}
-
-/// Two expressions, how deep the deeper one is, and the tokens behind them.
-#[derive(Drop)]
-pub struct FoundTwo<'a> {
-    pub first: Exp,
-    pub second: Exp,
-    pub depth: u32,
-    pub rest: &'a [Token],
-}
-
-/// Expressions, how deep the deepest is, and the tokens behind them.
-#[derive(Drop)]
-pub struct FoundList<'a> {
-    pub items: List<Exp>,
-    pub depth: u32,
-    pub rest: &'a [Token],
-}
-
-/// An alternative of a `case`, how deep its expression is, and the tokens behind it.
-#[derive(Drop)]
-pub struct FoundAlternative<'a> {
-    pub pattern: Pat,
-    pub exp: Exp,
-    pub depth: u32,
-    pub rest: &'a [Token],
-}
-
-/// Alternatives of a `case`, how deep their deepest expression is, and the tokens behind them.
-#[derive(Drop)]
-pub struct FoundAlternatives<'a> {
-    pub items: List<(Pat, Exp)>,
-    pub depth: u32,
-    pub rest: &'a [Token],
+/// An expression from the front of the tokens.
+pub fn expression(alloc: Global, rest: &[Token]) -> Result<(Exp, &[Token]), Stop>
+    ensures reads { Gives (λ x. (x.0, kinds x.1.now)) result ((exps MAX_DEPTH).whole (kinds rest.now)) }
+    ensures shorter { IfOk result (λ x. length x.1.now ≤ length rest.now) }
+{
+    let (found, rest) = exp(alloc, rest, MAX_DEPTH)?;
+    Ok((found.exp, rest))
 }
 
 /// An expression from the front of the tokens, at most so deep.
 #[cycle(expressions)]
 #[tactic(auto, using(crate::proofs::ExpSteps::whole_steps))]
-pub fn exp(alloc: Global, rest: &[Token], room: u32) -> Result<Found<'_>, Fault>
+fn exp(alloc: Global, rest: &[Token], room: u32) -> Result<(Tree, &[Token]), Stop>
     requires some { 0 < room }
-    ensures reads { Gives found result ((exps room).whole (kinds rest.now)) }
-    ensures deep { IfOk result (λ f. f.depth ≡ exp_depth f.exp) }
-    ensures small { IfOk result (λ f. f.depth ≤ room) }
-    ensures shorter { IfOk result (λ f. length f.rest.now < length rest.now) }
+    ensures { Gives (λ x. (x.0.exp, kinds x.1.now)) result ((exps room).whole (kinds rest.now)) }
 {
+    if is_form_too_deep(rest, room) {
+        return Err(Stop::Deep(rest.len()));
+    }
     if next_is_word(rest, Keyword::Let) {
-        if room == 1 {
-            return Err(Fault::Deep(rest.len()));
-        }
-        return let_exp(alloc, behind(rest), room);
+        return let_exp(alloc, behind(rest), room - 1);
     }
     if next_is_word(rest, Keyword::If) {
-        if room == 1 {
-            return Err(Fault::Deep(rest.len()));
-        }
-        return if_exp(alloc, behind(rest), room);
+        return if_exp(alloc, behind(rest), room - 1);
     }
     if next_is_word(rest, Keyword::Case) {
-        if room == 1 {
-            return Err(Fault::Deep(rest.len()));
-        }
-        return case_exp(alloc, behind(rest), room);
+        return case_exp(alloc, behind(rest), room - 1);
     }
     if next_is_word(rest, Keyword::Raise) {
-        return raise_exp(alloc, behind(rest), room);
+        return raise_exp(alloc, behind(rest), room - 1);
     }
-    operand(alloc, rest, 2, room)
+    operation(alloc, rest, 2, room)
+}
+
+/// An expression with a keyword behind it.
+#[cycle(expressions)]
+fn exp_before(
+    alloc: Global,
+    rest: &[Token],
+    keyword: Keyword,
+    room: u32,
+) -> Result<(Tree, &[Token]), Stop>
+    requires some { 0 < room }
+    ensures { Gives (λ x. (x.0.exp, kinds x.1.now)) result (closed (exps room).whole (Word keyword) (kinds rest.now)) }
+{
+    let (found, rest) = exp(alloc, rest, room)?;
+    let rest = after_word(rest, keyword)?;
+    Ok((found, rest))
 }
 
 #[cycle(expressions)]
 #[tactic(auto, using(crate::proofs::ExpSteps::let_steps))]
-fn let_exp(alloc: Global, rest: &[Token], room: u32) -> Result<Found<'_>, Fault>
-    requires some { 1 < room }
-    ensures reads { Gives found result (made roll-Exp (made let_of (both (closed (pick lower_name) (Sign Equals)) (both (closed (exps (room - 1)).whole (Word In)) (exps (room - 1)).whole))) (kinds rest.now)) }
-    ensures deep { IfOk result (λ f. f.depth ≡ exp_depth f.exp) }
-    ensures small { IfOk result (λ f. f.depth ≤ room) }
-    ensures shorter { IfOk result (λ f. length f.rest.now < length rest.now) }
+fn let_exp(alloc: Global, rest: &[Token], room: u32) -> Result<(Tree, &[Token]), Stop>
+    requires some { 0 < room }
+    ensures { Gives (λ x. (x.0.exp, kinds x.1.now)) result (let_parts room (kinds rest.now)) }
 {
-    let (name, rest) = lower(rest)?;
-    let rest = after_sign(rest, Symbol::Equals)?;
-    let value = exp(alloc, rest, room - 1)?;
-    let rest = after_word(value.rest, Keyword::In)?;
-    let body = exp(alloc, rest, room - 1)?;
-    let depth = 1 + value.depth.max(body.depth);
-    let exp = let_tree(alloc, name, value.exp, body.exp)?;
-    Ok(Found {
-        exp,
-        depth,
-        rest: body.rest,
-    })
+    let (name, rest) = name_and_equals(rest)?;
+    let (value, rest) = exp_before(alloc, rest, Keyword::In, room)?;
+    let (body, rest) = exp(alloc, rest, room)?;
+    Ok((let_tree(alloc, name, value, body)?, rest))
 }
 
 #[cycle(expressions)]
 #[tactic(auto, using(crate::proofs::ExpSteps::if_steps))]
-fn if_exp(alloc: Global, rest: &[Token], room: u32) -> Result<Found<'_>, Fault>
-    requires some { 1 < room }
-    ensures reads { Gives found result (made roll-Exp (made if_of (both (closed (exps (room - 1)).whole (Word Then)) (both (closed (exps (room - 1)).whole (Word Else)) (exps (room - 1)).whole))) (kinds rest.now)) }
-    ensures deep { IfOk result (λ f. f.depth ≡ exp_depth f.exp) }
-    ensures small { IfOk result (λ f. f.depth ≤ room) }
-    ensures shorter { IfOk result (λ f. length f.rest.now < length rest.now) }
-{
-    let test = exp(alloc, rest, room - 1)?;
-    let rest = after_word(test.rest, Keyword::Then)?;
-    let found = branches(alloc, rest, room - 1)?;
-    let depth = 1 + test.depth.max(found.depth);
-    let exp = if_tree(alloc, test.exp, found.first, found.second)?;
-    Ok(Found {
-        exp,
-        depth,
-        rest: found.rest,
-    })
-}
-
-#[cycle(expressions)]
-fn branches(alloc: Global, rest: &[Token], room: u32) -> Result<FoundTwo<'_>, Fault>
+fn if_exp(alloc: Global, rest: &[Token], room: u32) -> Result<(Tree, &[Token]), Stop>
     requires some { 0 < room }
-    ensures reads { Gives found_two result (both (closed (exps room).whole (Word Else)) (exps room).whole (kinds rest.now)) }
-    ensures deep { IfOk result (λ f. f.depth ≡ max (exp_depth f.first) (exp_depth f.second)) }
-    ensures small { IfOk result (λ f. f.depth ≤ room) }
-    ensures shorter { IfOk result (λ f. length f.rest.now < length rest.now) }
+    ensures { Gives (λ x. (x.0.exp, kinds x.1.now)) result (if_parts room (kinds rest.now)) }
 {
-    let first = exp(alloc, rest, room)?;
-    let rest = after_word(first.rest, Keyword::Else)?;
-    let second = exp(alloc, rest, room)?;
-    let depth = first.depth.max(second.depth);
-    Ok(FoundTwo {
-        first: first.exp,
-        second: second.exp,
-        depth,
-        rest: second.rest,
-    })
+    let (test, rest) = exp_before(alloc, rest, Keyword::Then, room)?;
+    let (first, rest) = exp_before(alloc, rest, Keyword::Else, room)?;
+    let (second, rest) = exp(alloc, rest, room)?;
+    Ok((if_tree(alloc, test, first, second)?, rest))
 }
 
 #[cycle(expressions)]
 #[tactic(auto, using(crate::proofs::ExpSteps::case_steps))]
-fn case_exp(alloc: Global, rest: &[Token], room: u32) -> Result<Found<'_>, Fault>
-    requires some { 1 < room }
-    ensures reads { Gives found result (made roll-Exp (made case_of (both (closed (exps (room - 1)).whole (Word Of)) (closed (listed Bar (alternative (patterns 64).whole (exps (room - 1)).whole)) (Word End)))) (kinds rest.now)) }
-    ensures deep { IfOk result (λ f. f.depth ≡ exp_depth f.exp) }
-    ensures small { IfOk result (λ f. f.depth ≤ room) }
-    ensures shorter { IfOk result (λ f. length f.rest.now < length rest.now) }
+fn case_exp(alloc: Global, rest: &[Token], room: u32) -> Result<(Tree, &[Token]), Stop>
+    requires some { 0 < room }
+    ensures { Gives (λ x. (x.0.exp, kinds x.1.now)) result (case_parts room (kinds rest.now)) }
 {
-    let subject = exp(alloc, rest, room - 1)?;
-    let rest = after_word(subject.rest, Keyword::Of)?;
-    let found = case_alternatives(alloc, rest, room - 1)?;
-    let rest = after_word(found.rest, Keyword::End)?;
-    let depth = 1 + subject.depth.max(found.depth);
-    let exp = Exp::Case(Box::new(alloc, subject.exp)?, found.items);
-    Ok(Found { exp, depth, rest })
+    let (subject, rest) = exp_before(alloc, rest, Keyword::Of, room)?;
+    let (found, rest) = alternatives(alloc, rest, room)?;
+    Ok((case_tree(alloc, subject, found)?, rest))
 }
 
+/// The alternatives of a `case`, and its end.
 #[cycle(expressions)]
-#[tactic(auto, using(crate::proofs::ExpSteps::list_steps))]
-fn case_alternatives(
+fn alternatives(
     alloc: Global,
     tokens: &[Token],
     room: u32,
-) -> Result<FoundAlternatives<'_>, Fault>
+) -> Result<(Alternatives, &[Token]), Stop>
     requires some { 0 < room }
-    ensures reads { Gives found_alternatives result (listed Bar (alternative (patterns 64).whole (exps room).whole) (kinds tokens.now)) }
-    ensures deep { IfOk result (λ f. f.depth ≡ alternatives_depth f.items) }
-    ensures small { IfOk result (λ f. f.depth ≤ room) }
-    ensures shorter { IfOk result (λ f. length f.rest.now < length tokens.now) }
+    ensures { Gives (λ x. (x.0.items, kinds x.1.now)) result (case_alternatives room (kinds tokens.now)) }
 {
-    let mut items = List::new(alloc);
-    let first = case_alternative(alloc, tokens, room)?;
-    let mut depth = first.depth;
-    let mut rest = first.rest;
-    items.push((first.pattern, first.exp))?;
+    let ((pattern, body), after) = alternative(alloc, tokens, room)?;
+    let mut found = Alternatives::new(alloc).with(pattern, body)?;
+    let mut rest = after;
     'items: while next_is_sign(rest, Symbol::Bar) {
-        let item = case_alternative(alloc, behind(rest), room)?;
-        items.push((item.pattern, item.exp))?;
-        depth = depth.max(item.depth);
-        rest = item.rest;
+        let ((pattern, body), after) = alternative(alloc, behind(rest), room)?;
+        found = found.with(pattern, body)?;
+        rest = after;
     }
-    Ok(FoundAlternatives { items, depth, rest })
+    let rest = after_word(rest, Keyword::End)?;
+    Ok((found, rest))
 }
 
 #[cycle(expressions)]
-#[tactic(auto, using(crate::proofs::ExpSteps::list_steps))]
-fn case_alternative(alloc: Global, rest: &[Token], room: u32) -> Result<FoundAlternative<'_>, Fault>
+fn alternative(alloc: Global, rest: &[Token], room: u32) -> Result<((Pat, Tree), &[Token]), Stop>
     requires some { 0 < room }
-    ensures reads { Gives found_alternative result (alternative (patterns 64).whole (exps room).whole (kinds rest.now)) }
-    ensures deep { IfOk result (λ f. f.depth ≡ exp_depth f.exp) }
-    ensures small { IfOk result (λ f. f.depth ≤ room) }
-    ensures shorter { IfOk result (λ f. length f.rest.now < length rest.now) }
+    ensures { Gives (λ x. ((x.0.0, x.0.1.exp), kinds x.1.now)) result
+        (alternative_read (patterns MAX_DEPTH).whole (exps room).whole (kinds rest.now)) }
 {
-    let (pattern, rest) = pattern(alloc, rest, MAX_DEPTH)?;
-    let rest = after_sign(rest, Symbol::Arrow)?;
-    let body = exp(alloc, rest, room)?;
-    Ok(FoundAlternative {
-        pattern,
-        exp: body.exp,
-        depth: body.depth,
-        rest: body.rest,
-    })
+    let (pattern, rest) = pattern_and_arrow(alloc, rest)?;
+    let (body, rest) = exp(alloc, rest, room)?;
+    Ok(((pattern, body), rest))
 }
 
 #[cycle(expressions)]
 #[tactic(auto, using(crate::proofs::ExpSteps::raise_steps))]
-fn raise_exp(alloc: Global, rest: &[Token], room: u32) -> Result<Found<'_>, Fault>
-    requires some { 0 < room }
-    ensures reads { Gives found result (made roll-Exp (made raise_of (both (pick upper_name) (maybe atom_starts (exps (room - 1)).atom))) (kinds rest.now)) }
-    ensures deep { IfOk result (λ f. f.depth ≡ exp_depth f.exp) }
-    ensures small { IfOk result (λ f. f.depth ≤ room) }
-    ensures shorter { IfOk result (λ f. length f.rest.now < length rest.now) }
+fn raise_exp(alloc: Global, rest: &[Token], room: u32) -> Result<(Tree, &[Token]), Stop>
+    ensures { Gives (λ x. (x.0.exp, kinds x.1.now)) result (raise_parts room (kinds rest.now)) }
 {
     let (name, rest) = upper(rest)?;
     if !starts_atom(rest) {
-        return Ok(Found {
-            exp: Exp::Raise(name, None),
-            depth: 1,
-            rest,
-        });
+        return Ok((Tree::leaf(Exp::Raise(name, None)), rest));
     }
-    let value = atom(alloc, rest, room - 1)?;
-    let exp = raise_tree(alloc, name, value.exp)?;
-    Ok(Found {
-        exp,
-        depth: 1 + value.depth,
-        rest: value.rest,
-    })
+    let (value, rest) = atom(alloc, rest, room)?;
+    Ok((raise_tree(alloc, name, value)?, rest))
 }
 
+/// Parts of a level with the operators of this level and of tighter ones between them, at most so deep.
 #[cycle(expressions)]
-#[tactic(auto, using(crate::proofs::ExpSteps::level_steps))]
-fn operand(alloc: Global, rest: &[Token], level: u32, room: u32) -> Result<Found<'_>, Fault>
+fn operation(
+    alloc: Global,
+    tokens: &[Token],
+    level: u32,
+    room: u32,
+) -> Result<(Tree, &[Token]), Stop>
     requires some { 0 < room }
     requires low { 2 ≤ level }
     requires high { level ≤ 9 }
-    ensures reads { Gives found result (at_level level (exps room) (kinds rest.now)) }
-    ensures deep { IfOk result (λ f. f.depth ≡ exp_depth f.exp) }
-    ensures small { IfOk result (λ f. f.depth ≤ room) }
-    ensures shorter { IfOk result (λ f. length f.rest.now < length rest.now) }
+    ensures { Gives (λ x. (x.0.exp, kinds x.1.now)) result (at_level level (exps room) (kinds tokens.now)) }
 {
-    if level == 4 {
-        return comparison(alloc, rest, room);
+    let (first, after) = operand(alloc, tokens, level, room)?;
+    let mut left = first;
+    let mut rest = after;
+    let mut limit = first_limit(level);
+    'operators: while let Some(operator) = next_operator(rest, level, limit) {
+        let (whole, after) = with_right(alloc, operator, left, rest, room - 1)?;
+        left = whole;
+        rest = after;
+        limit = limit_behind(operator);
     }
-    if level == 7 {
+    Ok((left, rest))
+}
+
+/// What stands between the operators of the level and of tighter ones.
+#[cycle(expressions)]
+#[tactic(auto, using(crate::proofs::ExpSteps::operand_steps))]
+fn operand(alloc: Global, rest: &[Token], level: u32, room: u32) -> Result<(Tree, &[Token]), Stop>
+    requires some { 0 < room }
+    ensures { Gives (λ x. (x.0.exp, kinds x.1.now)) result (at_level (operand_level level) (exps room) (kinds rest.now)) }
+{
+    if level <= 7 {
         return unary(alloc, rest, room);
     }
-    if level == 9 {
-        return app(alloc, rest, room);
-    }
-    chain(alloc, rest, level, room)
+    app(alloc, rest, room)
 }
 
-#[cycle(expressions)]
-#[tactic(auto, using(crate::proofs::ExpSteps::chain_steps))]
-fn chain(alloc: Global, tokens: &[Token], level: u32, room: u32) -> Result<Found<'_>, Fault>
-    requires some { 0 < room }
-    requires low { 2 ≤ level }
-    requires high { level ≤ 8 }
-    requires grouped { level ≢ 4 }
-    requires infix { level ≢ 7 }
-    ensures reads { Gives found result (at_level level (exps room) (kinds tokens.now)) }
-    ensures deep { IfOk result (λ f. f.depth ≡ exp_depth f.exp) }
-    ensures small { IfOk result (λ f. f.depth ≤ room) }
-    ensures shorter { IfOk result (λ f. length f.rest.now < length tokens.now) }
-{
-    let first = operand(alloc, tokens, level + 1, room)?;
-    let mut left = first.exp;
-    let mut depth = first.depth;
-    let mut rest = first.rest;
-    'operands: while let Some(operator) = next_operator(rest, level) {
-        let found = with_right(alloc, operator, left, depth, rest, level, room)?;
-        left = found.exp;
-        depth = found.depth;
-        rest = found.rest;
-    }
-    Ok(Found {
-        exp: left,
-        depth,
-        rest,
-    })
-}
-
+/// The left part with the operator that is next and its right part.
 #[cycle(expressions)]
 #[tactic(auto, using(crate::proofs::ExpSteps::right_steps))]
 fn with_right(
     alloc: Global,
     operator: BinOp,
-    left: Exp,
-    depth: u32,
+    left: Tree,
     rest: &[Token],
-    level: u32,
     room: u32,
-) -> Result<Found<'_>, Fault>
-    requires some { 0 < room }
-    requires low { 2 ≤ level }
-    requires high { level ≤ 8 }
-    requires next { operator_read level (kinds rest.now) ≡ Some operator }
-    requires deep { depth ≡ exp_depth left }
-    requires more { 0 < length rest.now }
-    ensures reads { Gives found result (made roll-Exp (one_operand level (room - 1) (at_level (level + 1) (exps (room - 1))) (out-Exp left)) (kinds rest.now)) }
-    ensures deep { IfOk result (λ f. f.depth ≡ exp_depth f.exp) }
-    ensures small { IfOk result (λ f. f.depth ≤ room) }
-    ensures shorter { IfOk result (λ f. length f.rest.now < length rest.now) }
+) -> Result<(Tree, &[Token]), Stop>
+    requires { room < 4294967295 }
+    ensures { Gives (λ x. (x.0.exp, kinds x.1.now)) result
+        (made roll-Exp (with_operator (Some operator) room (at_level (level_of operator + 1) (exps room)) (out-Exp left.exp)) (kinds rest.now)) }
 {
-    if depth >= room {
-        return Err(Fault::Deep(rest.len()));
+    if !left.leaves_room(room) {
+        return Err(Stop::Deep(rest.len()));
     }
-    let right = operand(alloc, behind(rest), level + 1, room - 1)?;
-    let depth = 1 + depth.max(right.depth);
-    let exp = binary_tree(alloc, operator, left, right.exp)?;
-    Ok(Found {
-        exp,
-        depth,
-        rest: right.rest,
-    })
-}
-
-#[cycle(expressions)]
-#[tactic(auto, using(crate::proofs::ExpSteps::comparison_steps))]
-fn comparison(alloc: Global, rest: &[Token], room: u32) -> Result<Found<'_>, Fault>
-    requires some { 0 < room }
-    ensures reads { Gives found result ((exps room).comparison (kinds rest.now)) }
-    ensures deep { IfOk result (λ f. f.depth ≡ exp_depth f.exp) }
-    ensures small { IfOk result (λ f. f.depth ≤ room) }
-    ensures shorter { IfOk result (λ f. length f.rest.now < length rest.now) }
-{
-    let left = operand(alloc, rest, 5, room)?;
-    match next_operator(left.rest, 4) {
-        None => Ok(left),
-        Some(operator) => with_right(alloc, operator, left.exp, left.depth, left.rest, 4, room),
-    }
+    let (right, rest) = operation(alloc, behind(rest), right_level(operator), room)?;
+    Ok((binary_tree(alloc, operator, left, right)?, rest))
 }
 
 #[cycle(expressions)]
 #[tactic(auto, using(crate::proofs::ExpSteps::unary_steps))]
-fn unary(alloc: Global, rest: &[Token], room: u32) -> Result<Found<'_>, Fault>
-    ensures reads { Gives found result ((exps room).unary (kinds rest.now)) }
-    ensures deep { IfOk result (λ f. f.depth ≡ exp_depth f.exp) }
-    ensures small { IfOk result (λ f. f.depth ≤ room) }
-    ensures shorter { IfOk result (λ f. length f.rest.now < length rest.now) }
+fn unary(alloc: Global, rest: &[Token], room: u32) -> Result<(Tree, &[Token]), Stop>
+    ensures { Gives (λ x. (x.0.exp, kinds x.1.now)) result ((exps room).unary (kinds rest.now)) }
 {
     if room == 0 {
-        if begins_part(rest) {
-            return Err(Fault::Deep(rest.len()));
-        }
-        return Err(Fault::Syntax(rest.len()));
+        return Err(part_stop(rest));
     }
     if next_is_sign(rest, Symbol::Minus) {
-        return minus(alloc, behind(rest), room);
+        return minus(alloc, behind(rest), room - 1);
     }
     if next_is_word(rest, Keyword::Not) {
         if room == 1 {
-            return Err(Fault::Deep(rest.len()));
+            return Err(Stop::Deep(rest.len()));
         }
-        let part = unary(alloc, behind(rest), room - 1)?;
-        let exp = Exp::Not(Box::new(alloc, part.exp)?);
-        return Ok(Found {
-            exp,
-            depth: 1 + part.depth,
-            rest: part.rest,
-        });
+        let (part, rest) = unary(alloc, behind(rest), room - 1)?;
+        return Ok((not_tree(alloc, part)?, rest));
     }
-    operand(alloc, rest, 8, room)
+    operation(alloc, rest, 8, room)
 }
 
+/// Behind a minus, a number or a part that is negated.
 #[cycle(expressions)]
 #[tactic(auto, using(crate::proofs::ExpSteps::minus_steps))]
-fn minus(alloc: Global, rest: &[Token], room: u32) -> Result<Found<'_>, Fault>
-    requires some { 0 < room }
-    ensures reads { Gives found result (made roll-Exp (alternatives (minus_ways (exps (room - 1)).unary)) (kinds rest.now)) }
-    ensures deep { IfOk result (λ f. f.depth ≡ exp_depth f.exp) }
-    ensures small { IfOk result (λ f. f.depth ≤ room) }
-    ensures shorter { IfOk result (λ f. length f.rest.now < length rest.now) }
+fn minus(alloc: Global, rest: &[Token], room: u32) -> Result<(Tree, &[Token]), Stop>
+    ensures { Gives (λ x. (x.0.exp, kinds x.1.now)) result (minus_parts room (kinds rest.now)) }
 {
     if next_is_number(rest) {
-        let (amount, rest) = number(rest)?;
-        return Ok(Found {
-            exp: Exp::Num(true, amount),
-            depth: 1,
-            rest,
-        });
+        return negative_number(rest);
     }
-    let part = unary(alloc, rest, room - 1)?;
-    let exp = Exp::Neg(Box::new(alloc, part.exp)?);
-    Ok(Found {
-        exp,
-        depth: 1 + part.depth,
-        rest: part.rest,
-    })
+    let (part, rest) = unary(alloc, rest, room)?;
+    Ok((neg_tree(alloc, part)?, rest))
 }
 
 #[cycle(expressions)]
 #[tactic(auto, using(crate::proofs::ExpSteps::app_steps))]
-fn app(alloc: Global, rest: &[Token], room: u32) -> Result<Found<'_>, Fault>
+fn app(alloc: Global, rest: &[Token], room: u32) -> Result<(Tree, &[Token]), Stop>
     requires some { 0 < room }
-    ensures reads { Gives found result ((exps room).app (kinds rest.now)) }
-    ensures deep { IfOk result (λ f. f.depth ≡ exp_depth f.exp) }
-    ensures small { IfOk result (λ f. f.depth ≤ room) }
-    ensures shorter { IfOk result (λ f. length f.rest.now < length rest.now) }
+    ensures { Gives (λ x. (x.0.exp, kinds x.1.now)) result ((exps room).app (kinds rest.now)) }
 {
-    if next_is_lower(rest) {
-        let (name, rest) = lower(rest)?;
-        let found = arguments(alloc, rest, room - 1)?;
-        return Ok(Found {
-            exp: Exp::App(name, found.items),
-            depth: 1 + found.depth,
-            rest: found.rest,
-        });
-    }
-    if next_is_upper(rest) {
-        let (name, rest) = upper(rest)?;
-        let found = arguments(alloc, rest, room - 1)?;
-        return Ok(Found {
-            exp: Exp::Con(name, found.items),
-            depth: 1 + found.depth,
-            rest: found.rest,
-        });
+    if next_is_name(rest) {
+        let (head, rest) = head(rest)?;
+        let (items, rest) = arguments(alloc, rest, room - 1)?;
+        return Ok((call_tree(head, items), rest));
     }
     if next_is_word(rest, Keyword::Update) {
         if room == 1 {
-            return Err(Fault::Deep(rest.len()));
+            return Err(Stop::Deep(rest.len()));
         }
-        return update(alloc, behind(rest), room);
+        return update(alloc, behind(rest), room - 1);
     }
     if next_is_sign(rest, Symbol::Star) {
-        return Ok(Found {
-            exp: Exp::Star,
-            depth: 1,
-            rest: behind(rest),
-        });
+        return Ok((Tree::leaf(Exp::Star), behind(rest)));
     }
     atom(alloc, rest, room)
 }
 
+/// The arguments of a name.
 #[cycle(expressions)]
-#[tactic(auto, using(crate::proofs::ExpSteps::list_steps))]
-fn arguments(alloc: Global, tokens: &[Token], room: u32) -> Result<FoundList<'_>, Fault>
-    ensures reads { Gives found_list result (many atom_starts (exps room).atom (kinds tokens.now)) }
-    ensures deep { IfOk result (λ f. f.depth ≡ deepest (map exp_depth f.items)) }
-    ensures small { IfOk result (λ f. f.depth ≤ room) }
-    ensures shorter { IfOk result (λ f. length f.rest.now ≤ length tokens.now) }
+fn arguments(alloc: Global, tokens: &[Token], room: u32) -> Result<(Trees, &[Token]), Stop>
+    ensures { Gives (λ x. (x.0.items, kinds x.1.now)) result (many atom_starts (exps room).atom (kinds tokens.now)) }
 {
-    let mut items = List::new(alloc);
-    let mut depth = 0;
+    let mut items = Trees::new(alloc);
     let mut rest = tokens;
     'items: while starts_atom(rest) {
-        let item = atom(alloc, rest, room)?;
-        items.push(item.exp)?;
-        depth = item.depth.max(depth);
-        rest = item.rest;
+        let (item, after) = atom(alloc, rest, room)?;
+        items = items.with(item)?;
+        rest = after;
     }
-    Ok(FoundList { items, depth, rest })
+    Ok((items, rest))
 }
 
 #[cycle(expressions)]
 #[tactic(auto, using(crate::proofs::ExpSteps::update_steps))]
-fn update(alloc: Global, rest: &[Token], room: u32) -> Result<Found<'_>, Fault>
-    requires some { 1 < room }
-    ensures reads { Gives found result (made roll-Exp (made update_of (both (exps (room - 1)).atom (both (exps (room - 1)).atom (exps (room - 1)).atom))) (kinds rest.now)) }
-    ensures deep { IfOk result (λ f. f.depth ≡ exp_depth f.exp) }
-    ensures small { IfOk result (λ f. f.depth ≤ room) }
-    ensures shorter { IfOk result (λ f. length f.rest.now < length rest.now) }
+fn update(alloc: Global, rest: &[Token], room: u32) -> Result<(Tree, &[Token]), Stop>
+    ensures { Gives (λ x. (x.0.exp, kinds x.1.now)) result (update_parts room (kinds rest.now)) }
 {
-    let vector = atom(alloc, rest, room - 1)?;
-    let at = atom(alloc, vector.rest, room - 1)?;
-    let item = atom(alloc, at.rest, room - 1)?;
-    let depth = 1 + vector.depth.max(at.depth.max(item.depth));
-    let exp = update_tree(alloc, vector.exp, at.exp, item.exp)?;
-    Ok(Found {
-        exp,
-        depth,
-        rest: item.rest,
-    })
+    let (vector, rest) = atom(alloc, rest, room)?;
+    let (at, rest) = atom(alloc, rest, room)?;
+    let (item, rest) = atom(alloc, rest, room)?;
+    Ok((update_tree(alloc, vector, at, item)?, rest))
 }
 
 #[cycle(expressions)]
 #[tactic(auto, using(crate::proofs::ExpSteps::atom_steps))]
-fn atom(alloc: Global, rest: &[Token], room: u32) -> Result<Found<'_>, Fault>
-    ensures reads { Gives found result ((exps room).atom (kinds rest.now)) }
-    ensures deep { IfOk result (λ f. f.depth ≡ exp_depth f.exp) }
-    ensures small { IfOk result (λ f. f.depth ≤ room) }
-    ensures shorter { IfOk result (λ f. length f.rest.now < length rest.now) }
+fn atom(alloc: Global, rest: &[Token], room: u32) -> Result<(Tree, &[Token]), Stop>
+    ensures { Gives (λ x. (x.0.exp, kinds x.1.now)) result ((exps room).atom (kinds rest.now)) }
 {
     if room == 0 {
-        return Err(Fault::Deep(rest.len()));
+        return Err(Stop::Deep(rest.len()));
     }
-    if next_is_word(rest, Keyword::True) {
-        return Ok(Found {
-            exp: Exp::Truth(true),
-            depth: 1,
-            rest: behind(rest),
-        });
-    }
-    if next_is_word(rest, Keyword::False) {
-        return Ok(Found {
-            exp: Exp::Truth(false),
-            depth: 1,
-            rest: behind(rest),
-        });
+    if are_parts_too_deep(rest, room) {
+        return Err(Stop::Deep(rest.len()));
     }
     if next_is_sign(rest, Symbol::OpenParen) {
-        if room == 1 {
-            return Err(Fault::Deep(rest.len()));
-        }
-        return parens(alloc, behind(rest), room);
+        return parens(alloc, behind(rest), room - 1);
     }
     if next_is_sign(rest, Symbol::OpenAngles) {
-        if room == 1 {
-            return Err(Fault::Deep(rest.len()));
-        }
-        return vect(alloc, behind(rest), room);
+        return vect(alloc, behind(rest), room - 1);
     }
-    leaf(alloc, rest, room)
+    plain_atom(alloc, rest)
 }
 
 #[cycle(expressions)]
-#[tactic(auto, using(crate::proofs::ExpSteps::cast_steps))]
-fn parens(alloc: Global, rest: &[Token], room: u32) -> Result<Found<'_>, Fault>
-    requires some { 1 < room }
-    ensures reads { Gives found result (made roll-Exp (made exp_in_parens (both (exps (room - 1)).whole (alternatives (tail_ways (types 64) (exps (room - 1)).whole)))) (kinds rest.now)) }
-    ensures deep { IfOk result (λ f. f.depth ≡ exp_depth f.exp) }
-    ensures small { IfOk result (λ f. f.depth ≤ room) }
-    ensures shorter { IfOk result (λ f. length f.rest.now < length rest.now) }
-{
-    let first = exp(alloc, rest, room - 1)?;
-    if next_is_word(first.rest, Keyword::As) {
-        let (type_exp, rest) = closed_type(alloc, behind(first.rest))?;
-        let exp = cast_tree(alloc, first.exp, type_exp)?;
-        return Ok(Found {
-            exp,
-            depth: 1 + first.depth,
-            rest,
-        });
-    }
-    let found = closed_others(alloc, first.rest, room - 1)?;
-    let depth = 1 + first.depth.max(found.depth);
-    let exp = in_parens(alloc, first.exp, found.items)?;
-    Ok(Found {
-        exp,
-        depth,
-        rest: found.rest,
-    })
-}
-
-#[cycle(expressions)]
-fn closed_others(alloc: Global, rest: &[Token], room: u32) -> Result<FoundList<'_>, Fault>
+#[tactic(auto, using(crate::proofs::ExpSteps::parens_steps))]
+fn parens(alloc: Global, rest: &[Token], room: u32) -> Result<(Tree, &[Token]), Stop>
     requires some { 0 < room }
-    ensures reads { Gives found_list result (closed (many (is_sign Comma) (led (Sign Comma) (exps room).whole)) (Sign CloseParen) (kinds rest.now)) }
-    ensures deep { IfOk result (λ f. f.depth ≡ deepest (map exp_depth f.items)) }
-    ensures small { IfOk result (λ f. f.depth ≤ room) }
-    ensures shorter { IfOk result (λ f. length f.rest.now < length rest.now) }
+    ensures { Gives (λ x. (x.0.exp, kinds x.1.now)) result (parens_parts room (kinds rest.now)) }
 {
-    let found = others(alloc, rest, room)?;
-    let rest = after_sign(found.rest, Symbol::CloseParen)?;
-    Ok(FoundList {
-        items: found.items,
-        depth: found.depth,
-        rest,
-    })
+    let (first, rest) = exp(alloc, rest, room)?;
+    if next_is_word(rest, Keyword::As) {
+        let (type_exp, rest) = closed_type(alloc, behind(rest))?;
+        return Ok((cast_tree(alloc, first, type_exp)?, rest));
+    }
+    let (parts, rest) = others(alloc, first, rest, Symbol::CloseParen, room)?;
+    Ok((parens_tree(alloc, parts)?, rest))
 }
 
 #[cycle(expressions)]
 #[tactic(auto, using(crate::proofs::ExpSteps::vect_steps))]
-fn vect(alloc: Global, rest: &[Token], room: u32) -> Result<Found<'_>, Fault>
-    requires some { 1 < room }
-    ensures reads { Gives found result (made roll-Exp (made Exp-F.Vect (closed (listed Comma (exps (room - 1)).whole) (Sign CloseAngles))) (kinds rest.now)) }
-    ensures deep { IfOk result (λ f. f.depth ≡ exp_depth f.exp) }
-    ensures small { IfOk result (λ f. f.depth ≤ room) }
-    ensures shorter { IfOk result (λ f. length f.rest.now < length rest.now) }
+fn vect(alloc: Global, rest: &[Token], room: u32) -> Result<(Tree, &[Token]), Stop>
+    requires some { 0 < room }
+    ensures { Gives (λ x. (x.0.exp, kinds x.1.now)) result (vect_parts room (kinds rest.now)) }
 {
-    let found = several(alloc, rest, room - 1)?;
-    let rest = after_sign(found.rest, Symbol::CloseAngles)?;
-    Ok(Found {
-        exp: Exp::Vect(found.items),
-        depth: 1 + found.depth,
-        rest,
-    })
+    let (first, rest) = exp(alloc, rest, room)?;
+    let (items, rest) = others(alloc, first, rest, Symbol::CloseAngles, room)?;
+    Ok((vect_tree(items), rest))
 }
 
+/// The first part and the others, up to the symbol that closes them.
 #[cycle(expressions)]
-fn several(alloc: Global, rest: &[Token], room: u32) -> Result<FoundList<'_>, Fault>
+fn others(
+    alloc: Global,
+    first: Tree,
+    tokens: &[Token],
+    close: Symbol,
+    room: u32,
+) -> Result<(Trees, &[Token]), Stop>
     requires some { 0 < room }
-    ensures reads { Gives found_list result (listed Comma (exps room).whole (kinds rest.now)) }
-    ensures deep { IfOk result (λ f. f.depth ≡ deepest (map exp_depth f.items)) }
-    ensures small { IfOk result (λ f. f.depth ≤ room) }
-    ensures shorter { IfOk result (λ f. length f.rest.now < length rest.now) }
+    ensures { Gives (λ x. (x.0.items, kinds x.1.now)) result (made (λ parts. first.exp ∷ parts) (other_parts close room) (kinds tokens.now)) }
 {
-    let first = exp(alloc, rest, room)?;
-    let found = others(alloc, first.rest, room)?;
-    let depth = first.depth.max(found.depth);
-    let items = with_first(alloc, first.exp, found.items)?;
-    Ok(FoundList {
-        items,
-        depth,
-        rest: found.rest,
-    })
-}
-
-#[cycle(expressions)]
-#[tactic(auto, using(crate::proofs::ExpSteps::list_steps))]
-fn others(alloc: Global, tokens: &[Token], room: u32) -> Result<FoundList<'_>, Fault>
-    requires some { 0 < room }
-    ensures reads { Gives found_list result (many (is_sign Comma) (led (Sign Comma) (exps room).whole) (kinds tokens.now)) }
-    ensures deep { IfOk result (λ f. f.depth ≡ deepest (map exp_depth f.items)) }
-    ensures small { IfOk result (λ f. f.depth ≤ room) }
-    ensures shorter { IfOk result (λ f. length f.rest.now ≤ length tokens.now) }
-{
-    let mut items = List::new(alloc);
-    let mut depth = 0;
+    let mut items = Trees::new(alloc).with(first)?;
     let mut rest = tokens;
     'items: while next_is_sign(rest, Symbol::Comma) {
-        let item = exp(alloc, behind(rest), room)?;
-        items.push(item.exp)?;
-        depth = item.depth.max(depth);
-        rest = item.rest;
+        let (item, after) = exp(alloc, behind(rest), room)?;
+        items = items.with(item)?;
+        rest = after;
     }
-    Ok(FoundList { items, depth, rest })
-}
-
-fn closed_type(alloc: Global, rest: &[Token]) -> Result<(TyExp, &[Token]), Fault>
-    ensures reads { Gives (λ x. (x.0, kinds x.1.now)) result (closed (types 64) (Sign CloseParen) (kinds rest.now)) }
-    ensures shorter { IfOk result (λ x. length x.1.now < length rest.now) }
-{
-    let (type_exp, rest) = ty(alloc, rest, MAX_DEPTH)?;
-    let rest = after_sign(rest, Symbol::CloseParen)?;
-    Ok((type_exp, rest))
-}
-
-#[tactic(auto, using(crate::proofs::ExpSteps::leaf_steps))]
-fn leaf(alloc: Global, rest: &[Token], room: u32) -> Result<Found<'_>, Fault>
-    requires some { 0 < room }
-    ensures reads { Gives found result (made roll-Exp (pick leaf_said) (kinds rest.now)) }
-    ensures deep { IfOk result (λ f. f.depth ≡ exp_depth f.exp) }
-    ensures small { IfOk result (λ f. f.depth ≤ room) }
-    ensures shorter { IfOk result (λ f. length f.rest.now < length rest.now) }
-{
-    match rest {
-        [token, after @ ..] => match &token.kind {
-            Kind::Lower(name) => Ok(Found {
-                exp: Exp::App(name.copy()?, List::new(alloc)),
-                depth: 1,
-                rest: after,
-            }),
-            Kind::Upper(name) => Ok(Found {
-                exp: Exp::Con(name.copy()?, List::new(alloc)),
-                depth: 1,
-                rest: after,
-            }),
-            Kind::Number(amount) => Ok(Found {
-                exp: Exp::Num(false, *amount),
-                depth: 1,
-                rest: after,
-            }),
-            Kind::Letter(byte) => Ok(Found {
-                exp: Exp::Letter(*byte),
-                depth: 1,
-                rest: after,
-            }),
-            _ => Err(Fault::Syntax(rest.len())),
-        },
-        [] => Err(Fault::Syntax(rest.len())),
-    }
-}
-
-// Whether a part behind a sign begins with the next token.
-fn begins_part(rest: &[Token]) -> bool
-    ensures { result ≡ next part_begins (kinds rest.now) }
-{
-    match rest {
-        [] => false,
-        [token, ..] => match token.kind {
-            Kind::Lower(_) | Kind::Upper(_) | Kind::Number(_) | Kind::Letter(_) => true,
-            Kind::Word(Keyword::True | Keyword::False | Keyword::Not | Keyword::Update) => true,
-            Kind::Sign(Symbol::OpenParen | Symbol::OpenAngles | Symbol::Minus | Symbol::Star) =>
-                true,
-            _ => false,
-        },
-    }
+    let rest = after_sign(rest, close)?;
+    Ok((items, rest))
 }

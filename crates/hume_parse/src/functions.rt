@@ -1,21 +1,22 @@
 ghost use Rattle.std.specs.Prelude.{◌≡◌, ◌<◌, length, IfOk};
 ghost use Rattle.hume_ast.specs.Places.{kinds};
-ghost use Rattle.hume_parse.specs.Gives.{Gives};
-ghost use Rattle.hume_grammar.specs.Declarations.{signature as signature_read, equation as equation_read};
-ghost use Rattle.hume_grammar.specs.Declarations.{some_patterns as patterns_read};
+ghost use Rattle.hume_parse.specs.inner.Gives.{Gives};
+ghost use Rattle.token_readers.specs.inner.Declarations.{signature as signature_read, equation as equation_read};
+ghost use Rattle.token_readers.specs.inner.Declarations.{some_patterns as patterns_read};
 
-use crate::expressions::{MAX_DEPTH, exp};
-use crate::fault::Fault;
+use crate::expressions::expression;
 use crate::patterns::{pat_atom, starts_pat};
+use crate::stop::Stop;
 use crate::tokens::after_sign;
 use crate::types::{ty, type_list};
 use hume_ast::{Exp, Pat, TyExp};
+use hume_base::limits::MAX_DEPTH;
 use hume_base::{List, Symbol, Token};
 use std::alloc::Global;
 
 /// The types of a function, behind its name.
-pub fn signature(alloc: Global, rest: &[Token]) -> Result<(List<TyExp>, &[Token]), Fault>
-    ensures reads { Gives (λ x. (x.0, kinds x.1.now)) result (signature_read 64 (kinds rest.now)) }
+pub fn signature(alloc: Global, rest: &[Token]) -> Result<(List<TyExp>, &[Token]), Stop>
+    ensures reads { Gives (λ x. (x.0, kinds x.1.now)) result (signature_read MAX_DEPTH (kinds rest.now)) }
     ensures shorter { IfOk result (λ x. length x.1.now < length rest.now) }
 {
     let rest = after_sign(rest, Symbol::DoubleColon)?;
@@ -30,20 +31,20 @@ pub fn signature(alloc: Global, rest: &[Token]) -> Result<(List<TyExp>, &[Token]
 }
 
 /// The patterns and the expression of an equation, behind the name of its function.
-pub fn equation(alloc: Global, rest: &[Token]) -> Result<((List<Pat>, Exp), &[Token]), Fault>
-    ensures reads { Gives (λ x. (x.0, kinds x.1.now)) result (equation_read 64 (kinds rest.now)) }
+pub fn equation(alloc: Global, rest: &[Token]) -> Result<((List<Pat>, Exp), &[Token]), Stop>
+    ensures reads { Gives (λ x. (x.0, kinds x.1.now)) result (equation_read MAX_DEPTH (kinds rest.now)) }
     ensures shorter { IfOk result (λ x. length x.1.now < length rest.now) }
 {
     let (patterns, rest) = some_patterns(alloc, rest)?;
     let rest = after_sign(rest, Symbol::Equals)?;
-    let found = exp(alloc, rest, MAX_DEPTH)?;
-    let rest = after_sign(found.rest, Symbol::Semicolon)?;
-    Ok(((patterns, found.exp), rest))
+    let (exp, rest) = expression(alloc, rest)?;
+    let rest = after_sign(rest, Symbol::Semicolon)?;
+    Ok(((patterns, exp), rest))
 }
 
 /// One or more patterns side by side.
-fn some_patterns(alloc: Global, tokens: &[Token]) -> Result<(List<Pat>, &[Token]), Fault>
-    ensures reads { Gives (λ x. (x.0, kinds x.1.now)) result (patterns_read 64 (kinds tokens.now)) }
+fn some_patterns(alloc: Global, tokens: &[Token]) -> Result<(List<Pat>, &[Token]), Stop>
+    ensures reads { Gives (λ x. (x.0, kinds x.1.now)) result (patterns_read MAX_DEPTH (kinds tokens.now)) }
     ensures shorter { IfOk result (λ x. length x.1.now < length tokens.now) }
 {
     let mut items = List::new(alloc);

@@ -1,26 +1,27 @@
 //! The parser: from the tokens of a source to the one tree that they spell, or to the place where none goes on.
+//!
+//! Main call: `parse`. `specs/Parsing.antt` says what it reports where the tokens stand for no program; for which program
+//! they stand (`StandsFor`) is said in `hume_ast`. Law: each list of tokens has an answer (`each_list_is_answered`); that it
+//! has one program at most is a law of `token_readers`. The functions are proved to do what the readers on lists of
+//! `token_readers` do: `specs/inner` has the views of the code that their contracts need.
+//!
+//! It knows slices of tokens with their places, and how deep a tree may be. It doesn't know bytes, names that are declared,
+//! or types of expressions.
 #![tactic(auto)]
 
 mod boxes;
 mod declarations;
-#[cfg(test)]
-mod depth_tests;
-#[cfg(test)]
-mod expression_tests;
 mod expressions;
-mod fault;
 mod functions;
+mod items;
 mod laws;
-mod lines;
+mod leaves;
 mod operators;
 mod parser;
 mod patterns;
 mod program;
-#[cfg(test)]
-mod tests;
+mod stop;
 mod tokens;
-#[cfg(test)]
-mod tree_text;
 mod trees;
 mod types;
 

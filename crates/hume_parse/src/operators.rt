@@ -1,36 +1,61 @@
-ghost use Rattle.std.specs.Prelude.{◌≡◌, ◌<◌, length, IfSome, IsTrue};
+ghost use Rattle.std.specs.Prelude.{◌≡◌, ◌+◌, ◌<◌, ◌≤◌, length, IfSome, IsTrue};
 ghost use Rattle.hume_ast.specs.Fits.{op_level as level_of_op};
 ghost use Rattle.hume_ast.specs.Places.{kinds};
-ghost use Rattle.hume_grammar.specs.Readers.{next};
-ghost use Rattle.hume_grammar.specs.Expressions.{operator_of as operator_said, next_operator as operator_read, if_level, starts_atom as atom_starts, is_lower, is_number};
+ghost use Rattle.token_readers.specs.inner.Readers.{next};
+ghost use Rattle.token_readers.specs.inner.Expressions.{operator_of as operator_said, starts_atom as atom_starts, begins_part as part_begins, is_lower, is_number};
+ghost use Rattle.hume_parse.specs.inner.Climbing.{operator_within, within, limit_behind as limit, operand_level};
+ghost use Rattle.hume_parse.specs.inner.Parts.{is_name, opens_form as form_opens, opens_parts as parts_open, too_deep};
 
 use hume_ast::BinOp;
 use hume_base::{Keyword, Kind, Symbol, Token};
 
-/// The operator of the level that the next token is.
-pub fn next_operator(rest: &[Token], level: u32) -> Option<BinOp>
-    ensures is { result ≡ operator_read level (kinds rest.now) }
+/// The operator that the next token is, if it is of the level or tighter, and looser than the limit.
+pub fn next_operator(rest: &[Token], level: u32, limit: u32) -> Option<BinOp>
+    ensures is { result ≡ operator_within level limit (kinds rest.now) }
     ensures some { IfSome result (λ _. 0 < length rest.now) }
 {
     match rest {
         [] => None,
-        [token, ..] => of_level(operator_of(&token.kind), level),
+        [token, ..] => between(operator_of(&token.kind), level, limit),
     }
 }
 
-fn of_level(operator: Option<BinOp>, level: u32) -> Option<BinOp>
-    ensures { result ≡ if_level level operator }
+#[tactic(auto, using(crate::proofs::Climbing::within_steps))]
+fn between(operator: Option<BinOp>, level: u32, limit: u32) -> Option<BinOp>
+    ensures { result ≡ within level limit operator }
 {
-    match operator {
-        None => None,
-        Some(operator) => {
-            if op_level(operator) == level {
-                Some(operator)
-            } else {
-                None
-            }
+    let operator = operator?;
+    let own = op_level(operator);
+    if level <= own {
+        if own < limit {
+            return Some(operator);
         }
     }
+    None
+}
+
+/// The level of an operator's right part.
+pub fn right_level(operator: BinOp) -> u32
+    ensures is { result ≡ level_of_op operator + 1 }
+    ensures low { 2 ≤ result }
+    ensures high { result ≤ 9 }
+{
+    op_level(operator) + 1
+}
+
+/// The limit of the operators that may follow when an operator and its right part are read. Comparisons don't group.
+pub fn limit_behind(operator: BinOp) -> u32
+    ensures { result ≡ limit operator }
+{
+    let level = op_level(operator);
+    if level == 4 { level } else { level + 1 }
+}
+
+/// The limit of the operators behind the first part.
+pub fn first_limit(level: u32) -> u32
+    ensures { result ≡ operand_level level }
+{
+    if level <= 7 { 7 } else { 9 }
 }
 
 fn operator_of(kind: &Kind) -> Option<BinOp>
@@ -56,7 +81,9 @@ fn operator_of(kind: &Kind) -> Option<BinOp>
 }
 
 fn op_level(operator: BinOp) -> u32
-    ensures { result ≡ level_of_op operator }
+    ensures is { result ≡ level_of_op operator }
+    ensures low { 2 ≤ result }
+    ensures high { result ≤ 8 }
 {
     match operator {
         BinOp::Or => 2,
@@ -107,6 +134,77 @@ pub fn next_is_lower(rest: &[Token]) -> bool
         [] => false,
         [token, ..] => match token.kind {
             Kind::Lower(_) => true,
+            _ => false,
+        },
+    }
+}
+
+/// Whether the next token is a name.
+pub fn next_is_name(rest: &[Token]) -> bool
+    ensures is { result ≡ next is_name (kinds rest.now) }
+    ensures some { IsTrue result → 0 < length rest.now }
+{
+    match rest {
+        [] => false,
+        [token, ..] => match token.kind {
+            Kind::Lower(_) | Kind::Upper(_) => true,
+            _ => false,
+        },
+    }
+}
+
+/// Whether `let`, `if` or `case` is next, and no part of it has room.
+pub fn is_form_too_deep(rest: &[Token], room: u32) -> bool
+    ensures { result ≡ too_deep form_opens room (kinds rest.now) }
+{
+    room == 1 && opens_form(rest)
+}
+
+/// Whether parentheses or a vector are next, and no part of them has room.
+pub fn are_parts_too_deep(rest: &[Token], room: u32) -> bool
+    ensures { result ≡ too_deep parts_open room (kinds rest.now) }
+{
+    room == 1 && opens_parts(rest)
+}
+
+fn opens_form(rest: &[Token]) -> bool
+    ensures is { result ≡ next form_opens (kinds rest.now) }
+    ensures some { IsTrue result → 0 < length rest.now }
+{
+    match rest {
+        [] => false,
+        [token, ..] => match token.kind {
+            Kind::Word(Keyword::Let | Keyword::If | Keyword::Case) => true,
+            _ => false,
+        },
+    }
+}
+
+fn opens_parts(rest: &[Token]) -> bool
+    ensures is { result ≡ next parts_open (kinds rest.now) }
+    ensures some { IsTrue result → 0 < length rest.now }
+{
+    match rest {
+        [] => false,
+        [token, ..] => match token.kind {
+            Kind::Sign(Symbol::OpenParen | Symbol::OpenAngles) => true,
+            _ => false,
+        },
+    }
+}
+
+/// Whether a part behind a sign begins with the next token.
+pub fn begins_part(rest: &[Token]) -> bool
+    ensures is { result ≡ next part_begins (kinds rest.now) }
+    ensures some { IsTrue result → 0 < length rest.now }
+{
+    match rest {
+        [] => false,
+        [token, ..] => match token.kind {
+            Kind::Lower(_) | Kind::Upper(_) | Kind::Number(_) | Kind::Letter(_) => true,
+            Kind::Word(Keyword::True | Keyword::False | Keyword::Not | Keyword::Update) => true,
+            Kind::Sign(Symbol::OpenParen | Symbol::OpenAngles | Symbol::Minus | Symbol::Star) =>
+                true,
             _ => false,
         },
     }

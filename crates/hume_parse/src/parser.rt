@@ -1,10 +1,11 @@
-ghost use Rattle.std.specs.Prelude.{◌≡◌, ◌⊎◌, IfOk, IfErr};
+ghost use Rattle.std.specs.Prelude.{◌≡◌, ◌⊎◌, IfOk, IfErr, MatchResult};
+ghost use Rattle.hume_ast.specs.declared.tree.Program.{Program as ProgramTree};
 ghost use Rattle.hume_ast.specs.Places.{StandsFor};
-ghost use Rattle.hume_parse.specs.Parsing.{IsFault};
-ghost use Rattle.hume_parse.specs.Told.{told as fault_told, place_left as left_place};
+ghost use Rattle.hume_parse.specs.Parsing.{IsWrongPlace};
+ghost use Rattle.hume_parse.specs.inner.Reported.{reported as reported_as, place_left as left_place};
 
-use crate::fault::Fault;
 use crate::program::program;
+use crate::stop::Stop;
 use hume_ast::Program;
 use hume_base::Token;
 use std::alloc::Global;
@@ -26,24 +27,27 @@ pub enum ParseError {
 /// The program that the tokens of a source stand for. `end` is the place of an early end: the length of the source.
 pub fn parse(alloc: Global, tokens: &[Token], end: u32) -> Result<Program, ParseError>
     ensures program { IfOk result (λ program. StandsFor tokens.now program) }
-    ensures error { IfErr result (λ error. (error ≡ ParseError.NoMemory) ⊎ IsFault tokens.now end error) }
+    ensures error { IfErr result (λ error. (error ≡ ParseError.NoMemory) ⊎ IsWrongPlace tokens.now end error) }
+    // Where there is such a program, it is the one that is given, unless memory is wanting.
+    ensures only { (program : ProgramTree) → StandsFor tokens.now program
+        → MatchResult result (λ found. found ≡ program) (λ error. error ≡ ParseError.NoMemory) }
 {
     match program(alloc, tokens) {
         Ok(decls) => Ok(Program { decls }),
-        Err(fault) => Err(told(fault, tokens, end)),
+        Err(stop) => Err(reported(stop, tokens, end)),
     }
 }
 
-fn told(fault: Fault, tokens: &[Token], end: u32) -> ParseError
-    ensures { result ≡ fault_told fault tokens.now end }
+fn reported(stop: Stop, tokens: &[Token], end: u32) -> ParseError
+    ensures { result ≡ reported_as stop tokens.now end }
 {
-    match fault {
-        Fault::Memory => ParseError::NoMemory,
-        Fault::Syntax(left) => match place_left(tokens, left) {
+    match stop {
+        Stop::Memory => ParseError::NoMemory,
+        Stop::Syntax(left) => match place_left(tokens, left) {
             Some(place) => ParseError::Syntax(place),
             None => ParseError::Syntax(end),
         },
-        Fault::Deep(left) => match place_left(tokens, left) {
+        Stop::Deep(left) => match place_left(tokens, left) {
             Some(place) => ParseError::Deep(place),
             None => ParseError::Syntax(end),
         },

@@ -3,11 +3,11 @@ ghost use Rattle.hume_base.specs.declared.symbol.Symbol.TheVariants.{CloseParen,
 ghost use Rattle.hume_base.specs.declared.token.Kind.TheVariants.{Sign};
 ghost use Rattle.hume_ast.specs.declared.tree.Pat.{roll-Pat};
 ghost use Rattle.hume_ast.specs.Places.{kinds};
-ghost use Rattle.hume_parse.specs.Gives.{Gives};
-ghost use Rattle.hume_grammar.specs.Readers.{next, is_sign, led, made, both, closed, many, pick};
-ghost use Rattle.hume_grammar.specs.Patterns.{patterns, pat_leaf as leaf_said, starts_pat as pat_starts, is_upper, con_pat, pat_in_parens, input_pattern as input};
+ghost use Rattle.hume_parse.specs.inner.Gives.{Gives};
+ghost use Rattle.token_readers.specs.inner.Readers.{next, is_sign, led, made, both, closed, many, pick};
+ghost use Rattle.token_readers.specs.inner.Patterns.{patterns, pat_leaf as leaf_said, starts_pat as pat_starts, is_upper, con_pat, pat_in_parens, input_pattern as input};
 
-use crate::fault::Fault;
+use crate::stop::Stop;
 use crate::tokens::{after_sign, behind, next_is_sign, next_is_word, number, upper};
 use hume_ast::Pat;
 use hume_base::{Box, Keyword, Kind, List, Symbol, Token};
@@ -15,7 +15,7 @@ use std::alloc::{AllocError, Global};
 
 /// What stands at an input of a box, at most so deep.
 #[tactic(auto, using(crate::proofs::PatternSteps::input_steps))]
-pub fn input_pattern(alloc: Global, rest: &[Token], room: u32) -> Result<(Pat, &[Token]), Fault>
+pub fn input_pattern(alloc: Global, rest: &[Token], room: u32) -> Result<(Pat, &[Token]), Stop>
     requires { 0 < room }
     ensures reads { Gives (λ x. (x.0, kinds x.1.now)) result (input room (kinds rest.now)) }
     ensures shorter { IfOk result (λ x. length x.1.now < length rest.now) }
@@ -32,7 +32,7 @@ pub fn input_pattern(alloc: Global, rest: &[Token], room: u32) -> Result<(Pat, &
 /// A pattern from the front of the tokens, at most so deep.
 #[cycle(patterns)]
 #[tactic(auto, using(crate::proofs::PatternSteps::pattern_steps))]
-pub fn pattern(alloc: Global, rest: &[Token], room: u32) -> Result<(Pat, &[Token]), Fault>
+pub fn pattern(alloc: Global, rest: &[Token], room: u32) -> Result<(Pat, &[Token]), Stop>
     requires { 0 < room }
     ensures reads { Gives (λ x. (x.0, kinds x.1.now)) result ((patterns room).whole (kinds rest.now)) }
     ensures shorter { IfOk result (λ x. length x.1.now < length rest.now) }
@@ -46,7 +46,7 @@ pub fn pattern(alloc: Global, rest: &[Token], room: u32) -> Result<(Pat, &[Token
 
 #[cycle(patterns)]
 #[tactic(auto, using(crate::proofs::PatternSteps::pattern_steps))]
-fn con(alloc: Global, tokens: &[Token], room: u32) -> Result<(Pat, &[Token]), Fault>
+fn con(alloc: Global, tokens: &[Token], room: u32) -> Result<(Pat, &[Token]), Stop>
     requires { 0 < room }
     ensures reads { Gives (λ x. (x.0, kinds x.1.now)) result (made roll-Pat (con_pat (patterns (room - 1)).atom) (kinds tokens.now)) }
     ensures shorter { IfOk result (λ x. length x.1.now < length tokens.now) }
@@ -65,12 +65,12 @@ fn con(alloc: Global, tokens: &[Token], room: u32) -> Result<(Pat, &[Token]), Fa
 /// A pattern that stands beside others, at most so deep.
 #[cycle(patterns)]
 #[tactic(auto, using(crate::proofs::PatternSteps::pattern_steps))]
-pub fn pat_atom(alloc: Global, rest: &[Token], room: u32) -> Result<(Pat, &[Token]), Fault>
+pub fn pat_atom(alloc: Global, rest: &[Token], room: u32) -> Result<(Pat, &[Token]), Stop>
     ensures reads { Gives (λ x. (x.0, kinds x.1.now)) result ((patterns room).atom (kinds rest.now)) }
     ensures shorter { IfOk result (λ x. length x.1.now < length rest.now) }
 {
     if room == 0 {
-        return Err(Fault::Deep(rest.len()));
+        return Err(Stop::Deep(rest.len()));
     }
     if next_is_sign(rest, Symbol::Underscore) {
         return Ok((Pat::Any, behind(rest)));
@@ -87,7 +87,7 @@ pub fn pat_atom(alloc: Global, rest: &[Token], room: u32) -> Result<(Pat, &[Toke
     }
     if next_is_sign(rest, Symbol::OpenParen) {
         if room == 1 {
-            return Err(Fault::Deep(rest.len()));
+            return Err(Stop::Deep(rest.len()));
         }
         return parens(alloc, behind(rest), room);
     }
@@ -96,9 +96,10 @@ pub fn pat_atom(alloc: Global, rest: &[Token], room: u32) -> Result<(Pat, &[Toke
 
 #[cycle(patterns)]
 #[tactic(auto, using(crate::proofs::PatternSteps::pattern_steps))]
-fn parens(alloc: Global, tokens: &[Token], room: u32) -> Result<(Pat, &[Token]), Fault>
+fn parens(alloc: Global, tokens: &[Token], room: u32) -> Result<(Pat, &[Token]), Stop>
     requires { 1 < room }
-    ensures reads { Gives (λ x. (x.0, kinds x.1.now)) result (made roll-Pat (made pat_in_parens (both (patterns (room - 1)).whole (closed (many (is_sign Comma) (led (Sign Comma) (patterns (room - 1)).whole)) (Sign CloseParen)))) (kinds tokens.now)) }
+    ensures reads { Gives (λ x. (x.0, kinds x.1.now)) result (made roll-Pat (made pat_in_parens
+        (both (patterns (room - 1)).whole (closed (many (is_sign Comma) (led (Sign Comma) (patterns (room - 1)).whole)) (Sign CloseParen)))) (kinds tokens.now)) }
     ensures shorter { IfOk result (λ x. length x.1.now < length tokens.now) }
 {
     let (first, after) = pattern(alloc, tokens, room - 1)?;
@@ -127,7 +128,7 @@ fn in_parens(alloc: Global, first: Pat, others: List<Pat>) -> Result<Pat, AllocE
 }
 
 #[tactic(auto, using(crate::proofs::PatternSteps::leaf_steps))]
-fn pat_leaf(alloc: Global, rest: &[Token]) -> Result<(Pat, &[Token]), Fault>
+fn pat_leaf(alloc: Global, rest: &[Token]) -> Result<(Pat, &[Token]), Stop>
     ensures reads { Gives (λ x. (x.0, kinds x.1.now)) result (made roll-Pat (pick leaf_said) (kinds rest.now)) }
     ensures shorter { IfOk result (λ x. length x.1.now < length rest.now) }
 {
@@ -137,9 +138,9 @@ fn pat_leaf(alloc: Global, rest: &[Token]) -> Result<(Pat, &[Token]), Fault>
             Kind::Upper(name) => Ok((Pat::Con(name.copy()?, List::new(alloc)), after)),
             Kind::Number(amount) => Ok((Pat::Num(false, *amount), after)),
             Kind::Letter(byte) => Ok((Pat::Letter(*byte), after)),
-            _ => Err(Fault::Syntax(rest.len())),
+            _ => Err(Stop::Syntax(rest.len())),
         },
-        [] => Err(Fault::Syntax(rest.len())),
+        [] => Err(Stop::Syntax(rest.len())),
     }
 }
 

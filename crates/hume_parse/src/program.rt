@@ -1,14 +1,15 @@
 ghost use Rattle.std.specs.Prelude.{◌≡◌, [], IfOk};
 ghost use Rattle.hume_ast.specs.Places.{unplaced, placed, first_place as place_of_first};
 ghost use Rattle.hume_ast.specs.Places.{kinds};
-ghost use Rattle.hume_parse.specs.Gives.{Gives};
-ghost use Rattle.hume_parse.specs.Lines.{seen_line, seen_place, wants};
-ghost use Rattle.hume_parse.specs.Progress.{place_behind, with_equation, took, closed};
-ghost use Rattle.hume_grammar.specs.Programs.{program as program_read};
+ghost use Rattle.hume_parse.specs.inner.Gives.{Gives};
+ghost use Rattle.hume_parse.specs.inner.Items.{seen_item, seen_expecting, wants};
+ghost use Rattle.hume_parse.specs.inner.Progress.{place_behind, with_equation, took, closed};
+ghost use Rattle.token_readers.specs.inner.Programs.{program as program_read};
 
-use crate::fault::Fault;
-use crate::lines::{Line, Place, cut_line};
+use crate::items::{Expecting, Item, cut_item};
+use crate::stop::Stop;
 use hume_ast::{Decl, Exp, Pat, TyExp};
+use hume_base::limits::MAX_DEPTH;
 use hume_base::{List, Text, Token};
 use std::alloc::{AllocError, Global};
 
@@ -29,8 +30,8 @@ pub struct Progress {
 }
 
 /// The declarations that the tokens stand for, each with the place of its first token.
-pub fn program(alloc: Global, tokens: &[Token]) -> Result<List<(u32, Decl)>, Fault>
-    ensures reads { Gives (λ decls. (unplaced decls, [])) result (program_read 64 (kinds tokens.now)) }
+pub fn program(alloc: Global, tokens: &[Token]) -> Result<List<(u32, Decl)>, Stop>
+    ensures reads { Gives (λ decls. (unplaced decls, [])) result (program_read MAX_DEPTH (kinds tokens.now)) }
     ensures places { IfOk result (λ decls. decls ≡ placed tokens.now (unplaced decls)) }
 {
     let mut progress = Progress {
@@ -38,16 +39,15 @@ pub fn program(alloc: Global, tokens: &[Token]) -> Result<List<(u32, Decl)>, Fau
         function: None,
     };
     let mut rest = tokens;
-    'lines: while !rest.is_empty() {
+    'items: while !rest.is_empty() {
         let at = first_place(rest);
-        let place = place_now(&progress.function);
-        let (line, after) = cut_line(alloc, place, rest)?;
-        progress = take(alloc, progress, at, line)?;
+        let expecting = expecting_now(&progress.function);
+        let (item, after) = cut_item(alloc, expecting, rest)?;
+        progress = take(alloc, progress, at, item)?;
         rest = after;
     }
-    let place = place_now(&progress.function);
-    if is_wanting(place) {
-        return Err(Fault::Syntax(0));
+    if is_wanting(expecting_now(&progress.function)) {
+        return Err(Stop::Syntax(0));
     }
     Ok(close(progress)?)
 }
@@ -61,37 +61,37 @@ fn first_place(rest: &[Token]) -> u32
     }
 }
 
-/// Where the next line stands.
-fn place_now(function: &Option<OpenFunction>) -> Place
-    ensures { seen_place result ≡ place_behind function.now }
+/// What may come next.
+fn expecting_now(function: &Option<OpenFunction>) -> Expecting
+    ensures { seen_expecting result ≡ place_behind function.now }
 {
     match function {
-        None => Place::Outside,
+        None => Expecting::Declaration,
         Some(function) => {
             if function.equations.is_empty() {
-                Place::Wanting
+                Expecting::Equation
             } else {
-                Place::Within
+                Expecting::Either
             }
         }
     }
 }
 
-fn is_wanting(place: Place) -> bool
-    ensures { result ≡ wants (seen_place place) }
+fn is_wanting(expecting: Expecting) -> bool
+    ensures { result ≡ wants (seen_expecting expecting) }
 {
-    match place {
-        Place::Wanting => true,
-        Place::Outside | Place::Within => false,
+    match expecting {
+        Expecting::Equation => true,
+        Expecting::Declaration | Expecting::Either => false,
     }
 }
 
-/// The progress behind one more line, which begins at the place.
-fn take(alloc: Global, progress: Progress, place: u32, line: Line) -> Result<Progress, AllocError>
-    ensures { IfOk result (λ after. after ≡ took place (seen_line line) progress) }
+/// The progress behind one more item, which begins at the place.
+fn take(alloc: Global, progress: Progress, place: u32, item: Item) -> Result<Progress, AllocError>
+    ensures { IfOk result (λ after. after ≡ took place (seen_item item) progress) }
 {
-    match line {
-        Line::Whole(decl) => {
+    match item {
+        Item::Declared(decl) => {
             let mut decls = close(progress)?;
             decls.push((place, decl))?;
             Ok(Progress {
@@ -99,7 +99,7 @@ fn take(alloc: Global, progress: Progress, place: u32, line: Line) -> Result<Pro
                 function: None,
             })
         }
-        Line::Signature(name, types) => {
+        Item::Signature(name, types) => {
             let decls = close(progress)?;
             let equations = List::new(alloc);
             let function = OpenFunction {
@@ -113,7 +113,7 @@ fn take(alloc: Global, progress: Progress, place: u32, line: Line) -> Result<Pro
                 function: Some(function),
             })
         }
-        Line::Equation(name, patterns, exp) => {
+        Item::Equation(name, patterns, exp) => {
             let Progress { decls, function } = progress;
             let function = take_equation(function, (name, patterns, exp))?;
             Ok(Progress { decls, function })

@@ -1,12 +1,13 @@
 ghost use Rattle.std.specs.Prelude.{◌≡◌, ◌<◌, length, IfOk, IsTrue};
 ghost use Rattle.hume_base.specs.declared.token.Kind.TheVariants.{Word, Sign};
 ghost use Rattle.hume_ast.specs.Places.{kinds};
-ghost use Rattle.hume_parse.specs.Gives.{Gives};
-ghost use Rattle.hume_grammar.specs.Readers.{next, is_sign, is_word, behind as passed, after, pick, lower_name, upper_name, number_of, port_name};
+ghost use Rattle.hume_parse.specs.inner.Gives.{Gives};
+ghost use Rattle.token_readers.specs.inner.Readers.{next, is_sign, is_word, behind as passed, after, pick, lower_name, upper_name, number_of, port_name};
 
-use crate::fault::Fault;
+use crate::stop::Stop;
 use hume_base::{Keyword, Kind, Symbol, Text, Token};
 
+#[tactic(auto, using(crate::proofs::Sameness::same_symbols))]
 pub fn next_is_sign(rest: &[Token], symbol: Symbol) -> bool
     ensures is { result ≡ next (is_sign symbol) (kinds rest.now) }
     ensures some { IsTrue result → 0 < length rest.now }
@@ -14,12 +15,13 @@ pub fn next_is_sign(rest: &[Token], symbol: Symbol) -> bool
     match rest {
         [] => false,
         [token, ..] => match token.kind {
-            Kind::Sign(other) => other.text() == symbol.text(),
+            Kind::Sign(other) => other.is(symbol),
             _ => false,
         },
     }
 }
 
+#[tactic(auto, using(crate::proofs::Sameness::same_keywords))]
 pub fn next_is_word(rest: &[Token], keyword: Keyword) -> bool
     ensures is { result ≡ next (is_word keyword) (kinds rest.now) }
     ensures some { IsTrue result → 0 < length rest.now }
@@ -27,7 +29,7 @@ pub fn next_is_word(rest: &[Token], keyword: Keyword) -> bool
     match rest {
         [] => false,
         [token, ..] => match token.kind {
-            Kind::Word(other) => other.text() == keyword.text(),
+            Kind::Word(other) => other.is(keyword),
             _ => false,
         },
     }
@@ -43,76 +45,76 @@ pub fn behind(rest: &[Token]) -> &[Token]
     }
 }
 
-pub fn after_sign(rest: &[Token], symbol: Symbol) -> Result<&[Token], Fault>
+pub fn after_sign(rest: &[Token], symbol: Symbol) -> Result<&[Token], Stop>
     ensures reads { Gives (λ after. kinds after.now) result (after (Sign symbol) (kinds rest.now)) }
     ensures shorter { IfOk result (λ after. length after.now < length rest.now) }
 {
     if next_is_sign(rest, symbol) {
         Ok(behind(rest))
     } else {
-        Err(Fault::Syntax(rest.len()))
+        Err(Stop::Syntax(rest.len()))
     }
 }
 
-pub fn after_word(rest: &[Token], keyword: Keyword) -> Result<&[Token], Fault>
+pub fn after_word(rest: &[Token], keyword: Keyword) -> Result<&[Token], Stop>
     ensures reads { Gives (λ after. kinds after.now) result (after (Word keyword) (kinds rest.now)) }
     ensures shorter { IfOk result (λ after. length after.now < length rest.now) }
 {
     if next_is_word(rest, keyword) {
         Ok(behind(rest))
     } else {
-        Err(Fault::Syntax(rest.len()))
+        Err(Stop::Syntax(rest.len()))
     }
 }
 
-pub fn lower(rest: &[Token]) -> Result<(Text, &[Token]), Fault>
+pub fn lower(rest: &[Token]) -> Result<(Text, &[Token]), Stop>
     ensures reads { Gives (λ x. (x.0, kinds x.1.now)) result (pick lower_name (kinds rest.now)) }
     ensures shorter { IfOk result (λ x. length x.1.now < length rest.now) }
 {
     match rest {
         [token, after @ ..] => match &token.kind {
             Kind::Lower(name) => Ok((name.copy()?, after)),
-            _ => Err(Fault::Syntax(rest.len())),
+            _ => Err(Stop::Syntax(rest.len())),
         },
-        [] => Err(Fault::Syntax(rest.len())),
+        [] => Err(Stop::Syntax(rest.len())),
     }
 }
 
-pub fn upper(rest: &[Token]) -> Result<(Text, &[Token]), Fault>
+pub fn upper(rest: &[Token]) -> Result<(Text, &[Token]), Stop>
     ensures reads { Gives (λ x. (x.0, kinds x.1.now)) result (pick upper_name (kinds rest.now)) }
     ensures shorter { IfOk result (λ x. length x.1.now < length rest.now) }
 {
     match rest {
         [token, after @ ..] => match &token.kind {
             Kind::Upper(name) => Ok((name.copy()?, after)),
-            _ => Err(Fault::Syntax(rest.len())),
+            _ => Err(Stop::Syntax(rest.len())),
         },
-        [] => Err(Fault::Syntax(rest.len())),
+        [] => Err(Stop::Syntax(rest.len())),
     }
 }
 
-pub fn port(rest: &[Token]) -> Result<(Text, &[Token]), Fault>
+pub fn port(rest: &[Token]) -> Result<(Text, &[Token]), Stop>
     ensures reads { Gives (λ x. (x.0, kinds x.1.now)) result (pick port_name (kinds rest.now)) }
     ensures shorter { IfOk result (λ x. length x.1.now < length rest.now) }
 {
     match rest {
         [token, after @ ..] => match &token.kind {
             Kind::Quoted(name) => Ok((name.copy()?, after)),
-            _ => Err(Fault::Syntax(rest.len())),
+            _ => Err(Stop::Syntax(rest.len())),
         },
-        [] => Err(Fault::Syntax(rest.len())),
+        [] => Err(Stop::Syntax(rest.len())),
     }
 }
 
-pub fn number(rest: &[Token]) -> Result<(u64, &[Token]), Fault>
+pub fn number(rest: &[Token]) -> Result<(u64, &[Token]), Stop>
     ensures reads { Gives (λ x. (x.0, kinds x.1.now)) result (pick number_of (kinds rest.now)) }
     ensures shorter { IfOk result (λ x. length x.1.now < length rest.now) }
 {
     match rest {
         [token, after @ ..] => match token.kind {
             Kind::Number(amount) => Ok((amount, after)),
-            _ => Err(Fault::Syntax(rest.len())),
+            _ => Err(Stop::Syntax(rest.len())),
         },
-        [] => Err(Fault::Syntax(rest.len())),
+        [] => Err(Stop::Syntax(rest.len())),
     }
 }

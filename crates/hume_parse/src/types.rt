@@ -5,11 +5,11 @@ ghost use Rattle.hume_base.specs.declared.token.Kind.TheVariants.{Word, Sign};
 ghost use Rattle.hume_ast.specs.declared.tree.TyExp.TheOpen.{TyExp-F};
 ghost use Rattle.hume_ast.specs.declared.tree.TyExp.{roll-TyExp};
 ghost use Rattle.hume_ast.specs.Places.{kinds};
-ghost use Rattle.hume_parse.specs.Gives.{Gives};
-ghost use Rattle.hume_grammar.specs.Readers.{made, both, closed, pick, number_of, several, listed};
-ghost use Rattle.hume_grammar.specs.Types.{types, vector_of};
+ghost use Rattle.hume_parse.specs.inner.Gives.{Gives};
+ghost use Rattle.token_readers.specs.inner.Readers.{made, both, closed, pick, number_of, several, listed};
+ghost use Rattle.token_readers.specs.inner.Types.{types, vector_of};
 
-use crate::fault::Fault;
+use crate::stop::Stop;
 use crate::tokens::{after_sign, after_word, behind, next_is_sign, next_is_word, number, upper};
 use hume_ast::TyExp;
 use hume_base::{Box, Keyword, List, Symbol, Token};
@@ -18,7 +18,7 @@ use std::alloc::Global;
 /// A type from the front of the tokens, at most so deep.
 #[cycle(types)]
 #[tactic(auto, using(crate::proofs::TypeSteps::type_steps))]
-pub fn ty(alloc: Global, rest: &[Token], room: u32) -> Result<(TyExp, &[Token]), Fault>
+pub fn ty(alloc: Global, rest: &[Token], room: u32) -> Result<(TyExp, &[Token]), Stop>
     requires { 0 < room }
     ensures reads { Gives (λ x. (x.0, kinds x.1.now)) result (types room (kinds rest.now)) }
     ensures shorter { IfOk result (λ x. length x.1.now < length rest.now) }
@@ -39,13 +39,13 @@ pub fn ty(alloc: Global, rest: &[Token], room: u32) -> Result<(TyExp, &[Token]),
     }
     if next_is_word(rest, Keyword::Vector) {
         if room == 1 {
-            return Err(Fault::Deep(rest.len()));
+            return Err(Stop::Deep(rest.len()));
         }
         return vector(alloc, behind(rest), room);
     }
     if next_is_sign(rest, Symbol::OpenParen) {
         if room == 1 {
-            return Err(Fault::Deep(rest.len()));
+            return Err(Stop::Deep(rest.len()));
         }
         return tuple(alloc, behind(rest), room);
     }
@@ -55,9 +55,10 @@ pub fn ty(alloc: Global, rest: &[Token], room: u32) -> Result<(TyExp, &[Token]),
 
 #[cycle(types)]
 #[tactic(auto, using(crate::proofs::TypeSteps::type_steps))]
-fn vector(alloc: Global, rest: &[Token], room: u32) -> Result<(TyExp, &[Token]), Fault>
+fn vector(alloc: Global, rest: &[Token], room: u32) -> Result<(TyExp, &[Token]), Stop>
     requires { 1 < room }
-    ensures reads { Gives (λ x. (x.0, kinds x.1.now)) result (made roll-TyExp (made vector_of (both (closed (pick number_of) (Word Of)) (types (room - 1)))) (kinds rest.now)) }
+    ensures reads { Gives (λ x. (x.0, kinds x.1.now)) result
+        (made roll-TyExp (made vector_of (both (closed (pick number_of) (Word Of)) (types (room - 1)))) (kinds rest.now)) }
     ensures shorter { IfOk result (λ x. length x.1.now < length rest.now) }
 {
     let (count, rest) = number(rest)?;
@@ -68,9 +69,10 @@ fn vector(alloc: Global, rest: &[Token], room: u32) -> Result<(TyExp, &[Token]),
 
 #[cycle(types)]
 #[tactic(auto, using(crate::proofs::TypeSteps::type_steps))]
-fn tuple(alloc: Global, rest: &[Token], room: u32) -> Result<(TyExp, &[Token]), Fault>
+fn tuple(alloc: Global, rest: &[Token], room: u32) -> Result<(TyExp, &[Token]), Stop>
     requires { 1 < room }
-    ensures reads { Gives (λ x. (x.0, kinds x.1.now)) result (made roll-TyExp (made TyExp-F.Tuple (closed (several Comma (types (room - 1))) (Sign CloseParen))) (kinds rest.now)) }
+    ensures reads { Gives (λ x. (x.0, kinds x.1.now)) result
+        (made roll-TyExp (made TyExp-F.Tuple (closed (several Comma (types (room - 1))) (Sign CloseParen))) (kinds rest.now)) }
     ensures shorter { IfOk result (λ x. length x.1.now < length rest.now) }
 {
     let mut parts = List::new(alloc);
@@ -91,7 +93,7 @@ pub fn type_list(
     tokens: &[Token],
     symbol: Symbol,
     room: u32,
-) -> Result<(List<TyExp>, &[Token]), Fault>
+) -> Result<(List<TyExp>, &[Token]), Stop>
     requires { 0 < room }
     ensures reads { Gives (λ x. (x.0, kinds x.1.now)) result (listed symbol (types room) (kinds tokens.now)) }
     ensures shorter { IfOk result (λ x. length x.1.now < length tokens.now) }

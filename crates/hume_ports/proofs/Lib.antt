@@ -8,3 +8,4 @@ pub mod Places
 pub mod Calls
 pub mod Filling
 pub mod Writing
+pub mod OpenFiles

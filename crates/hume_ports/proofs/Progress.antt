@@ -1,12 +1,12 @@
 -- Calls in turn: while none has failed, and up to the first that has.
-use Rattle.std.proofs.Common.{◌≡◌, ◌||◌, ℕ, List, [], ◌++◌, map, refl, append-nil, sym, ◌∙◌, subst, false, None}
+use Rattle.std.proofs.Common.{◌≡◌, ◌||◌, ℕ, List, [], ◌++◌, map, refl, append-nil, sym, ◌∙◌, subst, None}
 use Rattle.std.specs.Io.KnownBytes.{Appends, Consumes}
 use Rattle.std.proofs.KnownBytes.{Appends-nil, Appends-trans, Consumes-nil, Consumes-trans}
 use Rattle.std.specs.Str.{bytes_eq}
 use Rattle.std.proofs.lemmas.Bool.{or_parts}
 use Rattle.std.proofs.lemmas.List.Folds.{list_any-append}
 use Rattle.hume_ports.specs.Port.{PortView, Rose}
-use Rattle.hume_ports.specs.Ports.{names, is_among, of_first, left_of, bytes_of}
+use Rattle.hume_ports.specs.Ports.{names, is_among, of_first, left_of}
 use Rattle.hume_ports.specs.Delivery.{Pairs, Delivered, Drawn, StaysFlushed, Progress, Failure, ReadFailure, WriteFailure, FinishFailure, names_in, bytes_for}
 use Rattle.hume_ports.proofs.Names.{names_in-append}
 use Rattle.hume_ports.proofs.Steps.{of_first-same}
@@ -35,10 +35,6 @@ Delivered-nothing ports = EachPort-nothing appending appending-stays ports
 
 pub Delivered-on : (olds mids news : List PortView) (ps qs : Pairs) → Delivered olds mids ps → names mids ≡ names olds → Delivered mids news qs → Delivered olds news (ps ++ qs)
 Delivered-on olds mids news ps qs d same e = EachPort-on appending appending-joins olds mids news ps qs d same e
-
--- what the first port of a name has got
-pub Delivered-first : (olds news : List PortView) (name : List ℕ) (pairs : Pairs) → names news ≡ names olds → Delivered olds news pairs → Appends (bytes_of name olds) (bytes_of name news) (bytes_for name pairs)
-Delivered-first olds news name pairs same d = EachPort-first None (λ port. port.bytes) Appends (λ bytes. tt) olds news name pairs same d
 
 pub Drawn-nothing : (ports : List PortView) → Drawn ports ports []
 Drawn-nothing ports = EachPort-nothing consuming consuming-stays ports
@@ -81,24 +77,6 @@ Progress-on olds mids news ts us ps qs p q = record {
   flushed = StaysFlushed-on olds mids news ps qs p.flushed q.flushed;
 }
 
--- and then more is taken
-pub Progress-taken : (olds mids news : List PortView) (ts us ps : Pairs) → Progress olds mids ts ps → Progress mids news us [] → Progress olds news (ts ++ us) ps
-Progress-taken olds mids news ts us ps p q =
-    let P : Pairs → Type 0 = λ pairs. Progress olds news (ts ++ us) pairs in
-    subst P (append-nil ps) (Progress-on olds mids news ts us ps [] p q)
-
--- and then more is given
-pub Progress-given : (olds mids news : List PortView) (ts ps qs : Pairs) → Progress olds mids ts ps → Progress mids news [] qs → Progress olds news ts (ps ++ qs)
-Progress-given olds mids news ts ps qs p q =
-    let P : Pairs → Type 0 = λ pairs. Progress olds news pairs (ps ++ qs) in
-    subst P (append-nil ts) (Progress-on olds mids news ts [] ps qs p q)
-
--- and then no byte goes either way
-pub Progress-quiet : (olds mids news : List PortView) (ts ps : Pairs) → Progress olds mids ts ps → Progress mids news [] [] → Progress olds news ts ps
-Progress-quiet olds mids news ts ps p q =
-    let P : Pairs → Type 0 = λ pairs. Progress olds news ts pairs in
-    subst P (append-nil ps) (Progress-given olds mids news ts ps [] p q)
-
 -- of what was taken only the bytes for each name count
 pub Progress-same_taken : (olds news : List PortView) (ts us ps : Pairs) → SameBytes ts us → Progress olds news ts ps → Progress olds news us ps
 Progress-same_taken olds news ts us ps same p = record {
@@ -108,17 +86,6 @@ Progress-same_taken olds news ts us ps same p = record {
   drawn = EachPort-same consuming olds news ts us same p.drawn;
   delivered = p.delivered;
   flushed = p.flushed;
-}
-
--- of what was given only the bytes for each name count, and which names there are
-pub Progress-same_given : (olds news : List PortView) (ts ps qs : Pairs) → SameBytes ps qs → ((name : List ℕ) → is_among name (names_in qs) ≡ false → is_among name (names_in ps) ≡ false) → Progress olds news ts ps → Progress olds news ts qs
-Progress-same_given olds news ts ps qs same fewer p = record {
-  same_names = p.same_names;
-  same_rooms = p.same_rooms;
-  same_faults = p.same_faults;
-  drawn = p.drawn;
-  delivered = EachPort-same appending olds news ps qs same p.delivered;
-  flushed = λ name out before. p.flushed name (fewer name out) before;
 }
 
 -- a failed call after calls that have not failed, where these have kept its count

@@ -1,9 +1,9 @@
 -- A write in parts, each of which takes as much as it likes.
-use Rattle.std.proofs.Common.{◌≡◌, ℕ, ◌+◌, ◌-◌, ◌≤◌, List, ◌++◌, length, take, drop, length-drop, refl, arith, ap, sym, ◌∙◌, subst, Option}
+use Rattle.std.proofs.Common.{◌≡◌, ℕ, ◌+◌, ◌-◌, ◌≤◌, List, ◌++◌, length, take, drop, length-drop, arith, ap, sym, ◌∙◌, subst, Option}
 use Rattle.std.proofs.Math.Seq.{take-add}
 use Rattle.std.proofs.lemmas.List.{drop-drop, take_rest}
 use Rattle.std.specs.Io.KnownBytes.{Appends}
-use Rattle.std.proofs.KnownBytes.{Appends-nil, Appends-trans}
+use Rattle.std.proofs.KnownBytes.{Appends-trans}
 
 -- so many of the bytes were taken, and these are left
 pub record HasWritten (before now : Option (List ℕ)) (bytes rest : List ℕ) : Type 0 where
@@ -11,9 +11,6 @@ pub record HasWritten (before now : Option (List ℕ)) (bytes rest : List ℕ) :
   pub within : count ≤ length bytes
   pub left : rest ≡ drop count bytes
   pub taken : Appends before now (take count bytes)
-
-pub HasWritten-start : (known : Option (List ℕ)) (bytes : List ℕ) → HasWritten known known bytes bytes
-HasWritten-start known bytes = record { count = 0; within = omega arith; left = refl; taken = Appends-nil known }
 
 pub HasWritten-on : (before mid now : Option (List ℕ)) (bytes rest : List ℕ) (more : ℕ) → HasWritten before mid bytes rest → more ≤ length rest → Appends mid now (take more rest) → HasWritten before now bytes (take (length rest - more) (drop more rest))
 HasWritten-on before mid now bytes rest more h fits t =

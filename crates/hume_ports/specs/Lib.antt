@@ -3,3 +3,4 @@ pub mod Memory
 pub mod MemoryPort
 pub mod Ports
 pub mod Delivery
+pub mod Files

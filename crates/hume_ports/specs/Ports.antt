@@ -27,22 +27,6 @@ of_first default fact name (first ∷ others) =
 abbrev pub left_of : List ℕ → List PortView → Option (List ℕ)
 left_of name ports = of_first None (λ port. port.left) name ports
 
--- the bytes written to the first port with that name, where it tells them
-abbrev pub bytes_of : List ℕ → List PortView → Option (List ℕ)
-bytes_of name ports = of_first None (λ port. port.bytes) name ports
-
--- how often the reads of the first port with that name have failed
-abbrev pub read_faults_of : List ℕ → List PortView → ℕ
-read_faults_of name ports = of_first 0 (λ port. port.read_faults) name ports
-
--- how often the writes of the first port with that name have failed
-abbrev pub write_faults_of : List ℕ → List PortView → ℕ
-write_faults_of name ports = of_first 0 (λ port. port.write_faults) name ports
-
--- how often the finishes of the first port with that name have failed
-abbrev pub finish_faults_of : List ℕ → List PortView → ℕ
-finish_faults_of name ports = of_first 0 (λ port. port.finish_faults) name ports
-
 -- whether the first port with that name is flushed
 abbrev pub flushed_of : List ℕ → List PortView → Bool
 flushed_of name ports = of_first false (λ port. port.flushed) name ports

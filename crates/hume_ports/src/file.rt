@@ -1,6 +1,8 @@
-ghost use Rattle.std.specs.Prelude.{◌≡◌, IfOk, string_bytes};
+ghost use Rattle.std.specs.Prelude.{◌≡◌, IfOk, OnOk, string_bytes};
 ghost use Rattle.std.specs.Io.{ReadsAtMost};
-ghost use Rattle.hume_ports.specs.Port.{untold};
+ghost use Rattle.std.specs.Io.KnownBytes.{Appends, ReadConsumes};
+ghost use Rattle.hume_ports.specs.Port.{IsRead, IsWrite, untold};
+ghost use Rattle.hume_ports.specs.Files.{GoesOn};
 
 use crate::port::raise;
 use crate::transfer::{flush, read_once, write_whole};
@@ -55,7 +57,12 @@ impl<R: Files + Clone + Drop> Port for FilePort<R> {
         self.name.as_str()
     }
 
-    fn read(&mut self, buf: &mut [u8]) -> Result<usize, Failed> {
+    /// Where the open file tells what it has left, the bytes come from there.
+    fn read(&mut self, buf: &mut [u8]) -> Result<usize, Failed>
+        ensures port { IsRead (⟦<FilePort<R> as Port>⟧.view self.old) (⟦<FilePort<R> as Port>⟧.view self.new) result buf.new }
+        ensures file { IfOk result (λ count.
+            GoesOn (λ earlier later. ReadConsumes (R.File.remaining earlier) (R.File.remaining later) result buf.new) self.old.reader self.new.reader) }
+    {
         self.used = true;
         match read_file(&self.rt, self.name.as_str(), &mut self.reader, buf) {
             Ok(count) => Ok(count),
@@ -63,7 +70,12 @@ impl<R: Files + Clone + Drop> Port for FilePort<R> {
         }
     }
 
-    fn write(&mut self, bytes: &[u8]) -> Result<(), Failed> {
+    /// Where the open file tells its bytes, the written ones follow them.
+    fn write(&mut self, bytes: &[u8]) -> Result<(), Failed>
+        ensures port { IsWrite (⟦<FilePort<R> as Port>⟧.view self.old) (⟦<FilePort<R> as Port>⟧.view self.new) result bytes.now }
+        ensures file { OnOk result
+            (GoesOn (λ earlier later. Appends (R.File.contents earlier) (R.File.contents later) bytes.now) self.old.writer self.new.writer) }
+    {
         self.used = true;
         self.flushed = false;
         match write_file(&self.rt, self.name.as_str(), &mut self.writer, bytes) {
@@ -99,7 +111,9 @@ fn read_file<R: Files>(
     reader: &mut Option<R::File>,
     buf: &mut [u8],
 ) -> Result<usize, Failed>
-    ensures { ReadsAtMost result buf.new }
+    ensures bound { ReadsAtMost result buf.new }
+    ensures file { IfOk result (λ count.
+        GoesOn (λ earlier later. ReadConsumes (R.File.remaining earlier) (R.File.remaining later) result buf.new) reader.old reader.new) }
 {
     if reader.is_none() {
         match fs::open(rt, name) {
@@ -118,7 +132,10 @@ fn write_file<R: Files>(
     name: &str,
     writer: &mut Option<R::File>,
     bytes: &[u8],
-) -> Result<(), Failed> {
+) -> Result<(), Failed>
+    ensures { OnOk result
+        (GoesOn (λ earlier later. Appends (R.File.contents earlier) (R.File.contents later) bytes.now) writer.old writer.new) }
+{
     create(rt, name, writer)?;
     match writer {
         Some(file) => write_whole(file, bytes),
@@ -126,7 +143,9 @@ fn write_file<R: Files>(
     }
 }
 
-fn create<R: Files>(rt: &R, name: &str, writer: &mut Option<R::File>) -> Result<(), Failed> {
+fn create<R: Files>(rt: &R, name: &str, writer: &mut Option<R::File>) -> Result<(), Failed>
+    ensures { OnOk result (GoesOn (λ earlier later. later ≡ earlier) writer.old writer.new) }
+{
     if writer.is_none() {
         match fs::create(rt, name) {
             Ok(created) => *writer = Some(created),

@@ -1,4 +1,11 @@
 //! The outside as the tool sees it: named ports that are read, written and finished, and calls on lists of them.
+//!
+//! The trait is `Port`; a list of ports is called by `read_at`, `fill_at`, `write_at` and `finish_at`, and searched by `find`.
+//! What a call does is said in `specs/Port.antt`, what calls on a list do together in `specs/Delivery.antt`.
+//! `MemPort`, the port of the tests, is known to the byte and to the call that fails (`specs/Memory.antt`). `FilePort` and
+//! `StdOut` are the edge to the world: they keep the contract of the trait, and a file's calls do to the open file what they
+//! say (`specs/Files.antt`).
+//! It knows names, bytes, counts of faults and rooms; it doesn't know what is written to a port, or why.
 #![tactic(auto)]
 
 mod file;

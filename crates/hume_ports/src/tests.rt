@@ -81,9 +81,17 @@ fn calls_at_a_place_reach_its_port(rt: HostRuntime) -> Result<(), Stop> {
     Ok(())
 }
 
+fn write_file(rt: &HostRuntime, name: &str, bytes: &[u8]) -> Result<(), Stop> {
+    let mut port = FilePort::make(rt, rt.alloc(), name)?;
+    port.write(bytes).ok().ok_or("a write failed")?;
+    port.finish().ok().ok_or("a finish failed")?;
+    Ok(())
+}
+
 #[test]
 fn a_file_is_read_as_it_was_written(rt: HostRuntime) -> Result<(), Stop> {
     let alloc = rt.alloc();
+    write_file(&rt, "lines", b"what an earlier run left\n")?;
     {
         let mut out = FilePort::make(&rt, alloc, "lines")?;
         assert!(rt; out.write(b"2\n") == Ok(()));
@@ -106,6 +114,7 @@ fn only_a_finish_alone_creates_a_file(rt: HostRuntime) -> Result<(), Stop> {
     assert!(rt; missing.read(&mut buf) == Err(Failed));
     assert!(rt; missing.finish() == Ok(()));
     assert!(rt; missing.read(&mut buf) == Err(Failed));
+    write_file(&rt, "empty", b"what an earlier run left\n")?;
     let mut empty = FilePort::make(&rt, alloc, "empty")?;
     assert!(rt; empty.finish() == Ok(()));
     assert!(rt; empty.read(&mut buf) == Ok(0));

@@ -15,18 +15,18 @@ use Rattle.hume_ast.specs.Spelling.{spelled_decl}
 use Rattle.hume_ast.specs.Places.{StandsFor, first_place, placed, unplaced}
 use Rattle.hume_lex.specs.declared.lexer.LexError.{LexError}
 use Rattle.hume_lex.specs.declared.lexer.LexError.TheVariants as lexical
-use Rattle.hume_lex.specs.Faults.{IsRead, IsFault as IsBadPlace, place_of as bad_place}
+use Rattle.hume_lex.specs.BadPlaces.{IsRead, IsBadPlace, bad_place}
 use Rattle.hume_lex.proofs.Places.{token_within}
 use Rattle.hume_lex.proofs.Total.{some_answer}
 use Rattle.hume_parse.specs.declared.parser.ParseError.{ParseError}
 use Rattle.hume_parse.specs.declared.parser.ParseError.TheVariants as syntactic
-use Rattle.hume_parse.specs.Parsing.{IsWrongToken, IsFault as IsWrongPlace}
+use Rattle.hume_parse.specs.Parsing.{IsWrongToken, IsWrongPlace}
 use Rattle.hume_parse.proofs.Answered.{answered}
 use Rattle.hume_run.specs.declared.acceptance.AcceptError.{AcceptError}
 use Rattle.hume_run.specs.declared.acceptance.AcceptError.TheVariants.{Refused}
 use Rattle.hume_run.specs.Accepted.{IsAccepted, Breaks, too_long, bad_token, no_program, IsUnaccepted, rule_of_lexer, rule_of_parser, wrong_place}
 
--- ---- places
+-- places
 
 all_middle : {A : Type 0} (P : A → Type 0) (front : List A) (x : A) (rest : List A) → All P (front ++ x ∷ rest) → P x
 all_middle P [] x rest all = all 0 x (omega arith)
@@ -66,7 +66,7 @@ decls_within text program accepted =
     subst (All (λ (decl : ℕ × Decl). decl.0 ≤ length text)) (sym accepted.spelled.2)
     (placed_within text accepted.tokens (unplaced program.decls) (token_within text accepted.tokens accepted.read.0))
 
--- ---- refusals
+-- refusals
 
 unaccepted : (text : List ℕ) (refusal : Refusal) (result : AcceptError) → Breaks text refusal → result ≡ Refused refusal → IsUnaccepted text result
 unaccepted text refusal result breaks is = subst (IsUnaccepted text) (sym is) breaks
@@ -92,7 +92,7 @@ no_program_told text tokens given told line result short read (inr wrong) same o
     unaccepted text (record { rule = rule_of_parser told; line = line_at text (wrong_place told) }) result (no_program short tokens read told told_wrong)
     (is ∙ ap (λ l. Refused (record { rule = rule_of_parser told; line = l })) line_is)
 
--- ---- each source is accepted or breaks a rule
+-- each source is accepted or breaks a rule
 
 abbrev pub IsJudged : List ℕ → Type 0
 IsJudged text = ((program : Program) × IsAccepted text program) ⊎ ((refusal : Refusal) × Breaks text refusal)

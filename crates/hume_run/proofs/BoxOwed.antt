@@ -7,23 +7,23 @@ use Rattle.std.proofs.lemmas.Bool.{cases_eq, eq-eqb, ne_eqb, lt-ltb, ltb-true}
 use Rattle.std.proofs.lemmas.List.Elements.{All-cons}
 use Rattle.hume_base.specs.declared.types.Value.{Value}
 use Rattle.hume_model.specs.declared.core_tree.StreamC.{StreamC}
-use Rattle.hume_model.specs.Lockstep.{lockstep}
-use Rattle.hume_model.specs.Start.{start, no_values}
-use Rattle.hume_model.proofs.Ahead.{Alike, lockstep_alike}
+use Rattle.hume_net.specs.Lockstep.{lockstep}
+use Rattle.hume_net.specs.Start.{start, no_values}
+use Rattle.hume_net.proofs.Ahead.{Alike, lockstep_alike}
 use Rattle.hume_ports.specs.Ports.{place_of, is_among, other_names}
 use Rattle.hume_ports.proofs.Names.{same_name, bytes_eq-self}
 use Rattle.hume_run.specs.declared.status.Status.{Status}
-use Rattle.hume_run.specs.declared.report.Line.{Line}
+use Rattle.hume_run.specs.declared.report.OwedWrite.{OwedWrite}
 use Rattle.hume_run.specs.declared.report.Report.{Report}
 use Rattle.hume_run.specs.declared.input.Input.{Input}
 use Rattle.hume_run.specs.declared.input.Input.TheVariants.{Values, Bad}
-use Rattle.hume_run.specs.Reading.{IsInputOf}
+use Rattle.hume_run.specs.inner.Reading.{IsInputFrom}
 use Rattle.hume_run.specs.Statuses.{IsAnswer}
 use Rattle.hume_run.specs.Inputs.{good, bad}
 use Rattle.hume_run.specs.OneBox.{OneBox, core_of}
-use Rattle.hume_run.specs.Owed.{Owed, std_out, owed_run, coming, blocked_or, run_status, run_finishes, run_writes, all_taken_writes, value_line, bad_value_line}
-use Rattle.hume_run.specs.BoxReports.{IsDone, IsBad, each_once}
-use Rattle.hume_run.specs.Reports.{IsPlace, IsPlaceOf, IsReport, name_at, names_at}
+use Rattle.hume_run.specs.Owed.{Owed, std_out, owed_run, coming, halted_or, run_status, run_finishes, run_writes, all_taken_writes, value_line, bad_value_line}
+use Rattle.hume_run.specs.inner.BoxReports.{IsDone, IsBad, each_once}
+use Rattle.hume_run.specs.inner.Reports.{IsPlace, IsPlaceOf, IsReport, name_at, names_at}
 
 take-enough : {X : Type 0} (count : ℕ) (xs : List X) → take (count + 0) (take count xs) ≡ take (count + 0) xs
 take-enough count xs = rw (add-zero count) (take-take count count xs (omega arith))
@@ -35,7 +35,7 @@ coming_alike count all values is (suc zero) = ap (take (count + 0)) is ∙ take-
 coming_alike count all values is (suc (suc zero)) = refl
 coming_alike count all values is (suc (suc (suc node))) = refl
 
--- ---- the ports that are finished
+-- the ports that are finished
 
 true_or_false : (b : Bool) → (b ≡ true) ⊎ (b ≡ false)
 true_or_false true = inl refl
@@ -96,7 +96,7 @@ report_among report_name output_name = elim (true_or_false (bytes_eq report_name
   | inr differ ↦ rw (differ, bytes_eq-self report_name) (or-true (bytes_eq report_name output_name))
 ]
 
--- ---- the values
+-- the values
 
 -- what the nodes of a one-box core write
 written_by_output : (parts : OneBox) (lists : List (List Value))
@@ -124,35 +124,35 @@ same_taken : (steps : ℕ) (parts : OneBox) (texts : List ℕ → List ℕ) (val
 same_taken steps parts texts values is =
     (lockstep_alike 0 steps (core_of parts) (start (core_of parts) (coming (core_of parts) texts)) (start (core_of parts) (slice_set (no_values (core_of parts)) 1 values)) (alike_start steps parts texts values is)).taken
 
--- ---- the run that isn't blocked
+-- the run that isn't halted
 
-not_blocked : (fewer : Bool) (bad_line : Option ℕ) → (fewer ≡ true → bad_line ≡ None) → cond fewer bad_line None ≡ None
-not_blocked true bad_line h = h refl
-not_blocked false bad_line h = refl
+not_halted : (fewer : Bool) (bad_line : Option ℕ) → (fewer ≡ true → bad_line ≡ None) → cond fewer bad_line None ≡ None
+not_halted true bad_line h = h refl
+not_halted false bad_line h = refl
 
-blocks-none : (steps : ℕ) (text : List ℕ) → (length (good text) < steps → bad text ≡ None) → cond (nat_lt (length (good text)) steps) (bad text) None ≡ None
-blocks-none steps text h = not_blocked (nat_lt (length (good text)) steps) (bad text) (λ e. h (ltb-true (length (good text)) steps e))
+halts-none : (steps : ℕ) (text : List ℕ) → (length (good text) < steps → bad text ≡ None) → cond (nat_lt (length (good text)) steps) (bad text) None ≡ None
+halts-none steps text h = not_halted (nat_lt (length (good text)) steps) (bad text) (λ e. h (ltb-true (length (good text)) steps e))
 
-blocks-some : (steps : ℕ) (text : List ℕ) (line : ℕ) → length (good text) < steps → bad text ≡ Some line → cond (nat_lt (length (good text)) steps) (bad text) None ≡ Some line
-blocks-some steps text line few is = rw (lt-ltb (length (good text)) steps few) is
+halts-some : (steps : ℕ) (text : List ℕ) (line : ℕ) → length (good text) < steps → bad text ≡ Some line → cond (nat_lt (length (good text)) steps) (bad text) None ≡ Some line
+halts-some steps text line few is = rw (lt-ltb (length (good text)) steps few) is
 
-at_output : (names : List (List ℕ)) (lines : List Line) (output : ℕ) (finishes : List (List ℕ)) → All (λ line. line.at ≡ output) lines → is_among (name_at names output) finishes ≡ true
+at_output : (names : List (List ℕ)) (lines : List OwedWrite) (output : ℕ) (finishes : List (List ℕ)) → All (λ line. line.at ≡ output) lines → is_among (name_at names output) finishes ≡ true
     → All (λ line. is_among (name_at names line.at) finishes ≡ true) lines
 at_output names lines output finishes places among k d within =
     let P : ℕ → Type 0 = λ at. is_among (name_at names at) finishes ≡ true in subst P (sym (places k d within)) among
 
-in_places : (names : List (List ℕ)) (lines : List Line) (output : ℕ) → All (λ line. line.at ≡ output) lines → IsPlace names output → All (λ line. IsPlace names line.at) lines
+in_places : (names : List (List ℕ)) (lines : List OwedWrite) (output : ℕ) → All (λ line. line.at ≡ output) lines → IsPlace names output → All (λ line. IsPlace names line.at) lines
 in_places names lines output places place k d within = let P : ℕ → Type 0 = λ at. IsPlace names at in subst P (sym (places k d within)) place
 
--- what is owed, by the bad line that blocks the run
+-- what is owed, by the bad line that halts the run
 abbrev input_stream : OneBox → StreamC
 input_stream parts = record { name = codes "s"; line = parts.lines.input; port = parts.input }
 
 abbrev owed_where : ℕ → List ℕ → (List ℕ → List ℕ) → OneBox → Option ℕ → Owed
-owed_where steps source texts parts blocked = record {
-  status = run_status (blocked_or blocked (input_stream parts) None);
+owed_where steps source texts parts halted = record {
+  status = run_status (halted_or halted (input_stream parts) None);
   reads = source ∷ parts.input ∷ [];
-  writes = run_writes steps texts (core_of parts) (blocked_or blocked (input_stream parts) None);
+  writes = run_writes steps texts (core_of parts) (halted_or halted (input_stream parts) None);
   finishes = run_finishes (core_of parts);
 }
 
@@ -160,13 +160,13 @@ pub done_is_report : (steps : ℕ) (parts : OneBox) (output out : ℕ) (values :
     → (names : List (List ℕ)) → IsPlaceOf parts.output names output → IsPlaceOf std_out names out
     → (texts : List ℕ → List ℕ) → values ≡ take steps (good (texts parts.input)) → (length (good (texts parts.input)) < steps → bad (texts parts.input) ≡ None)
     → (source : List ℕ) → IsReport (owed_run steps source texts (core_of parts)) names report
-done_is_report steps parts output out values report is names p q texts enough unblocked source =
-    let W : Option ℕ → Type 0 = λ blocked. IsReport (owed_where steps source texts parts blocked) names report in
+done_is_report steps parts output out values report is names p q texts enough no_bad_line source =
+    let W : Option ℕ → Type 0 = λ halted. IsReport (owed_where steps source texts parts halted) names report in
     let P : List ℕ → Type 0 = λ places. All (IsPlace names) places in
     let A : Status → Type 0 = λ status. IsAnswer status in
     let F : List (List ℕ) → Type 0 = λ finishes. is_among (name_at names output) finishes ≡ true in
     let mine : is_among (name_at names output) (run_finishes (core_of parts)) ≡ true = ap (λ n. is_among n (run_finishes (core_of parts))) p.named ∙ output_among std_out parts.output in
-    subst W (sym (blocks-none steps (texts parts.input) unblocked)) (record {
+    subst W (sym (halts-none steps (texts parts.input) no_bad_line)) (record {
       status = is.status;
       answer = subst A (sym is.status) tt;
       writes = is.pairs names
@@ -183,12 +183,12 @@ pub bad_is_report : (steps : ℕ) (parts : OneBox) (output out line : ℕ) (repo
     → (names : List (List ℕ)) → IsPlaceOf parts.output names output → IsPlaceOf std_out names out
     → (texts : List ℕ → List ℕ) → length (good (texts parts.input)) < steps → bad (texts parts.input) ≡ Some line
     → (source : List ℕ) → IsReport (owed_run steps source texts (core_of parts)) names report
-bad_is_report steps parts output out line report is names p q texts few blocked source =
+bad_is_report steps parts output out line report is names p q texts few halted source =
     let W : Option ℕ → Type 0 = λ b. IsReport (owed_where steps source texts parts b) names report in
     let P : List ℕ → Type 0 = λ places. All (IsPlace names) places in
     let A : Status → Type 0 = λ status. IsAnswer status in
     let mine : is_among (name_at names out) (run_finishes (core_of parts)) ≡ true = ap (λ n. is_among n (run_finishes (core_of parts))) q.named ∙ report_among std_out parts.output in
-    subst W (sym (blocks-some steps (texts parts.input) line few blocked)) (record {
+    subst W (sym (halts-some steps (texts parts.input) line few halted)) (record {
       status = is.status;
       answer = subst A (sym is.status) tt;
       writes = is.pairs names ∙ ap (λ n. (n, bad_value_line (codes "s") line) ∷ []) q.named;
@@ -201,7 +201,7 @@ bad_is_report steps parts output out line report is names p q texts few blocked 
 -- what a report of a one-box source has to be
 abbrev ReportsInput : ℕ → OneBox → ℕ → ℕ → Input → Report → Type 0
 ReportsInput steps parts output out input report = (names : List (List ℕ)) → IsPlaceOf parts.output names output → IsPlaceOf std_out names out
-    → (texts : List ℕ → List ℕ) → IsInputOf steps (texts parts.input) input
+    → (texts : List ℕ → List ℕ) → IsInputFrom steps (texts parts.input) input
     → (source : List ℕ) → IsReport (owed_run steps source texts (core_of parts)) names report
 
 pub done_reports : {E : Type 0} (result : Result Report E) (steps : ℕ) (parts : OneBox) (output out : ℕ) (input : Input) (values : List Value) → input ≡ Values values

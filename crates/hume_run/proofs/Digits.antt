@@ -1,8 +1,6 @@
 -- Digits: the test of them all, and the number that they write.
 use Rattle.std.proofs.Common.{◌≡◌, ℕ, ◌+◌, ◌-◌, ◌*◌, ◌^◌, ◌<◌, ◌≤◌, List, [], ◌∷◌, length, get_or, drop, true, suc, refl, sym, ap, ◌∙◌, arith, add-one, drop-cons}
-use Rattle.std.specs.Prelude.{◌&&◌}
 use Rattle.std.specs.Char.{is_ascii_digit, digit_value}
-use Rattle.std.specs.List.{list_all}
 use Rattle.std.specs.Str.{all_ascii_digits}
 use Rattle.std.specs.Str.Parse.{digits_value_after}
 use Rattle.std.proofs.Math.Nat.{pow-suc, pow-le-pow_right}
@@ -10,10 +8,6 @@ use Rattle.std.proofs.lemmas.Bool.{and_parts, leb-true}
 use Rattle.std.proofs.lemmas.List.Recursion.{and_at}
 use Rattle.std.proofs.lemmas.Str.{digit_value_digit}
 use Rattle.hume_run.specs.Words.{is_number}
-
-pub all_digits_is : (bs : List ℕ) → list_all is_ascii_digit bs ≡ all_ascii_digits bs
-all_digits_is [] = refl
-all_digits_is (b ∷ bs) = ap (λ rest. is_ascii_digit b && rest) (all_digits_is bs)
 
 pub digit_bounds : (bs : List ℕ) (i : ℕ) → i < length bs → all_ascii_digits bs ≡ true → (48 ≤ get_or bs i 0) × (get_or bs i 0 ≤ 57)
 digit_bounds bs i h all =
@@ -45,4 +39,4 @@ number_parts bs h =
     let q = and_parts _ _ p.0 in
     (leb-true _ _ q.0, leb-true _ _ q.1, p.1)
 
-pub ruleset digit_steps = (all_digits_is, digit_bounds, value_step, below_step, nine_digits_fit, number_parts)
+pub ruleset digit_steps = (digit_bounds, value_step, below_step, nine_digits_fit, number_parts)

@@ -2,8 +2,8 @@
 use Rattle.std.proofs.Common.{◌≡◌, ℕ, zero, suc, List, [], ◌∷◌, ◌++◌, map, refl, ap, ◌∙◌, append_assoc, slice_set, slice_index_or}
 use Rattle.hume_base.specs.declared.types.Value.{Value}
 use Rattle.hume_model.specs.declared.core_tree.Core.{Core}
-use Rattle.hume_model.specs.declared.state.State.{State}
-use Rattle.hume_model.specs.Start.{start, no_values}
+use Rattle.hume_net.specs.declared.state.State.{State}
+use Rattle.hume_net.specs.Start.{start, no_values}
 
 set-twice : {X : Type 0} (lists : List (List X)) (at : ℕ) (values : List X) (value : X)
     → slice_set (slice_set lists at values) at (slice_index_or (slice_set lists at values) at [] ++ value ∷ []) ≡ slice_set lists at (values ++ value ∷ [])

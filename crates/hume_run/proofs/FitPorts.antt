@@ -4,7 +4,7 @@ use Rattle.std.specs.Str.{bytes_eq}
 use Rattle.std.proofs.lemmas.Grind.{common_steps}
 use Rattle.hume_ports.specs.Ports.{place_of}
 use Rattle.hume_ports.proofs.Names.{same_name, place-zero, place-suc}
-use Rattle.hume_run.specs.Reports.{IsPlaceOf, name_at}
+use Rattle.hume_run.specs.inner.Reports.{IsPlaceOf, name_at}
 
 found_within : (name : List ℕ) (names : List (List ℕ)) (at : ℕ) → place_of name names ≡ Some at → at < length names
 found_within name [] at found = cc

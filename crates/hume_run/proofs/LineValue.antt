@@ -16,7 +16,7 @@ both : (a b : Bool) → (a && b) ≡ true → (a ≡ true) × (b ≡ true)
 both true b e = (refl, e)
 both false b e = absurd (cc)
 
--- ---- the text is ASCII
+-- the text is ASCII
 
 digits-IsAscii : (digits : List ℕ) → all_ascii_digits digits ≡ true → IsAscii digits
 digits-IsAscii [] e i = none i
@@ -36,7 +36,7 @@ pub int_text-IsAscii : (text : List ℕ) → is_int_text text ≡ true → IsAsc
 int_text-IsAscii [] e = digits-IsAscii [] refl
 int_text-IsAscii (first ∷ others) e = signed-IsAscii first others _ refl (both _ _ e).1
 
--- ---- the number that is parsed
+-- the number that is parsed
 
 module _ {E : Type 0} where
   same_test : (r : Result ℤ E) (P Q : Type 0) (z : ℤ) → (P → Q) → (Q → P) → OkIff r P z → OkIff r Q z

@@ -6,7 +6,7 @@ use Rattle.hume_run.specs.declared.status.Status.{Status}
 use Rattle.hume_run.specs.declared.status.Status.TheVariants.{Usage}
 use Rattle.hume_run.specs.declared.order.Order.{Order}
 use Rattle.hume_run.specs.declared.order.Order.TheVariants.{Run, Check}
-use Rattle.hume_run.specs.Places.{source_place}
+use Rattle.hume_run.specs.inner.Places.{source_place}
 use Rattle.hume_run.specs.Words.{order_of, source_of}
 use Rattle.hume_run.specs.Headline.{AnswersFrom, Headline}
 

@@ -1,18 +1,17 @@
 -- The core of a one-box source is well-formed, its wires agree, and its box handles all that it raises.
 use denote.Hole.Carrier.{roll}
-use Rattle.std.proofs.Common.{◌≡◌, ℕ, zero, suc, ◌≤◌, ◌<◌, ◌^◌, ◌+◌, ◌++◌, ◌&&◌, Bool, true, false, pos, SFits, w64, to_z-of_z, List, [], ◌∷◌, map, length, slice_get, None, Some, Option, refl, ap, sym, ◌∙◌, subst, arith, lit≤, codes}
+use Rattle.std.proofs.Common.{◌≡◌, ℕ, zero, suc, ◌≤◌, ◌<◌, ◌^◌, ◌+◌, ◌++◌, ◌&&◌, Bool, true, false, pos, w64, to_z-of_z, List, [], ◌∷◌, map, All, length, slice_get, None, Some, Option, refl, ap, sym, ◌∙◌, subst, arith, lit≤, codes}
 use Rattle.std.specs.Prelude.{sum}
 use Rattle.std.specs.List.{AllByRecursion}
 use Rattle.std.proofs.lemmas.Bool.{lt-ltb}
 use Rattle.std.proofs.lemmas.Option.{same_Some}
 use Rattle.std.proofs.lemmas.List.Elements.{All-from_recursion}
-use Rattle.hume_base.specs.declared.types.Ty.{Ty, roll-Ty, out-Ty, out-roll-Ty, fold-roll-Ty}
+use Rattle.hume_base.specs.declared.types.Ty.{roll-Ty, out-Ty, out-roll-Ty, fold-roll-Ty}
 use Rattle.hume_base.specs.declared.types.Ty.TheOpen.{Ty-F}
 use Rattle.hume_base.specs.declared.types.Types.{Types}
 use Rattle.hume_base.specs.declared.types.Value.{Value, Word as word_value}
 use Rattle.hume_base.specs.declared.token.Kind.{Kind}
 use Rattle.hume_base.specs.declared.token.Kind.TheVariants as kind
-use Rattle.hume_base.specs.declared.token.Token.{Token}
 use Rattle.hume_base.specs.Sizes.{size_of, size_step, named_size}
 use Rattle.hume_base.specs.Values.{is_value, is_named_value, is_word_of, is_int_word}
 use Rattle.hume_base.specs.Words.{int_of}
@@ -27,7 +26,6 @@ use Rattle.hume_lex.specs.Spelling.{Spells}
 use Rattle.hume_lex.specs.Reading.{Piece, gap, token, AreLongest, tokens_at}
 use Rattle.hume_model.specs.declared.core_tree.Op.{Op}
 use Rattle.hume_model.specs.declared.core_tree.Op.TheVariants.{Add, Sub, Mul}
-use Rattle.hume_model.specs.declared.core_tree.ExnDef.{ExnDef}
 use Rattle.hume_model.specs.declared.core_tree.PatC.{roll-PatC, fold-roll-PatC}
 use Rattle.hume_model.specs.declared.core_tree.PatC.TheOpen.{PatC-F}
 use Rattle.hume_model.specs.declared.core_tree.PatC.TheVariants.{Var as Variable}
@@ -40,19 +38,20 @@ use Rattle.hume_model.specs.declared.core_tree.RuleC.{RuleC}
 use Rattle.hume_model.specs.declared.core_tree.PortC.{PortC}
 use Rattle.hume_model.specs.declared.core_tree.BoxC.{BoxC}
 use Rattle.hume_model.specs.declared.core_tree.NodeC.{NodeC}
-use Rattle.hume_model.specs.declared.core_tree.NodeC.TheVariants.{Rules, From, To}
+use Rattle.hume_model.specs.declared.core_tree.NodeC.TheVariants.{Rules}
 use Rattle.hume_model.specs.declared.core_tree.WireC.{WireC}
 use Rattle.hume_model.specs.declared.core_tree.Core.{Core}
 use Rattle.hume_model.specs.Typing.{is_arithmetic, is_number_type, is_number_layer, HasType, HaveTypes, IsPattern}
 use Rattle.hume_model.specs.ResultTyping.{OutsHave, GivesOutputs}
-use Rattle.hume_model.specs.BoxTyping.{BoxIsTyped, RuleIsTyped, PositionsHave, port_types}
-use Rattle.hume_model.specs.TypeLimits.{IsWrittenType, is_type, type_step, type_depth, depth_step}
+use Rattle.hume_model.specs.BoxTyping.{BoxHasFrame, BoxIsTyped, RuleIsTyped, PositionsHave}
+use Rattle.hume_model.specs.TypeLimits.{IsWrittenType, is_type, type_step, depth_step}
 use Rattle.hume_model.specs.PartLimits.{is_written_pattern, pattern_step, is_written, expression_step, is_written_result, result_step, is_written_rule}
-use Rattle.hume_model.specs.Limits.{IsName, IsPortName, IsSmallPort, IsSmallBox, IsSmallFunction, IsSmallNode, IsSmallException, HasEnds, HasFewExceptions, IsWithinLimits, IsWellFormed, wire_words}
-use Rattle.hume_model.specs.WellFormed.{HasSoundParts}
-use Rattle.hume_model.specs.StateTyping.{WiresAgree}
+use Rattle.hume_model.specs.Limits.{IsName, IsPortName, IsSmallBoxPort, IsSmallBox, IsSmallFunction, IsSmallNode, IsSmallException, IsWithinLimits, wire_words}
+use Rattle.hume_model.specs.WireEnds.{HasEnds}
+use Rattle.hume_model.specs.WellFormed.{HasSoundFrame, IsWellFormed}
+use Rattle.hume_model.specs.Wiring.{WiresAgree}
 use Rattle.hume_model.specs.Handling.{HandlesAll}
-use Rattle.hume_model.specs.Lockstep.{leads_to, comes_from, inputs_of, outputs_of}
+use Rattle.hume_model.specs.Wiring.{leads_to, comes_from, inputs_of, outputs_of}
 use Rattle.hume_model.specs.Wiring.{IsTheWire, IsWired}
 use Rattle.hume_model.specs.Operations.{prim}
 use Rattle.hume_model.specs.Outcomes.{then_outs}
@@ -65,10 +64,10 @@ use Rattle.hume_model.proofs.Layers.{out-word, int-value, eval-prim, eval-variab
 use Rattle.hume_model.proofs.ResultTypes.{result-outs}
 use Rattle.hume_model.proofs.PatternTypes.{both_true}
 use Rattle.hume_run.specs.Accepted.{IsAccepted}
-use Rattle.hume_run.specs.OneBox.{OneBox, StandsFor, operation, rule_tree, trees, int_32, one_rule, one_box, plain_exception, core_of}
-use Rattle.hume_run.proofs.Cores.{core_is_small}
+use Rattle.hume_run.specs.OneBox.{OneBox, HasCore, operation, rule_tree, trees, int_32, one_rule, one_box, core_of}
+use Rattle.hume_model.specs.OwnExceptions.{plain_exception}
 
--- ---- the names of ports outside
+-- the names of ports outside
 
 -- what stands between double quotes may be the name of a port
 abbrev IsShort : Kind → Type 0
@@ -105,17 +104,17 @@ streams_short before more input output all =
     let to = later IsShort (spelled_decl (Stream (codes "s") true input)) (spelled_decl (Stream (codes "t") false output) ++ more) from in
     (from.1.1.1.0, to.1.1.1.0)
 
-port_names : (text : List ℕ) (core : Core) (stands : StandsFor text core) → IsPortName stands.parts.input × IsPortName stands.parts.output
+port_names : (text : List ℕ) (core : Core) (stands : HasCore text core) → IsPortName stands.parts.input × IsPortName stands.parts.output
 port_names text core stands =
     let spelled = stands.spelled in
     let is = spelled.is in
     let boxed : Decl = BoxD (codes "b") ((codes "x", IntType 32) ∷ []) ((codes "y", IntType 32) ∷ []) false (rule_tree is.operator stands.parts.amount ∷ []) [] in
-    let wired : List Kind = beside (map spelled_decl (Wire (codes "s", None) (codes "b", Some (codes "x")) None ∷ Wire (codes "b", Some (codes "y")) (codes "t", None) None ∷ [])) in
+    let wired : List Kind = beside (map spelled_decl (Wire (codes "s", None) (codes "b", Some (codes "x")) None None ∷ Wire (codes "b", Some (codes "y")) (codes "t", None) None None ∷ [])) in
     let tokens : kinds spelled.accepted.tokens ≡ beside (map spelled_decl (trees is.operator stands.parts)) =
     sym spelled.accepted.spelled.1 ∙ decls_beside spelled.program.decls ∙ ap (λ decls. beside (map spelled_decl decls)) is.decls in
     streams_short (spelled_decl boxed) wired stands.parts.input stands.parts.output (subst (AllByRecursion IsShort) tokens (accepted_short text spelled.program spelled.accepted))
 
--- ---- types
+-- types
 
 out-int : out-Ty int_32 ≡ Ty-F.Int 32
 unfolding roll-Ty roll
@@ -165,7 +164,7 @@ beyond_none ports own {node = node} port same none within =
     let is : ports node ≡ 0 = sym (ap ports same) ∙ none in
     omega (arith, is, within)
 
--- ---- the rule
+-- the rule
 
 arithmetic_op : (o : BinOp) (op : Op) → operation o ≡ Some op → is_arithmetic op ≡ true
 arithmetic_op operator.Add op e = ap is_arithmetic (sym (same_Some Add op e))
@@ -191,7 +190,7 @@ record AreFit (parts : OneBox) : Type 0 where
   amount : parts.amount ≤ 999999999
   gives : (v w : Value) → GivesNumber v w parts.op
 
-fit_parts : (text : List ℕ) (core : Core) (stands : StandsFor text core) → AreFit stands.parts
+fit_parts : (text : List ℕ) (core : Core) (stands : HasCore text core) → AreFit stands.parts
 fit_parts text core stands =
     let names = port_names text core stands in
     let is = stands.spelled.is in
@@ -203,8 +202,7 @@ module _ (parts : OneBox) (fit : AreFit parts) where
 
   rule_typed : RuleIsTyped core (one_box parts) (one_rule parts)
   rule_typed = record {
-    vars = int_32 ∷ [];
-    positions = PositionsHave.built IsPattern.variable PositionsHave.none;
+    positions = record { vars = int_32 ∷ []; have = PositionsHave.built IsPattern.variable PositionsHave.none };
     outputs = GivesOutputs.outputs (OutsHave.value
         (HasType.arithmetic parts.op int_32 fit.op number_type
         (HaveTypes.one (HasType.variable 0 refl) (HaveTypes.one (HasType.word parts.amount (amount_value core.types parts.amount fit.amount)) HaveTypes.none)))
@@ -215,12 +213,18 @@ module _ (parts : OneBox) (fit : AreFit parts) where
   box_typed = record {
     rules = λ number rule at. one_of number rule at;
     handlers = λ number handler at. absurd (nothing_there number handler at);
-    apart = λ first second handler other at there same. absurd (nothing_there first handler at);
   }
     where
       one_of : (number : ℕ) (rule : RuleC) → slice_get (one_rule parts ∷ []) number ≡ Some rule → RuleIsTyped core (one_box parts) rule
       one_of zero rule at = subst (RuleIsTyped core (one_box parts)) (same_Some (one_rule parts) rule at) rule_typed
       one_of (suc n) rule at = cc
+
+  box_frame : BoxHasFrame core (one_box parts)
+  box_frame = record {
+    positions = λ number rule at. (box_typed.rules number rule at).positions;
+    handlers = λ number handler at. absurd (nothing_there number handler at);
+    apart = λ first second handler other at there same. absurd (nothing_there first handler at);
+  }
 
   -- the only box is node 0
   box_is : (n : ℕ) (b : BoxC) → slice_get core.nodes n ≡ Some (Rules b) → one_box parts ≡ b
@@ -231,6 +235,9 @@ module _ (parts : OneBox) (fit : AreFit parts) where
 
   boxes_typed : (n : ℕ) (b : BoxC) → slice_get core.nodes n ≡ Some (Rules b) → BoxIsTyped core b
   boxes_typed n b at = subst (BoxIsTyped core) (box_is n b at) box_typed
+
+  boxes_framed : (n : ℕ) (b : BoxC) → slice_get core.nodes n ≡ Some (Rules b) → BoxHasFrame core b
+  boxes_framed n b at = subst (BoxHasFrame core) (box_is n b at) box_frame
 
   -- both wires are of `int 32`
   wire_type : (w : ℕ) (wire : WireC) → slice_get core.wires w ≡ Some wire → wire.ty ≡ int_32
@@ -302,15 +309,6 @@ module _ (parts : OneBox) (fit : AreFit parts) where
   wired : IsWired core
   wired = record { inputs = input_wires; outputs = output_wires }
 
-  sound : HasSoundParts core
-  sound = record {
-    holds = λ number sum at. absurd (nothing_there number sum at);
-    sizes = λ number sum at. absurd (nothing_there number sum at);
-    exceptions = record { div_zero = refl; range = refl; no_case = refl };
-    calls = λ number function at. absurd (nothing_there number function at);
-    functions = λ number function at. absurd (nothing_there number function at);
-  }
-
   wire_ends : (w : ℕ) (wire : WireC) → slice_get core.wires w ≡ Some wire → HasEnds core wire
   wire_ends zero wire at = subst (HasEnds core) (same_Some _ wire at) (record {
     producer = _;
@@ -320,6 +318,8 @@ module _ (parts : OneBox) (fit : AreFit parts) where
     to = refl;
     to_port = lit≤ tt;
     ty = refl;
+    some_depth = lit≤ tt;
+    depth = lit≤ tt;
     initial = λ v e. cc;
     no_initial = λ from to. refl;
     written = int_written core.types;
@@ -332,6 +332,8 @@ module _ (parts : OneBox) (fit : AreFit parts) where
     to = refl;
     to_port = lit≤ tt;
     ty = refl;
+    some_depth = lit≤ tt;
+    depth = lit≤ tt;
     initial = λ v e. cc;
     no_initial = λ from to. refl;
     written = int_written core.types;
@@ -344,20 +346,16 @@ module _ (parts : OneBox) (fit : AreFit parts) where
   exception_small : (name : List ℕ) → IsName name → IsSmallException core.types (plain_exception name)
   exception_small name small = record { name = small; carries = λ ty e. cc }
 
-  few_exceptions : HasFewExceptions core
-  few_exceptions = record {
-    own = refl;
-    all = lit≤ tt;
-    each = All-from_recursion (IsSmallException core.types) core.exns (
-      exception_small (codes "DivZero") (record { some = lit≤ tt; bytes = lit≤ tt }),
-      (
-        exception_small (codes "Range") (record { some = lit≤ tt; bytes = lit≤ tt }),
-        (exception_small (codes "NoCase") (record { some = lit≤ tt; bytes = lit≤ tt }), tt),
-      ),
-    );
-  }
+  small_exceptions : All (IsSmallException core.types) core.exns
+  small_exceptions = All-from_recursion (IsSmallException core.types) core.exns (
+    exception_small (codes "DivZero") (record { some = lit≤ tt; bytes = lit≤ tt }),
+    (
+      exception_small (codes "Range") (record { some = lit≤ tt; bytes = lit≤ tt }),
+      (exception_small (codes "NoCase") (record { some = lit≤ tt; bytes = lit≤ tt }), tt),
+    ),
+  )
 
-  port_small : (name : List ℕ) → length name ≡ 1 → IsSmallPort core.types (record { name = name; ty = int_32 })
+  port_small : (name : List ℕ) → length name ≡ 1 → IsSmallBoxPort core.types (record { name = name; ty = int_32 })
   port_small name one = record { name = short_name name one; ty = int_written core.types }
 
   variable_written : is_written_pattern Variable ≡ true
@@ -392,10 +390,10 @@ module _ (parts : OneBox) (fit : AreFit parts) where
     name = short_name (codes "b") refl;
     some_inputs = lit≤ tt;
     inputs = lit≤ tt;
-    each_input = All-from_recursion (IsSmallPort core.types) (one_box parts).ins (port_small (codes "x") refl, tt);
+    each_input = All-from_recursion (IsSmallBoxPort core.types) (one_box parts).ins (port_small (codes "x") refl, tt);
     some_outputs = lit≤ tt;
     outputs = lit≤ tt;
-    each_output = All-from_recursion (IsSmallPort core.types) (one_box parts).outs (port_small (codes "y") refl, tt);
+    each_output = All-from_recursion (IsSmallBoxPort core.types) (one_box parts).outs (port_small (codes "y") refl, tt);
     some_rules = lit≤ tt;
     rules = lit≤ tt;
     each_rule = rw rule_written refl;
@@ -408,11 +406,12 @@ module _ (parts : OneBox) (fit : AreFit parts) where
   limits : IsWithinLimits core
   limits = record {
     functions = lit≤ tt;
-    exceptions = few_exceptions;
+    exceptions = lit≤ tt;
     nodes = lit≤ tt;
     wires = lit≤ tt;
     words = words_few;
     each_data_type = λ n sum_type at. absurd (nothing_there n sum_type at);
+    each_exception = small_exceptions;
     each_function = All-from_recursion (IsSmallFunction core.types) [] tt;
     each_node = All-from_recursion (IsSmallNode core.types) core.nodes (
       box_small,
@@ -423,13 +422,22 @@ module _ (parts : OneBox) (fit : AreFit parts) where
     );
   }
 
-  well_formed : IsWellFormed core
-  well_formed = record {
-    sound = sound;
-    boxes = boxes_typed;
-    small = core_is_small parts;
+  frame : HasSoundFrame core
+  frame = record {
+    holds = λ number sum at. absurd (nothing_there number sum at);
+    sizes = λ number sum at. absurd (nothing_there number sum at);
+    exceptions = refl;
+    boxes = boxes_framed;
     wires = wire_ends;
     limits = limits;
+  }
+
+  well_formed : IsWellFormed core
+  well_formed = record {
+    frame = frame;
+    calls = λ number function at. absurd (nothing_there number function at);
+    functions = λ number function at. absurd (nothing_there number function at);
+    boxes = boxes_typed;
   }
 
   -- its result never raises
@@ -457,11 +465,11 @@ module _ (parts : OneBox) (fit : AreFit parts) where
   boxes_handle : (n : ℕ) (b : BoxC) → slice_get core.nodes n ≡ Some (Rules b) → HandlesAll core b
   boxes_handle n b at = subst (HandlesAll core) (box_is n b at) box_handles
 
-pub cores_handle : (text : List ℕ) (core : Core) → StandsFor text core → (n : ℕ) (b : BoxC) → slice_get core.nodes n ≡ Some (Rules b) → HandlesAll core b
+pub cores_handle : (text : List ℕ) (core : Core) → HasCore text core → (n : ℕ) (b : BoxC) → slice_get core.nodes n ≡ Some (Rules b) → HandlesAll core b
 cores_handle text core stands =
     subst (λ (c : Core). (n : ℕ) (b : BoxC) → slice_get c.nodes n ≡ Some (Rules b) → HandlesAll c b) (sym stands.is) (boxes_handle stands.parts (fit_parts text core stands))
 
-pub cores_well_formed : (text : List ℕ) (core : Core) → StandsFor text core → IsWellFormed core × WiresAgree core × IsWired core
+pub cores_well_formed : (text : List ℕ) (core : Core) → HasCore text core → IsWellFormed core × WiresAgree core × IsWired core
 cores_well_formed text core stands =
     let fit = fit_parts text core stands in
     subst (λ c. IsWellFormed c × WiresAgree c × IsWired c) (sym stands.is) (well_formed stands.parts fit, wires_agree stands.parts fit, wired stands.parts fit)

@@ -8,7 +8,7 @@ use Rattle.hume_ast.specs.declared.tree.Decl.{Decl}
 use Rattle.hume_ast.specs.declared.tree.Decl.TheVariants.{BoxD, Stream, Wire}
 use Rattle.hume_ast.specs.declared.tree.Program.{Program}
 use Rattle.hume_ast.specs.Places.{unplaced}
-use Rattle.hume_run.specs.declared.one_box.Lines.{Lines}
+use Rattle.hume_run.specs.declared.one_box.DeclarationLines.{DeclarationLines}
 use Rattle.hume_run.specs.OneBox.{OneBox, IsOneBox, operation, rule_tree, trees, decl_lines}
 use Rattle.hume_run.proofs.OneBoxReading.{Computed, box_in}
 use Rattle.hume_run.proofs.ReaderLaws.{box_told}
@@ -55,7 +55,7 @@ pub other_decl : (text : List ℕ) (program : Program) (items : List (ℕ × Dec
 other_decl text program items at item tree same here there none parts is =
     none (item_tree items program.decls (trees is.operator parts) at item same is.decls here ∙ there is.operator parts item.1)
 
--- ---- the parts that are found
+-- the parts that are found
 
 five_items : {A : Type 0} (items : List A) (a b c d e : A) → 5 ≤ length items → length items < 6
     → a ≡ slice_index_or items 0 a → b ≡ slice_index_or items 1 b → c ≡ slice_index_or items 2 c → d ≡ slice_index_or items 3 d → e ≡ slice_index_or items 4 e
@@ -74,13 +74,13 @@ pub five_decls : (items : List (ℕ × Decl)) (program : Program) (a b c d e : �
 five_decls items program a b c d e same least below p q r s t = sym same ∙ five_items items a b c d e least below p q r s t
 
 -- the lines of five declarations
-abbrev pub AreLines : List ℕ → Lines → (a b c d e : ℕ × Decl) → Type 0
+abbrev pub AreLines : List ℕ → DeclarationLines → (a b c d e : ℕ × Decl) → Type 0
 AreLines text lines a b c d e = (lines.boxed ≡ line_at text a.0) × (lines.input ≡ line_at text b.0) × (lines.output ≡ line_at text c.0) × (lines.wire_in ≡ line_at text d.0) × (lines.wire_out ≡ line_at text e.0)
 
 pub one_box_found : (text : List ℕ) (program : Program) (parts : OneBox) (a b c d e : ℕ × Decl) (operator : BinOp) → program.decls ≡ a ∷ b ∷ c ∷ d ∷ e ∷ []
     → a.1 ≡ box_tree operator parts.amount → operation operator ≡ Some parts.op → parts.amount ≤ 999999999
     → b.1 ≡ Stream (codes "s") true parts.input → c.1 ≡ Stream (codes "t") false parts.output
-    → d.1 ≡ Wire (codes "s", None) (codes "b", Some (codes "x")) None → e.1 ≡ Wire (codes "b", Some (codes "y")) (codes "t", None) None
+    → d.1 ≡ Wire (codes "s", None) (codes "b", Some (codes "x")) None None → e.1 ≡ Wire (codes "b", Some (codes "y")) (codes "t", None) None None
     → AreLines text parts.lines a b c d e → IsOneBox text program parts
 one_box_found text program parts a b c d e operator decls boxed op amount input output wire_in wire_out lines = record {
   operator = operator;

@@ -74,11 +74,11 @@ is_box_end name port (own, None) = false
 is_box_end name port (own, Some other) = bytes_eq own name && bytes_eq other port
 
 abbrev pub is_wire_in : Decl → Bool
-is_wire_in (Wire source target None) = is_stream_end (codes "s") source && is_box_end (codes "b") (codes "x") target
+is_wire_in (Wire source target None None) = is_stream_end (codes "s") source && is_box_end (codes "b") (codes "x") target
 is_wire_in _ = false
 
 abbrev pub is_wire_out : Decl → Bool
-is_wire_out (Wire source target None) = is_box_end (codes "b") (codes "y") source && is_stream_end (codes "t") target
+is_wire_out (Wire source target None None) = is_box_end (codes "b") (codes "y") source && is_stream_end (codes "t") target
 is_wire_out _ = false
 
 -- what the five declarations tell: the operator, the operand, and the ports of the streams

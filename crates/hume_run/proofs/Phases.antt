@@ -62,7 +62,7 @@ ends_after owed olds mids news status taken p untouched e = record {
   form = e.form;
 }
 
--- ---- ports that are read
+-- ports that are read
 
 among-or : (here there later : Bool) → (here || there) ≡ true → (there ≡ true → later ≡ true) → (here || later) ≡ true
 among-or true there later h more = refl

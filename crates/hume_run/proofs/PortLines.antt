@@ -7,12 +7,12 @@ use Rattle.hume_ports.specs.Ports.{ForNameAt, Untouched, names, place_of, left_o
 use Rattle.hume_ports.specs.Delivery.{Progress, Failure}
 use Rattle.hume_ports.proofs.Names.{bytes_for-one}
 use Rattle.hume_ports.proofs.Progress.{read_failure-on, Drawn-first}
-use Rattle.hume_ports.proofs.Filling.{HasRead, HasRead-start, HasRead-on, OneRead, names_after, untouched_after, end_after}
+use Rattle.hume_ports.proofs.Filling.{HasRead, HasRead-start, HasRead-on, OneRead, untouched_after, end_after}
 use Rattle.hume_run.specs.declared.input.Input.{Input}
 use Rattle.hume_run.specs.declared.input.Input.TheVariants.{Values}
 use Rattle.hume_run.specs.declared.reading.Reading.{Reading}
-use Rattle.hume_run.specs.Reading.{GivesInput, ReadsSome, FailsToRead, IsOpen, GoesOn, Settles, EndsAs}
-use Rattle.hume_run.proofs.ReadLines.{GoesOn-on, Settles-on, EndsAs-on}
+use Rattle.hume_run.specs.inner.Reading.{GivesInput, ReadsSome, FailsToRead, IsOpen, GoesOn, Decides, EndsAs}
+use Rattle.hume_run.proofs.ReadLines.{GoesOn-on, Decides-on, EndsAs-on}
 
 -- a reading before the first byte
 abbrev no_reading : Reading
@@ -34,7 +34,7 @@ HasLines-start want ports at reading some values-are line-is = record {
     same_bad = λ rest. rw (values-are, line-is) refl;
     further = rw (values-are, line-is) (omega arith);
   };
-  still_open = record { few = rw values-are some; short = rw line-is (omega arith); one_line = rw line-is tt };
+  still_open = record { few = rw values-are some; short = rw line-is (omega arith); one_write = rw line-is tt };
 }
 
 -- a piece more
@@ -50,7 +50,7 @@ HasLines-on want olds mids news at reading next result buf bytes h piece reaches
   still_open = reaches.0;
 }
 
--- ---- the text that is spoken of
+-- the text that is spoken of
 
 -- what was read, before what is left
 spoken_of : (before after : Option (List ℕ)) (bytes : List ℕ) → Consumes before after bytes → (rest : List ℕ) × IfSome before (λ left. bytes ++ rest ≡ left) × (IsNone before → bytes ++ rest ≡ bytes)
@@ -68,9 +68,9 @@ consumed olds news at bytes h name e =
     let P : List ℕ → Type 0 = λ b. Consumes (left_of name olds) (left_of name news) b in
     subst P (bytes_for-one name bytes) (Drawn-first olds news name ((name, bytes) ∷ []) h.same_names (h.progress name e).drawn)
 
--- ---- what a call gives
+-- what a call gives
 
-pub gives_found : (want : ℕ) (olds mids news : List PortView) (at : ℕ) (reading : Reading) (result : Result ℕ Failed) (buf bytes : List ℕ) (input : Input) → HasLines want olds mids at reading → HasPiece mids news at result buf bytes → Settles want reading bytes input → ForNameAt at olds (λ name. GivesInput want name olds news input)
+pub gives_found : (want : ℕ) (olds mids news : List PortView) (at : ℕ) (reading : Reading) (result : Result ℕ Failed) (buf bytes : List ℕ) (input : Input) → HasLines want olds mids at reading → HasPiece mids news at result buf bytes → Decides want reading bytes input → ForNameAt at olds (λ name. GivesInput want name olds news input)
 gives_found want olds mids news at reading result buf bytes input h piece settled name e =
     let all : HasRead olds news at (h.taken ++ bytes) = HasRead-on olds mids news at h.taken bytes result buf h.read piece.one piece.taken in
     let spoken = spoken_of (left_of name olds) (left_of name news) (h.taken ++ bytes) (consumed olds news at (h.taken ++ bytes) all name e) in
@@ -80,7 +80,7 @@ gives_found want olds mids news at reading result buf bytes input h piece settle
       text = (h.taken ++ bytes) ++ spoken.0;
       told = spoken.1;
       untold = spoken.2;
-      is_input = Settles-on want no_reading reading h.taken bytes input h.on settled spoken.0;
+      is_input = Decides-on want no_reading reading h.taken bytes input h.on settled spoken.0;
     }
 
 pub gives_end : (want : ℕ) (olds mids news : List PortView) (at : ℕ) (reading : Reading) (result : Result ℕ Failed) (buf bytes : List ℕ) (input : Input) → HasLines want olds mids at reading → HasPiece mids news at result buf bytes → bytes ≡ [] → ForNameAt at mids (λ name. IsAtEnd (left_of name news)) → EndsAs want reading input → ForNameAt at olds (λ name. GivesInput want name olds news input)
@@ -111,7 +111,7 @@ gives_nothing ports at name e =
       is_input = (refl, λ less. absurd (omega arith));
     }
 
--- ---- what an error leaves
+-- what an error leaves
 
 pub reads_some : (want : ℕ) (olds mids news : List PortView) (at : ℕ) (reading : Reading) (result : Result ℕ Failed) (buf bytes : List ℕ) → HasLines want olds mids at reading → HasPiece mids news at result buf bytes → ForNameAt at olds (λ name. ReadsSome name olds news)
 reads_some want olds mids news at reading result buf bytes h piece name e =
@@ -120,9 +120,6 @@ reads_some want olds mids news at reading result buf bytes h piece name e =
 pub fails_to_read : (want : ℕ) (olds mids news : List PortView) (at : ℕ) (reading : Reading) → HasLines want olds mids at reading → ForNameAt at mids (λ name. Failure (λ port. port.read_faults) name mids news [] []) → ForNameAt at olds (λ name. FailsToRead name olds news)
 fails_to_read want olds mids news at reading h failed name e =
     (h.taken, read_failure-on name olds mids news ((name, h.taken) ∷ []) [] (h.read.progress name e) (failed name (ap (place_of name) h.read.same_names ∙ e)))
-
-pub lines_names : (want : ℕ) (olds mids news : List PortView) (at : ℕ) (reading : Reading) (result : Result ℕ Failed) (buf : List ℕ) → HasLines want olds mids at reading → OneRead mids news at result buf → names news ≡ names olds
-lines_names want olds mids news at reading result buf h one = names_after olds mids news at h.taken result buf h.read one
 
 pub lines_untouched : (want : ℕ) (olds mids news : List PortView) (at : ℕ) (reading : Reading) (result : Result ℕ Failed) (buf : List ℕ) → HasLines want olds mids at reading → OneRead mids news at result buf → ForNameAt at olds (λ name. Untouched (name ∷ []) olds news)
 lines_untouched want olds mids news at reading result buf h one = untouched_after olds mids news at h.taken result buf h.read one

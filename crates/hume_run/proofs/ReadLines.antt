@@ -10,9 +10,9 @@ use Rattle.hume_run.specs.declared.input.Input.{Input}
 use Rattle.hume_run.specs.declared.input.Input.TheVariants.{Values, Bad}
 use Rattle.hume_run.specs.declared.reading.Reading.{Reading}
 use Rattle.hume_run.specs.Inputs.{in_front, lines_of, is_good, value_of, is_int_text, is_int_32, int_written, put_before, good, bad, good_lines, bad_from}
-use Rattle.hume_run.specs.Reading.{IsInputAmong, HasNoNewline, IsOpen, GoesOn, Settles, EndsAs, good_with, bad_with}
+use Rattle.hume_run.specs.inner.Reading.{IsInputAmong, HasNoNewline, IsOpen, GoesOn, Decides, EndsAs, good_with, bad_with}
 
--- ---- lines
+-- lines
 
 -- a line up to its newline
 lines_of-newline : (line rest : List ℕ) → HasNoNewline line → lines_of (line ++ (10 ∷ rest)) ≡ line ∷ lines_of rest
@@ -51,7 +51,7 @@ no_newline-push : (line : List ℕ) (byte : ℕ) → HasNoNewline line → eqb b
 no_newline-push [] byte h e = (e, tt)
 no_newline-push (first ∷ line) byte h e = (h.0, no_newline-push line byte h.1 e)
 
--- ---- good lines and bad ones
+-- good lines and bad ones
 
 passes : {X : Type 0} (b : Bool) (x y : X) → cond b (Some x) None ≡ Some y → b ≡ true
 passes true x y e = refl
@@ -77,10 +77,10 @@ bad_from-bad number line others e = ap (λ b. cond b (bad_from (number + 1) othe
 value_of-long : (line : List ℕ) → 65536 < length line → value_of line ≡ None
 value_of-long line h = ap (λ b. cond ((b && is_int_text line) && is_int_32 (int_written line)) (Some (Word (word_of (int_written line)))) None) (lt-leb (length line) 65536 h)
 
--- ---- what settles an input
+-- what settles an input
 
 -- the first line that isn't ended yet is bad
-pub settled_bad : (want : ℕ) (old : Reading) (bytes : List ℕ) → length old.values < want → ((rest : List ℕ) → (line : List ℕ) × (others : List (List ℕ)) × (lines_of (old.line ++ (bytes ++ rest)) ≡ line ∷ others) × (value_of line ≡ None)) → Settles want old bytes (Bad (1 + length old.values))
+pub settled_bad : (want : ℕ) (old : Reading) (bytes : List ℕ) → length old.values < want → ((rest : List ℕ) → (line : List ℕ) × (others : List (List ℕ)) × (lines_of (old.line ++ (bytes ++ rest)) ≡ line ∷ others) × (value_of line ≡ None)) → Decides want old bytes (Bad (1 + length old.values))
 settled_bad want old bytes few bad rest =
     let b = bad rest in
     let none : good (old.line ++ (bytes ++ rest)) ≡ [] = ap good_lines b.2 ∙ good_lines-bad b.0 b.1 b.3 in
@@ -98,7 +98,7 @@ among_same want all most x y input e f h =
     let Q : Option ℕ → Type 0 = λ line. IsInputAmong want most line input in
     subst P (sym e) (subst Q (sym f) h)
 
--- ---- the end of a line
+-- the end of a line
 
 ended_good : (old : Reading) (rest : List ℕ) (value : Value) → HasNoNewline old.line → value_of old.line ≡ Some value → good_with old (10 ∷ rest) ≡ (old.values ++ (value ∷ [])) ++ good rest
 ended_good old rest value h e =
@@ -106,12 +106,12 @@ ended_good old rest value h e =
     ∙ ap (λ values. old.values ++ values) (good_lines-good old.line (lines_of rest) value e)
     ∙ sym (append_assoc old.values (value ∷ []) (good rest))
 
-pub ended_enough : (want : ℕ) (old new : Reading) (value : Value) → HasNoNewline old.line → value_of old.line ≡ Some value → new.values ≡ old.values ++ (value ∷ []) → length new.values ≡ want → Settles want old (10 ∷ []) (Values new.values)
+pub ended_enough : (want : ℕ) (old new : Reading) (value : Value) → HasNoNewline old.line → value_of old.line ≡ Some value → new.values ≡ old.values ++ (value ∷ []) → length new.values ≡ want → Decides want old (10 ∷ []) (Values new.values)
 ended_enough want old new value h e values-are enough rest =
     let same : good_with old (10 ∷ rest) ≡ new.values ++ good rest = ended_good old rest value h e ∙ ap (λ values. values ++ good rest) (sym values-are) in
     rw same (settled_values want new.values (good rest) (bad_with old (10 ∷ rest)) enough)
 
-pub ended_bad : (want : ℕ) (old : Reading) → HasNoNewline old.line → length old.values < want → value_of old.line ≡ None → Settles want old (10 ∷ []) (Bad (1 + length old.values))
+pub ended_bad : (want : ℕ) (old : Reading) → HasNoNewline old.line → length old.values < want → value_of old.line ≡ None → Decides want old (10 ∷ []) (Bad (1 + length old.values))
 ended_bad want old h few e = settled_bad want old (10 ∷ []) few (λ rest. (old.line, lines_of rest, lines_of-newline old.line rest h, e))
 
 pub ended_on : (old new : Reading) (value : Value) → HasNoNewline old.line → length old.line ≤ 65536 → value_of old.line ≡ Some value → new.values ≡ old.values ++ (value ∷ []) → new.line ≡ [] → GoesOn old (10 ∷ []) new
@@ -126,11 +126,11 @@ ended_on old new value h short e values-are line-is = record {
 }
 
 pub ended_open : (want : ℕ) (new : Reading) → length new.values < want → new.line ≡ [] → IsOpen want new
-ended_open want new few line-is = record { few = few; short = rw line-is (omega arith); one_line = rw line-is tt }
+ended_open want new few line-is = record { few = few; short = rw line-is (omega arith); one_write = rw line-is tt }
 
--- ---- one more byte of a line
+-- one more byte of a line
 
-pub pushed_long : (want : ℕ) (old : Reading) (byte : ℕ) → HasNoNewline old.line → eqb byte 10 ≡ false → length old.values < want → 65536 < length (old.line ++ (byte ∷ [])) → Settles want old (byte ∷ []) (Bad (1 + length old.values))
+pub pushed_long : (want : ℕ) (old : Reading) (byte : ℕ) → HasNoNewline old.line → eqb byte 10 ≡ false → length old.values < want → 65536 < length (old.line ++ (byte ∷ [])) → Decides want old (byte ∷ []) (Bad (1 + length old.values))
 pushed_long want old byte h e few long =
     settled_bad want old (byte ∷ []) few (λ rest.
     let full : List ℕ = old.line ++ (byte ∷ []) in
@@ -152,10 +152,10 @@ pub pushed_open : (want : ℕ) (old new : Reading) (byte : ℕ) → IsOpen want 
 pushed_open want old new byte open-before e values-are line-is short = record {
   few = rw values-are open-before.few;
   short = short;
-  one_line = rw line-is (no_newline-push old.line byte open-before.one_line e);
+  one_write = rw line-is (no_newline-push old.line byte open-before.one_write e);
 }
 
--- ---- many bytes
+-- many bytes
 
 pub GoesOn-on : (a b c : Reading) (x y : List ℕ) → GoesOn a x b → GoesOn b y c → GoesOn a (x ++ y) c
 GoesOn-on a b c x y h g = record {
@@ -164,30 +164,30 @@ GoesOn-on a b c x y h g = record {
   further = omega (arith, h.further, g.further, length-append x y);
 }
 
-pub Settles-on : (want : ℕ) (a b : Reading) (x y : List ℕ) (input : Input) → GoesOn a x b → Settles want b y input → Settles want a (x ++ y) input
-Settles-on want a b x y input h settled rest =
+pub Decides-on : (want : ℕ) (a b : Reading) (x y : List ℕ) (input : Input) → GoesOn a x b → Decides want b y input → Decides want a (x ++ y) input
+Decides-on want a b x y input h settled rest =
     rw append_assoc (among_same want _ _ _ _ input (h.same_good (y ++ rest)) (h.same_bad (y ++ rest)) (settled rest))
 
-pub Settles-more : (want : ℕ) (a : Reading) (x y : List ℕ) (input : Input) → Settles want a x input → Settles want a (x ++ y) input
-Settles-more want a x y input settled rest = rw append_assoc (settled (y ++ rest))
+pub Decides-more : (want : ℕ) (a : Reading) (x y : List ℕ) (input : Input) → Decides want a x input → Decides want a (x ++ y) input
+Decides-more want a x y input settled rest = rw append_assoc (settled (y ++ rest))
 
 -- the byte at a place of a piece settles the input
-pub settled_within : (want : ℕ) (old mid : Reading) (piece : List ℕ) (at byte : ℕ) (input : Input) → at < length piece → get_or piece at 0 ≡ byte → GoesOn old (take at piece) mid → Settles want mid (byte ∷ []) input → Settles want old piece input
+pub settled_within : (want : ℕ) (old mid : Reading) (piece : List ℕ) (at byte : ℕ) (input : Input) → at < length piece → get_or piece at 0 ≡ byte → GoesOn old (take at piece) mid → Decides want mid (byte ∷ []) input → Decides want old piece input
 settled_within want old mid piece at byte input within is on settled =
-    let P : List ℕ → Type 0 = λ bytes. Settles want old bytes input in
+    let P : List ℕ → Type 0 = λ bytes. Decides want old bytes input in
     let front : take (at + 1) piece ≡ take at piece ++ (byte ∷ []) = take_more piece at 0 within ∙ ap (λ b. take at piece ++ (b ∷ [])) is in
     subst P (take-append-drop (at + 1) piece)
-    (Settles-more want old (take (at + 1) piece) (drop (at + 1) piece) input
-    (subst P (sym front) (Settles-on want old mid (take at piece) (byte ∷ []) input on settled)))
+    (Decides-more want old (take (at + 1) piece) (drop (at + 1) piece) input
+    (subst P (sym front) (Decides-on want old mid (take at piece) (byte ∷ []) input on settled)))
 
--- ---- the end of the bytes
+-- the end of the bytes
 
 -- the last line needs no newline
 last_lines : (line : List ℕ) → HasNoNewline line → 0 < length line → lines_of (line ++ []) ≡ lines_of (line ++ (10 ∷ []))
 last_lines [] h some = absurd (omega arith)
 last_lines (byte ∷ line) h some = ap lines_of (append-nil (byte ∷ line)) ∙ lines_of-last byte line h ∙ sym (lines_of-newline (byte ∷ line) [] h)
 
-pub EndsAs-last : (want : ℕ) (reading : Reading) (input : Input) → HasNoNewline reading.line → 0 < length reading.line → Settles want reading (10 ∷ []) input → EndsAs want reading input
+pub EndsAs-last : (want : ℕ) (reading : Reading) (input : Input) → HasNoNewline reading.line → 0 < length reading.line → Decides want reading (10 ∷ []) input → EndsAs want reading input
 EndsAs-last want reading input h some settled =
     let same : lines_of (reading.line ++ []) ≡ lines_of (reading.line ++ (10 ∷ [])) = last_lines reading.line h some in
     among_same want _ _ _ _ input (ap (λ lines. reading.values ++ good_lines lines) same) (ap (bad_from (1 + length reading.values)) same) (settled [])

@@ -15,18 +15,18 @@ use Rattle.hume_ast.specs.declared.tree.Exp.TheOpen.{Exp-F}
 use Rattle.hume_ast.specs.declared.tree.Decl.{Decl}
 use Rattle.hume_ast.specs.declared.tree.Decl.TheVariants.{BoxD, Stream, Wire}
 use Rattle.hume_ast.specs.declared.tree.Program.{Program}
-use Rattle.hume_ast.specs.Places.{unplaced, StandsFor as SpelledBy}
-use Rattle.hume_grammar.proofs.OneSpelling.{one_placed}
+use Rattle.hume_ast.specs.Places.{unplaced, StandsFor}
+use Rattle.token_readers.proofs.OneSpelling.{one_placed}
 use Rattle.hume_lex.proofs.Unique.{one_reading}
 use Rattle.hume_model.specs.declared.core_tree.Core.{Core}
 use Rattle.hume_model.specs.declared.core_tree.Op.{Op}
 use Rattle.hume_ports.proofs.Names.{same_name}
-use Rattle.hume_run.specs.declared.one_box.Lines.{Lines}
+use Rattle.hume_run.specs.declared.one_box.DeclarationLines.{DeclarationLines}
 use Rattle.hume_run.specs.Accepted.{IsAccepted}
-use Rattle.hume_run.specs.OneBox.{OneBox, IsOneBox, StandsFor, operation, rule_tree, trees, line_list, decl_lines, core_of}
+use Rattle.hume_run.specs.OneBox.{OneBox, IsOneBox, HasCore, operation, rule_tree, trees, line_list, decl_lines, core_of}
 use Rattle.hume_run.proofs.OneBoxReading.{Computed, Told, number_in, is_bare, with_operator, computed_in, paren_in, is_name, rule_in, is_int_32, is_port, box_in, input_in, output_in, is_stream_end, is_box_end, is_wire_in, is_wire_out, all_told, told_by}
 
--- ---- what is read is spelled so
+-- what is read is spelled so
 
 number_is : (x : Exp-F Exp) (amount : ℕ) → number_in x ≡ Some amount → x ≡ Exp-F.Num false amount
 number_is (Exp-F.Num false own) amount e = ap (Exp-F.Num false) (same_Some own amount e)
@@ -127,23 +127,23 @@ box_end_is (own, Some other) name port e =
     let o : other ≡ port = same_name other port p.1 in
     (λ i. (n i, Some (o i)))
 
-wire_in_is : (decl : Decl) → is_wire_in decl ≡ true → decl ≡ Wire (codes "s", None) (codes "b", Some (codes "x")) None
-wire_in_is (Wire source target None) e =
+wire_in_is : (decl : Decl) → is_wire_in decl ≡ true → decl ≡ Wire (codes "s", None) (codes "b", Some (codes "x")) None None
+wire_in_is (Wire source target None None) e =
     let p = and_parts (is_stream_end (codes "s") source) (is_box_end (codes "b") (codes "x") target) e in
     let s : source ≡ (codes "s", None) = stream_end_is source (codes "s") p.0 in
     let t : target ≡ (codes "b", Some (codes "x")) = box_end_is target (codes "b") (codes "x") p.1 in
-    (λ i. Wire (s i) (t i) None)
+    (λ i. Wire (s i) (t i) None None)
 wire_in_is _ e = cc
 
-wire_out_is : (decl : Decl) → is_wire_out decl ≡ true → decl ≡ Wire (codes "b", Some (codes "y")) (codes "t", None) None
-wire_out_is (Wire source target None) e =
+wire_out_is : (decl : Decl) → is_wire_out decl ≡ true → decl ≡ Wire (codes "b", Some (codes "y")) (codes "t", None) None None
+wire_out_is (Wire source target None None) e =
     let p = and_parts (is_box_end (codes "b") (codes "y") source) (is_stream_end (codes "t") target) e in
     let s : source ≡ (codes "b", Some (codes "y")) = box_end_is source (codes "b") (codes "y") p.0 in
     let t : target ≡ (codes "t", None) = stream_end_is target (codes "t") p.1 in
-    (λ i. Wire (s i) (t i) None)
+    (λ i. Wire (s i) (t i) None None)
 wire_out_is _ e = cc
 
--- ---- what the declarations tell
+-- what the declarations tell
 
 abbrev told_of : BinOp → OneBox → Told
 told_of operator parts = record { operator = operator; amount = parts.amount; input = parts.input; output = parts.output }
@@ -205,10 +205,10 @@ told_trees (boxed ∷ input ∷ output ∷ wire_in ∷ wire_out ∷ []) told e p
     rw (amount, from, to) (λ j. b j ∷ i j ∷ o j ∷ v j ∷ u j ∷ [])
 told_trees _ told e parts amount from to = cc
 
--- ---- whether a program is a one-box program
+-- whether a program is a one-box program
 
 -- the five lines of a list
-abbrev lines_in : List ℕ → Lines
+abbrev lines_in : List ℕ → DeclarationLines
 lines_in (boxed ∷ input ∷ output ∷ wire_in ∷ wire_out ∷ []) = record { boxed = boxed; input = input; output = output; wire_in = wire_in; wire_out = wire_out }
 lines_in _ = record { boxed = 0; input = 0; output = 0; wire_in = 0; wire_out = 0 }
 
@@ -217,7 +217,7 @@ five_lines : (text : List ℕ) (decls : List (ℕ × Decl)) (a b c d e : Decl) �
 five_lines text (v ∷ w ∷ x ∷ y ∷ z ∷ []) a b c d e is = refl
 five_lines text _ a b c d e is = cc
 
-same_lines : (one other : Lines) → line_list one ≡ line_list other → one ≡ other
+same_lines : (one other : DeclarationLines) → line_list one ≡ line_list other → one ≡ other
 same_lines one other e = ap lines_in e
 
 -- a one-box program is told
@@ -269,7 +269,7 @@ decided_by text program (Some told) e = with_told text program told e (operation
 pub one_box_decided : (text : List ℕ) (program : Program) → Decided text program
 one_box_decided text program = decided_by text program (told_by (unplaced program.decls)) refl
 
--- ---- a source stands for one core at most
+-- a source stands for one core at most
 
 one_parts : (text : List ℕ) (program : Program) (one other : OneBox) → IsOneBox text program one → IsOneBox text program other → one ≡ other
 one_parts text program one other a b =
@@ -281,9 +281,9 @@ one_parts text program one other a b =
 pub one_accepted : (text : List ℕ) (p q : Program) → IsAccepted text p → IsAccepted text q → p ≡ q
 one_accepted text p q a b =
     let same : b.tokens ≡ a.tokens = one_reading text b.tokens a.tokens b.read.0 a.read.0 in
-    one_placed a.tokens p q a.spelled (subst (λ tokens. SpelledBy tokens q) same b.spelled)
+    one_placed a.tokens p q a.spelled (subst (λ tokens. StandsFor tokens q) same b.spelled)
 
-pub one_core : (text : List ℕ) (first second : Core) → StandsFor text first → StandsFor text second → first ≡ second
+pub one_core : (text : List ℕ) (first second : Core) → HasCore text first → HasCore text second → first ≡ second
 one_core text first second a b =
     let program = one_accepted text b.spelled.program a.spelled.program b.spelled.accepted a.spelled.accepted in
     let same : a.parts ≡ b.parts = one_parts text a.spelled.program a.parts b.parts a.spelled.is (subst (λ p. IsOneBox text p b.parts) program b.spelled.is) in

@@ -9,15 +9,15 @@ use Rattle.hume_ports.proofs.Progress.{Progress-on, Failure-on}
 use Rattle.hume_ports.proofs.Rooms.{Roomy-on}
 use Rattle.hume_ports.proofs.Untouched.{Untouched-on}
 use Rattle.hume_run.specs.declared.status.Status.TheVariants.{Fault}
-use Rattle.hume_run.specs.declared.report.Line.{Line}
+use Rattle.hume_run.specs.declared.report.OwedWrite.{OwedWrite}
 use Rattle.hume_run.specs.declared.report.Report.{Report}
 use Rattle.hume_run.specs.Owed.{Owed}
 use Rattle.hume_run.specs.Headline.{Ends, FailedWrite, FailedFinish}
-use Rattle.hume_run.specs.Reports.{IsReport, name_at, names_at, pairs_of}
+use Rattle.hume_run.specs.inner.Reports.{IsReport, name_at, names_at, pairs_of}
 use Rattle.hume_run.proofs.Ending.{ends_failed, ends_answered, more_touched}
 
 -- what the writes of lines leave of the ports
-abbrev pub TouchesLines : List PortView → List PortView → List Line → Type 0
+abbrev pub TouchesLines : List PortView → List PortView → List OwedWrite → Type 0
 TouchesLines olds news lines = (touched : List (List ℕ)) → All (λ line. is_among (name_at (names olds) line.at) touched ≡ true) lines → Untouched touched olds news
 
 pub settle_write_failed : (owed : Owed) (olds news : List PortView) (report : Report) → IsReport owed (names olds) report

@@ -17,12 +17,12 @@ use Rattle.hume_run.specs.declared.input.Input.{Input}
 use Rattle.hume_run.specs.declared.order.Order.{Order}
 use Rattle.hume_run.specs.declared.order.Order.TheVariants.{Run, Check}
 use Rattle.hume_run.specs.Accepted.{IsAccepted, Breaks}
-use Rattle.hume_run.specs.OneBox.{OneBox, IsOneBox, StandsFor, core_of}
+use Rattle.hume_run.specs.OneBox.{OneBox, IsOneBox, HasCore, core_of}
 use Rattle.hume_run.specs.Owed.{Owed, IsRefusal, broken, not_built, unfit, IsOwed, owed_run, owed_refused, owed_accepted, streams, unfit_line}
 use Rattle.hume_run.specs.Headline.{Ends, Answers, AnswersFrom, source_text}
-use Rattle.hume_run.specs.BoxRuns.{RunsBox}
-use Rattle.hume_run.specs.Reading.{GivesInput, IsInputOf, ReadsSome, FailsToRead}
-use Rattle.hume_run.specs.Reports.{IsPlaceOf}
+use Rattle.hume_run.specs.inner.BoxRuns.{RunsBox}
+use Rattle.hume_run.specs.inner.Reading.{GivesInput, IsInputFrom, ReadsSome, FailsToRead}
+use Rattle.hume_run.specs.inner.Reports.{IsPlaceOf}
 use Rattle.hume_run.proofs.Accepting.{IsJudged, judged}
 use Rattle.hume_run.proofs.ReaderLaws.{Decided, one_box_decided, one_accepted}
 use Rattle.hume_run.proofs.Ending.{ends_without_memory}
@@ -33,7 +33,7 @@ use Rattle.hume_run.proofs.Texts.{told_texts, told_by_all, texts_with, text_with
 pub meant : (name : List ℕ) (ns : List (List ℕ)) (at : ℕ) → IsPlaceOf name ns at → place_of name ns ≡ Some at
 meant name ns at p = let P : List ℕ → Type 0 = λ n. place_of n ns ≡ Some at in subst P p.named p.place.first
 
--- ---- the run of an accepted source
+-- the run of an accepted source
 
 or-true : (b : Bool) → (b || true) ≡ true
 or-true true = refl
@@ -68,14 +68,14 @@ box_unstarted steps parts olds news at place reads untouched =
 
 pub box_runs : (steps : ℕ) (parts : OneBox) (olds mids news : List PortView) (at : ℕ) (input : Input) (status : Status) → IsPlaceOf parts.input (names olds) at
     → ForNameAt at olds (λ name. GivesInput steps name olds mids input) → ForNameAt at olds (λ name. Untouched (name ∷ []) olds mids)
-    → ((texts : List ℕ → List ℕ) → IsInputOf steps (texts parts.input) input → (source : List ℕ) → Ends (owed_run steps source texts (core_of parts)) mids news status)
+    → ((texts : List ℕ → List ℕ) → IsInputFrom steps (texts parts.input) input → (source : List ℕ) → Ends (owed_run steps source texts (core_of parts)) mids news status)
     → RunsBox steps parts olds news status
 box_runs steps parts olds mids news at input status place given untouched ends =
     let e = meant parts.input (names olds) at place in
     let g = given parts.input e in
     let texts : List ℕ → List ℕ = texts_with olds parts.input g.text in
-    let P : List ℕ → Type 0 = λ text. IsInputOf steps text input in
-    let is_input : IsInputOf steps (texts parts.input) input = subst P (sym (text_with olds parts.input g.text)) g.is_input in
+    let P : List ℕ → Type 0 = λ text. IsInputFrom steps text input in
+    let is_input : IsInputFrom steps (texts parts.input) input = subst P (sym (text_with olds parts.input g.text)) g.is_input in
     record {
       texts = texts;
       told = told_by_others olds parts.input g.text g.told;
@@ -85,12 +85,7 @@ box_runs steps parts olds mids news at input status place given untouched ends =
           (ends texts is_input source));
     }
 
--- the input that was given is one of some text
-pub input_of_some : (steps : ℕ) (olds mids : List PortView) (at : ℕ) (name : List ℕ) (input : Input) → IsPlaceOf name (names olds) at
-    → ForNameAt at olds (λ n. GivesInput steps n olds mids input) → (text : List ℕ) × IsInputOf steps text input
-input_of_some steps olds mids at name input place given = let g = given name (meant name (names olds) at place) in (g.text, g.is_input)
-
--- ---- a call of an accepted source, or of a refused one
+-- a call of an accepted source, or of a refused one
 
 -- a refused source, whatever is asked
 broken_owed : (order : Order) (source text : List ℕ) (ns : List (List ℕ)) (texts : List ℕ → List ℕ) (refusal : Refusal) → Breaks text refusal
@@ -120,12 +115,12 @@ check_answers place source text olds news status program accepted ends =
     owed_answers (Check place) source text olds news status (owed_accepted source) (inr (program, accepted, refl)) (ends source)
 
 -- an accepted program that isn't a one-box program stands for no core
-no_core : (text : List ℕ) (program : Program) → IsAccepted text program → ((parts : OneBox) → IsOneBox text program parts → ⊥) → (core : Core) → StandsFor text core → ⊥
+no_core : (text : List ℕ) (program : Program) → IsAccepted text program → ((parts : OneBox) → IsOneBox text program parts → ⊥) → (core : Core) → HasCore text core → ⊥
 no_core text program accepted none core stands =
     none stands.parts (subst (λ p. IsOneBox text p stands.parts) (one_accepted text stands.spelled.program program stands.spelled.accepted accepted) stands.spelled.is)
 
 -- the core of an accepted one-box program
-stands_for : (text : List ℕ) (program : Program) (parts : OneBox) → IsAccepted text program → IsOneBox text program parts → StandsFor text (core_of parts)
+stands_for : (text : List ℕ) (program : Program) (parts : OneBox) → IsAccepted text program → IsOneBox text program parts → HasCore text (core_of parts)
 stands_for text program parts accepted is = record {
   parts = parts;
   spelled = record { program = program; accepted = accepted; is = is };
@@ -159,9 +154,9 @@ run_answers place steps source text olds news status program parts accepted is f
   ends = runs.ends source;
 }
 
--- ---- whatever the text, something is owed
+-- whatever the text, something is owed
 
-run_owed : (place steps : ℕ) (source text : List ℕ) (ns : List (List ℕ)) (texts : List ℕ → List ℕ) (core : Core) (line : Option ℕ) → StandsFor text core
+run_owed : (place steps : ℕ) (source text : List ℕ) (ns : List (List ℕ)) (texts : List ℕ → List ℕ) (core : Core) (line : Option ℕ) → HasCore text core
     → unfit_line ns source [] (streams core) ≡ line → (owed : Owed) × IsOwed (Run steps place) source text ns texts owed
 run_owed place steps source text ns texts core None stands fit = (owed_run steps source texts core, inr (core, stands, fit, refl))
 run_owed place steps source text ns texts core (Some line) stands found =
@@ -191,7 +186,7 @@ answers_unstarted order source text olds =
     owed_answers order source text olds olds NoMemory owed.0 owed.1
     (ends_without_memory owed.0 olds olds [] (Progress-start olds) (Untouched-start (owed.0.reads ++ owed.0.finishes) olds))
 
--- ---- the call from its source's port
+-- the call from its source's port
 
 first_among : (one : List ℕ) (others : List (List ℕ)) → is_among one (one ∷ others) ≡ true
 first_among one others = rw (bytes_eq-self one) refl

@@ -11,32 +11,32 @@ use Rattle.hume_ports.proofs.Names.{bytes_eq-self}
 use Rattle.hume_ports.proofs.Progress.{Progress-start, Progress-on, write_failure-on, finish_failure-on}
 use Rattle.hume_ports.proofs.Rooms.{Roomy-on, Roomy-first}
 use Rattle.hume_ports.proofs.Untouched.{Untouched-start, Untouched-on, Untouched-among}
-use Rattle.hume_run.specs.declared.report.Line.{Line}
-use Rattle.hume_run.specs.Reports.{IsPlace, name_at, names_at, pair_of, pairs_of}
+use Rattle.hume_run.specs.declared.report.OwedWrite.{OwedWrite}
+use Rattle.hume_run.specs.inner.Reports.{IsPlace, name_at, names_at, pair_of, pairs_of}
 use Rattle.hume_run.specs.Headline.{FailedWrite, FailedFinish}
 use Rattle.hume_run.proofs.Places.{at_place, of_item}
 
--- ---- lines
+-- lines
 
 -- the lines before the index were written
-pub record Written (olds news : List PortView) (lines : List Line) (count : ℕ) : Type 0 where
+pub record Written (olds news : List PortView) (lines : List OwedWrite) (count : ℕ) : Type 0 where
   pub progress : Progress olds news [] (pairs_of (names olds) (take count lines))
   pub untouched : (touched : List (List ℕ)) → All (λ line. is_among (name_at (names olds) line.at) touched ≡ true) lines → Untouched touched olds news
 
-pub Written-start : (ports : List PortView) (lines : List Line) → Written ports ports lines 0
+pub Written-start : (ports : List PortView) (lines : List OwedWrite) → Written ports ports lines 0
 Written-start ports lines = record {
   progress = Progress-start ports;
   untouched = λ touched among. Untouched-start touched ports;
 }
 
-pairs-more : (ns : List (List ℕ)) (lines : List Line) (count : ℕ) (line : Line) → count < length lines → line ≡ get_or lines count line
+pairs-more : (ns : List (List ℕ)) (lines : List OwedWrite) (count : ℕ) (line : OwedWrite) → count < length lines → line ≡ get_or lines count line
     → pairs_of ns (take (count + 1) lines) ≡ pairs_of ns (take count lines) ++ pair_of ns line ∷ []
 pairs-more ns lines count line within is =
     ap (pairs_of ns) (take_more lines count line within)
     ∙ map-append (pair_of ns) (take count lines) (get_or lines count line ∷ [])
     ∙ ap (λ l. pairs_of ns (take count lines) ++ pair_of ns l ∷ []) (sym is)
 
-pub still_untouched : (olds mids news : List PortView) (lines : List Line) (count : ℕ) (line : Line) → count < length lines → line ≡ get_or lines count line
+pub still_untouched : (olds mids news : List PortView) (lines : List OwedWrite) (count : ℕ) (line : OwedWrite) → count < length lines → line ≡ get_or lines count line
     → IsPlace (names olds) line.at → Written olds mids lines count
     → ForNameAt line.at mids (λ name. Untouched (name ∷ []) mids news)
     → (touched : List (List ℕ)) → All (λ l. is_among (name_at (names olds) l.at) touched ≡ true) lines → Untouched touched olds news
@@ -46,7 +46,7 @@ still_untouched olds mids news lines count line within is place before step touc
     (of_item (λ l. is_among (name_at (names olds) l.at) touched ≡ true) lines count line within is among)
     (at_place olds mids line.at (λ name. Untouched (name ∷ []) mids news) before.progress.same_names place step))
 
-pub Written-more : (olds mids news : List PortView) (lines : List Line) (count : ℕ) (line : Line) → count < length lines → line ≡ get_or lines count line
+pub Written-more : (olds mids news : List PortView) (lines : List OwedWrite) (count : ℕ) (line : OwedWrite) → count < length lines → line ≡ get_or lines count line
     → IsPlace (names olds) line.at → Written olds mids lines count
     → ForNameAt line.at mids (λ name. Progress mids news [] ((name, line.bytes.items) ∷ []))
     → ForNameAt line.at mids (λ name. Untouched (name ∷ []) mids news)
@@ -61,7 +61,7 @@ Written-more olds mids news lines count line within is place before given step =
     }
 
 -- the lines at the index and behind it
-split_at : (ns : List (List ℕ)) (lines : List Line) (count : ℕ) (line : Line) → count < length lines → line ≡ get_or lines count line
+split_at : (ns : List (List ℕ)) (lines : List OwedWrite) (count : ℕ) (line : OwedWrite) → count < length lines → line ≡ get_or lines count line
     → pairs_of ns lines ≡ pairs_of ns (take count lines) ++ (pair_of ns line ∷ pairs_of ns (drop (count + 1) lines))
 split_at ns lines count line within is =
     let front : lines ≡ take count lines ++ (line ∷ drop (count + 1) lines) =
@@ -69,7 +69,7 @@ split_at ns lines count line within is =
     ∙ ap (λ rest. take count lines ++ rest) (rw (add-one, drop-cons lines count line, ← is) refl) in
     ap (pairs_of ns) front ∙ map-append (pair_of ns) (take count lines) (line ∷ drop (count + 1) lines)
 
-pub write_failed : (olds mids news : List PortView) (lines : List Line) (count : ℕ) (line : Line) → count < length lines → line ≡ get_or lines count line
+pub write_failed : (olds mids news : List PortView) (lines : List OwedWrite) (count : ℕ) (line : OwedWrite) → count < length lines → line ≡ get_or lines count line
     → IsPlace (names olds) line.at → Written olds mids lines count
     → ForNameAt line.at mids (λ name. (part : ℕ) × (part ≤ length line.bytes.items) × Failure (λ port. port.write_faults) name mids news [] ((name, take part line.bytes.items) ∷ []))
     → FailedWrite (pairs_of (names olds) lines) olds news
@@ -85,7 +85,7 @@ write_failed olds mids news lines count line within is place before failed =
       failure = write_failure-on (name_at (names olds) line.at) olds mids news [] _ _ before.progress f.2;
     }
 
-pub write_roomy : (olds mids : List PortView) (lines : List Line) (count : ℕ) (line : Line) (R : Type 0) → count < length lines → line ≡ get_or lines count line
+pub write_roomy : (olds mids : List PortView) (lines : List OwedWrite) (count : ℕ) (line : OwedWrite) (R : Type 0) → count < length lines → line ≡ get_or lines count line
     → IsPlace (names olds) line.at → Written olds mids lines count
     → ForNameAt line.at mids (λ name. Roomy mids ((name, line.bytes.items) ∷ []) → R)
     → Roomy olds (pairs_of (names olds) lines) → R
@@ -96,7 +96,7 @@ write_roomy olds mids lines count line R within is place before step roomy =
     at_place olds mids line.at (λ name. Roomy mids ((name, line.bytes.items) ∷ []) → R) before.progress.same_names place step
     (Roomy-first mids (pair_of (names olds) line ∷ []) (pairs_of (names olds) (drop (count + 1) lines)) rest)
 
--- ---- finishes
+-- finishes
 
 or-true : (b : Bool) → (b || true) ≡ true
 or-true true = refl

@@ -2,8 +2,8 @@
 use Rattle.std.proofs.Common.{◌≡◌, ℕ, ◌+◌, refl, ap, add-one}
 use Rattle.std.proofs.lemmas.Grind.{common_steps}
 use Rattle.hume_model.specs.declared.core_tree.Core.{Core}
-use Rattle.hume_model.specs.declared.state.State.{State}
-use Rattle.hume_model.specs.Lockstep.{superstep, lockstep}
+use Rattle.hume_net.specs.declared.state.State.{State}
+use Rattle.hume_net.specs.Lockstep.{superstep, lockstep}
 
 pub lockstep-zero : (core : Core) (state : State) → lockstep core state 0 ≡ state
 unfolding lockstep

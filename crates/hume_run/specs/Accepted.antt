@@ -7,13 +7,13 @@ use Rattle.hume_base.specs.declared.rule.Refusal.{Refusal}
 use Rattle.hume_base.specs.declared.token.Token.{Token}
 use Rattle.hume_base.specs.Places.{line_at}
 use Rattle.hume_ast.specs.declared.tree.Program.{Program}
-use Rattle.hume_ast.specs.Places.{StandsFor as SpelledBy}
+use Rattle.hume_ast.specs.Places.{StandsFor}
 use Rattle.hume_lex.specs.declared.lexer.LexError.{LexError}
 use Rattle.hume_lex.specs.declared.lexer.LexError.TheVariants as lexical
-use Rattle.hume_lex.specs.Faults.{IsRead, IsFault as IsBadPlace, place_of as bad_place}
+use Rattle.hume_lex.specs.BadPlaces.{IsRead, IsBadPlace, bad_place}
 use Rattle.hume_parse.specs.declared.parser.ParseError.{ParseError}
 use Rattle.hume_parse.specs.declared.parser.ParseError.TheVariants as syntactic
-use Rattle.hume_parse.specs.Parsing.{IsFault as IsWrongPlace}
+use Rattle.hume_parse.specs.Parsing.{IsWrongPlace}
 use Rattle.hume_run.specs.declared.acceptance.AcceptError.{AcceptError}
 use Rattle.hume_run.specs.declared.acceptance.AcceptError.TheVariants.{Refused, NoMemory}
 
@@ -39,7 +39,7 @@ pub record IsAccepted (text : List ℕ) (program : Program) : Type 0 where
   pub short : length text ≤ MAX_SOURCE_BYTES
   pub tokens : List Token
   pub read : IsRead text tokens
-  pub spelled : SpelledBy tokens program
+  pub spelled : StandsFor tokens program
 
 -- The first rule that the source breaks: it is too long; or else its first bad place is one of the lexer's; or else its
 -- tokens stand for no program.

@@ -50,7 +50,7 @@ Fails owed old new =
 -- What an answer says of a call that owes this.
 pub record Ends (owed : Owed) (old new : List PortView) (status : Status) : Type 0 where
   -- a call that goes through to its end gives the owed answer: Refused exactly where a rule is broken, BadValue exactly
-  -- where a bad line blocks the run
+  -- where a bad line halts the run
   pub answer : IsAnswer status → status ≡ owed.status
   -- then each port has just what it had, followed by the bytes of the writes to it, and the finished ports are flushed
   pub bytes : IsAnswer status → Delivered old new owed.writes

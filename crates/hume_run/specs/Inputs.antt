@@ -3,6 +3,7 @@ use Rattle.std.specs.Prelude.{ℕ, ◌+◌, ◌^◌, ◌==◌, Bool, ◌&&◌, �
 use Rattle.std.specs.List.{slice_index}
 use Rattle.std.specs.Str.{all_ascii_digits}
 use Rattle.std.specs.Str.Parse.{digits_value}
+use Rattle.hume_base.specs.declared.limits.TheConstants.{MAX_LINE_BYTES}
 use Rattle.hume_base.specs.declared.types.Value.{Value, Word}
 use Rattle.hume_base.specs.Words.{word_of}
 
@@ -35,9 +36,9 @@ abbrev pub is_int_32 : ℤ → Bool
 is_int_32 (pos number) = nat_lt number (2 ^ 31)
 is_int_32 (negsuc number) = nat_lt number (2 ^ 31)
 
--- a line of at most 65,536 bytes that is the text of a number of `int 32`
+-- a line that is not too long, and is the text of a number of `int 32`
 abbrev pub is_good : List ℕ → Bool
-is_good line = nat_le (length line) 65536 && is_int_text line && is_int_32 (int_written line)
+is_good line = nat_le (length line) MAX_LINE_BYTES && is_int_text line && is_int_32 (int_written line)
 
 -- the value that a line stands for, if it is good
 abbrev pub value_of : List ℕ → Option Value

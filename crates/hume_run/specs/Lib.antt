@@ -3,11 +3,6 @@ pub mod Words
 pub mod Accepted
 pub mod OneBox
 pub mod Inputs
-pub mod Reading
 pub mod Owed
 pub mod Headline
-pub mod Reports
-pub mod Places
-pub mod PartsOf
-pub mod BoxReports
-pub mod BoxRuns
+pub mod inner

@@ -18,11 +18,11 @@ use Rattle.hume_model.specs.declared.core_tree.PatC.TheVariants.{Var as Variable
 use Rattle.hume_model.specs.declared.core_tree.InPat.TheVariants.{Built}
 use Rattle.hume_model.specs.declared.core_tree.Res.TheVariants.{Outs}
 use Rattle.hume_model.specs.declared.core_tree.RuleC.{RuleC}
-use Rattle.hume_model.specs.declared.core_tree.ExnDef.{ExnDef}
 use Rattle.hume_model.specs.declared.core_tree.BoxC.{BoxC}
 use Rattle.hume_model.specs.declared.core_tree.NodeC.TheVariants.{Rules, From, To}
 use Rattle.hume_model.specs.declared.core_tree.Core.{Core}
-use Rattle.hume_run.specs.declared.one_box.Lines.{Lines}
+use Rattle.hume_model.specs.OwnExceptions.{own_exceptions}
+use Rattle.hume_run.specs.declared.one_box.DeclarationLines.{DeclarationLines}
 use Rattle.hume_run.specs.Accepted.{IsAccepted}
 
 -- What is free in a one-box source: the ports of its streams, the operation, its right operand, and the lines.
@@ -31,7 +31,7 @@ pub record OneBox : Type 0 where
   pub op : Op
   pub amount : ℕ
   pub output : List ℕ
-  pub lines : Lines
+  pub lines : DeclarationLines
 
 -- the operation of an operator, if a one-box source may have it
 abbrev pub operation : BinOp → Option Op
@@ -50,11 +50,11 @@ trees operator parts =
     BoxD (codes "b") ((codes "x", IntType 32) ∷ []) ((codes "y", IntType 32) ∷ []) false (rule_tree operator parts.amount ∷ []) []
     ∷ Stream (codes "s") true parts.input
     ∷ Stream (codes "t") false parts.output
-    ∷ Wire (codes "s", None) (codes "b", Some (codes "x")) None
-    ∷ Wire (codes "b", Some (codes "y")) (codes "t", None) None
+    ∷ Wire (codes "s", None) (codes "b", Some (codes "x")) None None
+    ∷ Wire (codes "b", Some (codes "y")) (codes "t", None) None None
     ∷ []
 
-abbrev pub line_list : Lines → List ℕ
+abbrev pub line_list : DeclarationLines → List ℕ
 line_list lines = lines.boxed ∷ lines.input ∷ lines.output ∷ lines.wire_in ∷ lines.wire_out ∷ []
 
 -- the line of each declaration of a program, in the source of that text
@@ -90,13 +90,6 @@ one_box parts = record {
   handlers = [];
 }
 
-abbrev pub plain_exception : List ℕ → ExnDef
-plain_exception name = record { name = name; carries = None }
-
--- the exceptions that every program has
-abbrev pub own_exceptions : List ExnDef
-own_exceptions = plain_exception (codes "DivZero") ∷ plain_exception (codes "Range") ∷ plain_exception (codes "NoCase") ∷ []
-
 -- its core: the box is node 0, the input stream node 1, and the output stream node 2
 abbrev pub core_of : OneBox → Core
 core_of parts = record {
@@ -109,8 +102,8 @@ core_of parts = record {
       ∷ To (record { name = codes "t"; line = parts.lines.output; port = parts.output })
       ∷ [];
   wires =
-      record { line = parts.lines.wire_in; from = 1; from_port = 0; to = 0; to_port = 0; ty = int_32; initial = None }
-      ∷ record { line = parts.lines.wire_out; from = 0; from_port = 0; to = 2; to_port = 0; ty = int_32; initial = None }
+      record { line = parts.lines.wire_in; from = 1; from_port = 0; to = 0; to_port = 0; ty = int_32; depth = 1; initial = None }
+      ∷ record { line = parts.lines.wire_out; from = 0; from_port = 0; to = 2; to_port = 0; ty = int_32; depth = 1; initial = None }
       ∷ [];
 }
 
@@ -121,7 +114,7 @@ pub record Spells (parts : OneBox) (text : List ℕ) : Type 0 where
   pub is : IsOneBox text program parts
 
 -- The source stands for the core.
-pub record StandsFor (text : List ℕ) (core : Core) : Type 0 where
+pub record HasCore (text : List ℕ) (core : Core) : Type 0 where
   pub parts : OneBox
   pub spelled : Spells parts text
   pub is : core ≡ core_of parts

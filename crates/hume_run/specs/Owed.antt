@@ -14,9 +14,9 @@ use Rattle.hume_model.specs.declared.core_tree.NodeC.{NodeC}
 use Rattle.hume_model.specs.declared.core_tree.NodeC.TheVariants.{Rules, From, To}
 use Rattle.hume_model.specs.declared.core_tree.StreamC.{StreamC}
 use Rattle.hume_model.specs.declared.core_tree.Core.{Core}
-use Rattle.hume_model.specs.Operations.{word_of_value}
-use Rattle.hume_model.specs.Lockstep.{lockstep}
-use Rattle.hume_model.specs.Start.{start}
+use Rattle.hume_base.specs.Flat.{word_of_value}
+use Rattle.hume_net.specs.Lockstep.{lockstep}
+use Rattle.hume_net.specs.Start.{start}
 use Rattle.hume_ports.specs.Ports.{place_of, is_among, other_names}
 use Rattle.hume_ports.specs.Delivery.{Pairs}
 use Rattle.hume_run.specs.declared.status.Status.{Status}
@@ -25,7 +25,7 @@ use Rattle.hume_run.specs.declared.order.Order.{Order}
 use Rattle.hume_run.specs.declared.order.Order.TheVariants.{Run, Check}
 use Rattle.hume_run.specs.Inputs.{good, bad}
 use Rattle.hume_run.specs.Accepted.{IsAccepted, Breaks}
-use Rattle.hume_run.specs.OneBox.{StandsFor}
+use Rattle.hume_run.specs.OneBox.{HasCore}
 
 -- each write as the name of its port and its bytes, in order; a name stands for the first port that has it
 pub record Owed : Type 0 where
@@ -37,7 +37,7 @@ pub record Owed : Type 0 where
 abbrev pub std_out : List ℕ
 std_out = codes "std_out"
 
--- ---- the streams of a core
+-- the streams of a core
 
 abbrev pub stream_of : NodeC → Option StreamC
 stream_of (Rules b) = None
@@ -67,7 +67,7 @@ outputs core = filter_map output_of core.nodes
 abbrev pub ports_of : List StreamC → List (List ℕ)
 ports_of list = map (λ stream. stream.port) list
 
--- ---- refusals
+-- refusals
 
 -- A port that isn't handed in, is the source's, or is an earlier stream's, can't be a stream's.
 abbrev pub is_unfit : List (List ℕ) → List ℕ → List (List ℕ) → List ℕ → Bool
@@ -83,9 +83,9 @@ unfit_line names source earlier (stream ∷ later) =
 -- of the language that is built; or a stream's port is unfit.
 pub data IsRefusal (text : List ℕ) (names : List (List ℕ)) (source : List ℕ) : Refusal → Type 0 where
   broken : (refusal : Refusal) → Breaks text refusal → IsRefusal text names source refusal
-  not_built : (program : Program) → IsAccepted text program → ((core : Core) → StandsFor text core → ⊥)
+  not_built : (program : Program) → IsAccepted text program → ((core : Core) → HasCore text core → ⊥)
       → IsRefusal text names source (record { rule = NotBuilt; line = 1 })
-  unfit : (core : Core) → StandsFor text core → (line : ℕ) → unfit_line names source [] (streams core) ≡ Some line
+  unfit : (core : Core) → HasCore text core → (line : ℕ) → unfit_line names source [] (streams core) ≡ Some line
       → IsRefusal text names source (record { rule = C55; line = line })
 
 abbrev pub refused_line : Refusal → List ℕ
@@ -99,7 +99,7 @@ owed_refused source refusal = record {
   finishes = std_out ∷ [];
 }
 
--- ---- a run
+-- a run
 
 -- the values that are to come to a node: all good ones of its port
 abbrev pub coming_to : (List ℕ → List ℕ) → NodeC → List Value
@@ -110,18 +110,18 @@ coming_to texts (To stream) = []
 abbrev pub coming : Core → (List ℕ → List ℕ) → List (List Value)
 coming core texts = map (coming_to texts) core.nodes
 
--- a stream blocks a run of so many supersteps by a bad line where there are fewer good values before it
-abbrev pub blocks : ℕ → (List ℕ → List ℕ) → StreamC → Option ℕ
-blocks steps texts stream = if nat_lt (length (good (texts stream.port))) steps then bad (texts stream.port) else None
+-- a stream halts a run of so many supersteps by a bad line where there are fewer good values before it
+abbrev pub halts : ℕ → (List ℕ → List ℕ) → StreamC → Option ℕ
+halts steps texts stream = if nat_lt (length (good (texts stream.port))) steps then bad (texts stream.port) else None
 
-abbrev pub blocked_or : Option ℕ → StreamC → Option (List ℕ × ℕ) → Option (List ℕ × ℕ)
-blocked_or None stream later = later
-blocked_or (Some line) stream later = Some (stream.name, line)
+abbrev pub halted_or : Option ℕ → StreamC → Option (List ℕ × ℕ) → Option (List ℕ × ℕ)
+halted_or None stream later = later
+halted_or (Some line) stream later = Some (stream.name, line)
 
--- the first stream that blocks the run, and the number of the bad line
-abbrev pub first_blocking : ℕ → (List ℕ → List ℕ) → List StreamC → Option (List ℕ × ℕ)
-first_blocking steps texts [] = None
-first_blocking steps texts (stream ∷ later) = blocked_or (blocks steps texts stream) stream (first_blocking steps texts later)
+-- the first stream that halts the run, and the number of the bad line
+abbrev pub first_halting : ℕ → (List ℕ → List ℕ) → List StreamC → Option (List ℕ × ℕ)
+first_halting steps texts [] = None
+first_halting steps texts (stream ∷ later) = halted_or (halts steps texts stream) stream (first_halting steps texts later)
 
 abbrev pub bad_value_line : List ℕ → ℕ → List ℕ
 bad_value_line name line = codes "bad value " ++ name ++ codes " line " ++ decimal line ++ 10 ∷ []
@@ -142,13 +142,13 @@ all_taken_writes [] lists = []
 all_taken_writes (node ∷ nodes) [] = []
 all_taken_writes (node ∷ nodes) (values ∷ lists) = taken_writes node values ++ all_taken_writes nodes lists
 
--- A run that isn't blocked writes what its output streams have taken after its supersteps; a blocked one the bad line.
+-- A run that isn't halted writes what its output streams have taken after its supersteps; a halted one the bad line.
 abbrev pub run_writes : ℕ → (List ℕ → List ℕ) → Core → Option (List ℕ × ℕ) → Pairs
-run_writes steps texts core (Some blocked) = (std_out, bad_value_line blocked.0 blocked.1) ∷ []
+run_writes steps texts core (Some halted) = (std_out, bad_value_line halted.0 halted.1) ∷ []
 run_writes steps texts core None = all_taken_writes core.nodes (lockstep core (start core (coming core texts)) steps).taken
 
 abbrev pub run_status : Option (List ℕ × ℕ) → Status
-run_status (Some blocked) = BadValue
+run_status (Some halted) = BadValue
 run_status None = Done
 
 -- each port once, `std_out` last
@@ -157,9 +157,9 @@ run_finishes core = other_names std_out (ports_of (outputs core)) ++ std_out ∷
 
 abbrev pub owed_run : ℕ → List ℕ → (List ℕ → List ℕ) → Core → Owed
 owed_run steps source texts core = record {
-  status = run_status (first_blocking steps texts (inputs core));
+  status = run_status (first_halting steps texts (inputs core));
   reads = source ∷ ports_of (inputs core);
-  writes = run_writes steps texts core (first_blocking steps texts (inputs core));
+  writes = run_writes steps texts core (first_halting steps texts (inputs core));
   finishes = run_finishes core;
 }
 
@@ -167,10 +167,10 @@ owed_run steps source texts core = record {
 abbrev pub IsOwedRun : ℕ → List ℕ → List ℕ → List (List ℕ) → (List ℕ → List ℕ) → Owed → Type 0
 IsOwedRun steps source text names texts owed =
     ((refusal : Refusal) × IsRefusal text names source refusal × (owed ≡ owed_refused source refusal))
-    ⊎ ((core : Core) × StandsFor text core × (unfit_line names source [] (streams core) ≡ None)
+    ⊎ ((core : Core) × HasCore text core × (unfit_line names source [] (streams core) ≡ None)
     × (owed ≡ owed_run steps source texts core))
 
--- ---- a check
+-- a check
 
 -- nothing is written
 abbrev pub owed_accepted : List ℕ → Owed

@@ -3,6 +3,7 @@ use Rattle.std.specs.Prelude.{ℕ, ◌==◌, Bool, ◌&&◌, List, [], ◌∷◌
 use Rattle.std.specs.List.{slice_index_or}
 use Rattle.std.specs.Str.{bytes_eq, all_ascii_digits}
 use Rattle.std.specs.Str.Parse.{digits_value}
+use Rattle.hume_base.specs.declared.limits.TheConstants.{MAX_SUPERSTEPS, MAX_WORKERS}
 use Rattle.hume_run.specs.declared.order.Order.{Order}
 use Rattle.hume_run.specs.declared.order.Order.TheVariants.{Run, Check}
 
@@ -13,9 +14,9 @@ is_number word = nat_le 1 (length word) && nat_le (length word) 9 && all_ascii_d
 abbrev pub number_of : List ℕ → Option ℕ
 number_of word = if is_number word then Some (digits_value 10 word) else None
 
--- from 0 to 64 supersteps, and one worker
+-- no more supersteps than are allowed, and one or more workers
 abbrev pub run_of : Option ℕ → Option ℕ → Option Order
-run_of (Some steps) (Some workers) = if nat_le steps 64 && workers == 1 then Some (Run steps 3) else None
+run_of (Some steps) (Some workers) = if nat_le steps MAX_SUPERSTEPS && (nat_le 1 workers && nat_le workers MAX_WORKERS) then Some (Run steps 3) else None
 run_of _ _ = None
 
 -- what the words ask for, if they have a form

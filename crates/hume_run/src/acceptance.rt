@@ -1,8 +1,8 @@
 ghost use Rattle.std.specs.Prelude.{◌≡◌, ◌≤◌, ◌⊎◌, length, IfOk, IfErr};
 ghost use Rattle.hume_base.specs.declared.limits.TheConstants.{MAX_SOURCE_BYTES as MOST_BYTES};
-ghost use Rattle.hume_lex.specs.Faults.{IsRead, IsFault as IsBadPlace};
-ghost use Rattle.hume_parse.specs.Parsing.{IsFault as IsWrongPlace};
-ghost use Rattle.hume_run.specs.Accepted.{IsAccepted, IsUnaccepted, Breaks};
+ghost use Rattle.hume_lex.specs.BadPlaces.{IsRead, IsBadPlace};
+ghost use Rattle.hume_parse.specs.Parsing.{IsWrongPlace};
+ghost use Rattle.hume_run.specs.Accepted.{IsAccepted, IsUnaccepted};
 
 use hume_ast::Program;
 use hume_base::limits::MAX_SOURCE_BYTES;

@@ -1,17 +1,17 @@
 ghost use Rattle.std.specs.Prelude.{◌≡◌, ℕ, List as Items, IfOk};
-ghost use Rattle.hume_run.specs.BoxReports.{IsDone, IsBad, each_once};
+ghost use Rattle.hume_run.specs.inner.BoxReports.{IsDone, IsBad, each_once};
 ghost use Rattle.hume_run.specs.OneBox.{core_of};
 ghost use Rattle.hume_run.specs.Owed.{owed_run, std_out};
-ghost use Rattle.hume_run.specs.PartsOf.{parts_of};
-ghost use Rattle.hume_run.specs.Reading.{IsInputOf};
-ghost use Rattle.hume_run.specs.Reports.{IsPlaceOf, IsReport};
+ghost use Rattle.hume_run.specs.inner.PartsOf.{parts_of};
+ghost use Rattle.hume_run.specs.inner.Reading.{IsInputFrom};
+ghost use Rattle.hume_run.specs.inner.Reports.{IsPlaceOf, IsReport};
 
 use crate::build::build_core;
 use crate::input::Input;
 use crate::lines::bad_value_line;
 use crate::net_run::run_net;
 use crate::one_box::Parts;
-use crate::report::{Report, one_line, one_place};
+use crate::report::{Report, one_place, one_write};
 use crate::status::Status;
 use hume_base::{List, Value};
 use std::alloc::{AllocError, Global};
@@ -34,7 +34,7 @@ pub fn box_report(
     input: Input,
 ) -> Result<Report, AllocError>
     ensures { IfOk result (λ report. (names : Items (Items ℕ)) → IsPlaceOf parts.now.output.now names output → IsPlaceOf std_out names out
-        → (texts : Items ℕ → Items ℕ) → IsInputOf steps (texts parts.now.input.now) input
+        → (texts : Items ℕ → Items ℕ) → IsInputFrom steps (texts parts.now.input.now) input
         → (source : Items ℕ) → IsReport (owed_run steps source texts (core_of (parts_of parts.now))) names report) }
 {
     match input {
@@ -68,7 +68,7 @@ fn bad_report(alloc: Global, line: u64, output: usize, out: usize) -> Result<Rep
     let bytes = bad_value_line(alloc, INPUT_NAME, line)?;
     Ok(Report {
         status: Status::BadValue,
-        lines: one_line(alloc, out, bytes)?,
+        lines: one_write(alloc, out, bytes)?,
         finishes: finishes(alloc, output, out)?,
     })
 }

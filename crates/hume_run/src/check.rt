@@ -3,7 +3,7 @@ ghost use Rattle.hume_ports.specs.Ports.{names};
 ghost use Rattle.hume_run.specs.declared.order.Order.TheVariants.{Check};
 ghost use Rattle.hume_run.specs.Headline.{Ends, Answers};
 ghost use Rattle.hume_run.specs.Owed.{owed_accepted, std_out};
-ghost use Rattle.hume_run.specs.Reports.{IsPlaceOf, IsReport};
+ghost use Rattle.hume_run.specs.inner.Reports.{IsPlaceOf, IsReport};
 
 use crate::acceptance::accept;
 use crate::refuse::end_unaccepted;
@@ -22,10 +22,10 @@ pub fn check_text(alloc: Global, ports: &mut [Box<dyn Port>], text: &[u8], out: 
         Ok(_) => {}
         Err(error) => return end_unaccepted(alloc, ports, out, error),
     }
-    tell_accepted(alloc, ports, out)
+    report_accepted(alloc, ports, out)
 }
 
-fn tell_accepted(alloc: Global, ports: &mut [Box<dyn Port>], out: usize) -> Status
+fn report_accepted(alloc: Global, ports: &mut [Box<dyn Port>], out: usize) -> Status
     requires { IsPlaceOf std_out (names (map view ports.old)) out }
     ensures { (source : List ℕ) → Ends (owed_accepted source) (map view ports.old) (map view ports.new) result }
 {

@@ -2,7 +2,7 @@ ghost use Rattle.std.specs.Prelude.{◌≡◌, ◌<◌, [], ◌∷◌, length, m
 ghost use Rattle.std.specs.Result.{IsErrOf};
 ghost use Rattle.hume_ports.specs.Ports.{names, ForNameAt, Untouched};
 ghost use Rattle.hume_ports.specs.Delivery.{Roomy};
-ghost use Rattle.hume_run.specs.Reading.{GivesInput, ReadsSome, FailsToRead};
+ghost use Rattle.hume_run.specs.inner.Reading.{GivesInput, ReadsSome, FailsToRead};
 
 use crate::reading::Reading;
 use hume_base::{List, Value};

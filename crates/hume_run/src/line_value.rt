@@ -1,11 +1,9 @@
 ghost use Rattle.std.specs.Prelude.{◌≡◌, true, false, MatchOption, IsTrue};
-ghost use Rattle.std.specs.Str.{all_ascii_digits};
 ghost use Rattle.hume_run.specs.Inputs.{value_of, is_int_text, is_int_32, int_written, without_minus};
 
+use crate::numbers::are_digits;
+use hume_base::limits::MAX_LINE_BYTES;
 use hume_base::{Value, word_of_int};
-
-/// Bytes of a line that stands for a value.
-pub const MAX_LINE_BYTES: usize = 65_536;
 
 /// The value that a line, without its newline, stands for.
 pub fn value_of_line(line: &[u8]) -> Option<Value>
@@ -35,12 +33,6 @@ fn without_minus(line: &[u8]) -> &[u8]
         Some((b'-', digits)) => digits,
         _ => line,
     }
-}
-
-fn are_digits(text: &[u8]) -> bool
-    ensures { result ≡ all_ascii_digits text.now }
-{
-    text.iter().all(|byte| byte.is_ascii_digit())
 }
 
 // The number that the text of an int writes, if it is one of 32 bits.

@@ -1,5 +1,4 @@
 ghost use Rattle.std.specs.Prelude.{◌≡◌, ◌++◌, ◌∷◌, [], codes, decimal, IfOk, OnOk};
-ghost use Rattle.hume_model.specs.Operations.{word_of_value};
 ghost use Rattle.hume_run.specs.Owed.{refused_line, bad_value_line, value_line};
 
 use hume_base::{Refusal, Value, int_of_word};
@@ -31,7 +30,7 @@ pub fn value_line(alloc: Global, value: &Value) -> Result<Vec<u8>, AllocError>
     ensures { IfOk result (λ line. line.items ≡ value_line value.now) }
 {
     let mut buffer = Buffer::new();
-    let text = buffer.format(int_of_word(word_in(value)));
+    let text = buffer.format(int_of_word(value.word()));
     let mut line = Vec::from_slice(alloc, text.as_bytes())?;
     line.push(b'\n')?;
     Ok(line)
@@ -45,15 +44,4 @@ fn push_line_number(text: &mut Vec<u8>, line: u64) -> Result<(), AllocError>
     text.extend_from_slice(Buffer::new().format(line).as_bytes())?;
     text.push(b'\n')?;
     Ok(())
-}
-
-fn word_in(value: &Value) -> u64
-    ensures { result ≡ word_of_value value.now }
-{
-    match value {
-        Value::Word(word) => *word,
-        Value::Tuple(_) => 0,
-        Value::Vector(_) => 0,
-        Value::Con(place, _) => u64::from(*place),
-    }
 }

@@ -1,15 +1,16 @@
 ghost use Rattle.std.specs.Prelude.{◌≡◌, ◌++◌, ℕ, List as Items, [], map, All, IfOk, OnOk, slice_set, slice_index_or};
-ghost use Rattle.hume_model.specs.Lockstep.{lockstep};
-ghost use Rattle.hume_model.specs.Start.{start, no_values};
-ghost use Rattle.hume_model.specs.Nodes.{IsInputOf, IsOutputOf};
+ghost use Rattle.hume_net.specs.Lockstep.{lockstep};
+ghost use Rattle.hume_net.specs.Start.{start, no_values};
+ghost use Rattle.hume_net.specs.Nodes.{IsInputStream, IsOutputStream};
 ghost use Rattle.hume_model.specs.WellFormed.{HasSmallBoxes};
 ghost use Rattle.hume_run.specs.Owed.{value_line};
-ghost use Rattle.hume_run.specs.Reports.{name_at, pairs_of};
+ghost use Rattle.hume_run.specs.inner.Reports.{name_at, pairs_of};
 
 use crate::lines::value_line as line_of_value;
-use crate::report::Line;
+use crate::report::OwedWrite;
 use hume_base::{List, Value};
-use hume_model::{Core, Net, net_make};
+use hume_model::Core;
+use hume_net::{Net, net_make};
 use std::alloc::{AllocError, Global};
 
 /// The lines for the port at a place of the values that an output stream has taken after so many supersteps, where these
@@ -22,10 +23,10 @@ pub fn run_net(
     steps: u32,
     output: u32,
     at: usize,
-) -> Result<Vec<Line>, AllocError>
+) -> Result<Vec<OwedWrite>, AllocError>
     requires small { HasSmallBoxes core.now }
-    requires input { IsInputOf core.now input }
-    requires output { IsOutputOf core.now output }
+    requires input { IsInputStream core.now input }
+    requires output { IsOutputStream core.now output }
     ensures pairs { IfOk result (λ lines. (names : Items (Items ℕ)) → pairs_of names lines.items
         ≡ map (λ value. (name_at names at, value_line value))
         (slice_index_or (lockstep core.now (start core.now (slice_set (no_values core.now) input values)) steps).taken output [])) }
@@ -44,7 +45,7 @@ fn fed_net<'a>(
     values: List<Value>,
 ) -> Result<Net<'a>, AllocError>
     requires small { HasSmallBoxes core.now }
-    requires input { IsInputOf core.now input }
+    requires input { IsInputStream core.now input }
     ensures core { IfOk result (λ net. net.core.now ≡ core.now) }
     ensures state { IfOk result (λ net. net.state ≡ start core.now (slice_set (no_values core.now) input values)) }
 {
@@ -54,9 +55,11 @@ fn fed_net<'a>(
 }
 
 fn feed_all(net: &mut Net<'_>, input: u32, values: List<Value>) -> Result<(), AllocError>
-    requires { IsInputOf net.old.core.now input }
+    requires { IsInputStream net.old.core.now input }
     ensures core { net.new.core ≡ net.old.core }
-    ensures fed { OnOk result (net.new.state ≡ record net.old.state { coming = slice_set net.old.state.coming input (slice_index_or net.old.state.coming input [] ++ values) }) }
+    ensures fed { OnOk result (net.new.state ≡ record net.old.state {
+      coming = slice_set net.old.state.coming input (slice_index_or net.old.state.coming input [] ++ values);
+    }) }
 {
     for value in values.into_vec() {
         net.feed(input, value)?;
@@ -80,8 +83,8 @@ fn taken_lines(
     net: &Net<'_>,
     output: u32,
     at: usize,
-) -> Result<Vec<Line>, AllocError>
-    requires { IsOutputOf net.now.core.now output }
+) -> Result<Vec<OwedWrite>, AllocError>
+    requires { IsOutputStream net.now.core.now output }
     ensures pairs { IfOk result (λ lines. (names : Items (Items ℕ)) → pairs_of names lines.items
         ≡ map (λ value. (name_at names at, value_line value)) (slice_index_or net.now.state.taken output [])) }
     ensures places { IfOk result (λ lines. All (λ line. line.at ≡ at) lines.items) }
@@ -89,14 +92,14 @@ fn taken_lines(
     value_lines(alloc, net.taken(output).as_slice(), at)
 }
 
-fn value_lines(alloc: Global, values: &[Value], at: usize) -> Result<Vec<Line>, AllocError>
+fn value_lines(alloc: Global, values: &[Value], at: usize) -> Result<Vec<OwedWrite>, AllocError>
     ensures pairs { IfOk result (λ lines. (names : Items (Items ℕ)) → pairs_of names lines.items ≡ map (λ value. (name_at names at, value_line value)) values.now) }
     ensures places { IfOk result (λ lines. All (λ line. line.at ≡ at) lines.items) }
 {
     let mut lines = Vec::new(alloc);
     for value in values {
         let bytes = line_of_value(alloc, value)?;
-        lines.push(Line { at, bytes })?;
+        lines.push(OwedWrite { at, bytes })?;
     }
     Ok(lines)
 }

@@ -1,7 +1,6 @@
 // Numbers of one to nine decimal digits.
 ghost use Rattle.std.specs.Prelude.{◌≡◌, IsTrue};
-ghost use Rattle.std.specs.Char.{is_ascii_digit};
-ghost use Rattle.std.specs.List.{list_all};
+ghost use Rattle.std.specs.Str.{all_ascii_digits};
 ghost use Rattle.std.specs.Str.Parse.{digits_value};
 ghost use Rattle.hume_run.specs.Words.{is_number as number};
 
@@ -13,13 +12,14 @@ pub const MAX_DIGITS: usize = 9;
 pub fn is_number(bytes: &[u8]) -> bool
     ensures { result ≡ number bytes.now }
 {
-    1 <= bytes.len() && bytes.len() <= MAX_DIGITS && all_digits(bytes)
+    1 <= bytes.len() && bytes.len() <= MAX_DIGITS && are_digits(bytes)
 }
 
-fn all_digits(bytes: &[u8]) -> bool
-    ensures { result ≡ list_all is_ascii_digit bytes.now }
+/// Whether the bytes are digits and nothing else.
+pub fn are_digits(text: &[u8]) -> bool
+    ensures { result ≡ all_ascii_digits text.now }
 {
-    bytes.iter().all(|byte| byte.is_ascii_digit())
+    text.iter().all(|byte| byte.is_ascii_digit())
 }
 
 /// The number that the digits write.

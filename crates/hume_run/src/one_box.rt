@@ -7,7 +7,7 @@ ghost use Rattle.hume_ast.specs.declared.tree.Exp.{Binary, App, Num};
 ghost use Rattle.hume_ast.specs.declared.tree.Pat.{Name};
 ghost use Rattle.hume_ast.specs.declared.tree.TyExp.{Int as IntType};
 ghost use Rattle.hume_run.specs.OneBox.{OneBox, IsOneBox, operation as has_operation, rule_tree};
-ghost use Rattle.hume_run.specs.PartsOf.{parts_of};
+ghost use Rattle.hume_run.specs.inner.PartsOf.{parts_of};
 
 use hume_ast::{BinOp, Decl, Exp, Pat, Program, TyExp};
 use hume_base::{List, Text, line_of};
@@ -18,7 +18,7 @@ const MAX_AMOUNT: u64 = 999_999_999;
 
 /// The lines of the five declarations.
 #[derive(Clone, Copy)]
-pub struct Lines {
+pub struct DeclarationLines {
     pub boxed: u32,
     pub input: u32,
     pub output: u32,
@@ -36,7 +36,7 @@ pub struct Parts<'a> {
     pub amount: u64,
     /// The name of the output stream's port.
     pub output: &'a [u8],
-    pub lines: Lines,
+    pub lines: DeclarationLines,
 }
 
 /// The parts of the program of that text, if it is a box between two streams.
@@ -56,7 +56,7 @@ pub fn read_one_box<'a>(text: &[u8], program: &'a Program) -> Option<Parts<'a>>
     if amount > MAX_AMOUNT || !is_wire_in(&wire_in.1) || !is_wire_out(&wire_out.1) {
         return None;
     }
-    let lines = Lines {
+    let lines = DeclarationLines {
         boxed: line_of(text, boxed.0),
         input: line_of(text, input.0),
         output: line_of(text, output.0),
@@ -85,7 +85,8 @@ fn operation(operator: BinOp) -> Option<Op>
 
 // The operator and the right operand of the box's one rule.
 fn box_rule(decl: &Decl) -> Option<(BinOp, u64)>
-    ensures found { IfSome result (λ read. decl.now ≡ BoxD (codes "b") ((codes "x", IntType 32) ∷ []) ((codes "y", IntType 32) ∷ []) false (rule_tree read.0 read.1 ∷ []) []) }
+    ensures found { IfSome result (λ read. decl.now
+        ≡ BoxD (codes "b") ((codes "x", IntType 32) ∷ []) ((codes "y", IntType 32) ∷ []) false (rule_tree read.0 read.1 ∷ []) []) }
     ensures none { result ≡ None → (operator : Operator) (amount : ℕ)
         → decl.now ≡ BoxD (codes "b") ((codes "x", IntType 32) ∷ []) ((codes "y", IntType 32) ∷ []) false (rule_tree operator amount ∷ []) [] → ⊥ }
 {
@@ -173,10 +174,10 @@ fn stream_port<'a>(decl: &'a Decl, name: &[u8], from: bool) -> Option<&'a [u8]>
 
 // wire s to b.x ;
 fn is_wire_in(decl: &Decl) -> bool
-    ensures { IsTrue result ↔ (decl.now ≡ Wire (codes "s", None) (codes "b", Some (codes "x")) None) }
+    ensures { IsTrue result ↔ (decl.now ≡ Wire (codes "s", None) (codes "b", Some (codes "x")) None None) }
 {
     match decl {
-        Decl::Wire(source, target, None) => is_stream_end(source, b"s")
+        Decl::Wire(source, target, None, None) => is_stream_end(source, b"s")
             && is_box_end(target, b"b", b"x"),
         _ => false,
     }
@@ -184,10 +185,10 @@ fn is_wire_in(decl: &Decl) -> bool
 
 // wire b.y to t ;
 fn is_wire_out(decl: &Decl) -> bool
-    ensures { IsTrue result ↔ (decl.now ≡ Wire (codes "b", Some (codes "y")) (codes "t", None) None) }
+    ensures { IsTrue result ↔ (decl.now ≡ Wire (codes "b", Some (codes "y")) (codes "t", None) None None) }
 {
     match decl {
-        Decl::Wire(source, target, None) => is_box_end(source, b"b", b"y")
+        Decl::Wire(source, target, None, None) => is_box_end(source, b"b", b"y")
             && is_stream_end(target, b"t"),
         _ => false,
     }

@@ -1,5 +1,5 @@
 ghost use Rattle.std.specs.Prelude.{◌≡◌};
-ghost use Rattle.hume_run.specs.Places.{source_place};
+ghost use Rattle.hume_run.specs.inner.Places.{source_place};
 
 /// What the words of a call ask for.
 #[derive(Clone, Copy, Debug, PartialEq, Eq)]

@@ -1,8 +1,9 @@
 ghost use Rattle.std.specs.Prelude.{◌≡◌, ◌+◌, ◌<◌, ◌^◌, [], ◌∷◌, length, Some, None, IfOk};
-ghost use Rattle.hume_run.specs.Reading.{IsOpen, Reaches, EndsAs, input_found};
+ghost use Rattle.hume_run.specs.inner.Reading.{IsOpen, Reaches, EndsAs, input_found};
 
 use crate::input::Input;
-use crate::line_value::{MAX_LINE_BYTES, value_of_line};
+use crate::line_value::value_of_line;
+use hume_base::limits::MAX_LINE_BYTES;
 use hume_base::{List, Value};
 use std::alloc::{AllocError, Global};
 

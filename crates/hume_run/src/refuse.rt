@@ -4,11 +4,11 @@ ghost use Rattle.hume_run.specs.Owed.{owed_refused, std_out};
 ghost use Rattle.hume_run.specs.declared.order.Order.{Order};
 ghost use Rattle.hume_run.specs.Accepted.{IsUnaccepted};
 ghost use Rattle.hume_run.specs.Headline.{Ends, Answers};
-ghost use Rattle.hume_run.specs.Reports.{IsPlaceOf, IsReport};
+ghost use Rattle.hume_run.specs.inner.Reports.{IsPlaceOf, IsReport};
 
 use crate::acceptance::AcceptError;
 use crate::lines::refused_line;
-use crate::report::{Report, one_line, one_place};
+use crate::report::{Report, one_place, one_write};
 use crate::settle::settle;
 use crate::status::Status;
 use hume_base::Refusal;
@@ -50,7 +50,7 @@ fn refusal_report(alloc: Global, out: usize, refusal: Refusal) -> Result<Report,
     let bytes = refused_line(alloc, refusal)?;
     Ok(Report {
         status: Status::Refused,
-        lines: one_line(alloc, out, bytes)?,
+        lines: one_write(alloc, out, bytes)?,
         finishes: one_place(alloc, out)?,
     })
 }

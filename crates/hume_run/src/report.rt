@@ -1,12 +1,12 @@
 ghost use Rattle.std.specs.Prelude.{◌≡◌, ◌∷◌, [], ℕ, List, All, IfOk};
-ghost use Rattle.hume_run.specs.Reports.{name_at, pairs_of};
+ghost use Rattle.hume_run.specs.inner.Reports.{name_at, pairs_of};
 
 use crate::status::Status;
 use std::alloc::{AllocError, Global};
 
 /// Bytes for the port at a place, which are written by one call.
 #[derive(Drop)]
-pub struct Line {
+pub struct OwedWrite {
     pub at: usize,
     pub bytes: Vec<u8>,
 }
@@ -16,16 +16,16 @@ pub struct Line {
 #[derive(Drop)]
 pub struct Report {
     pub status: Status,
-    pub lines: Vec<Line>,
+    pub lines: Vec<OwedWrite>,
     pub finishes: Vec<usize>,
 }
 
-pub fn one_line(alloc: Global, at: usize, bytes: Vec<u8>) -> Result<Vec<Line>, AllocError>
+pub fn one_write(alloc: Global, at: usize, bytes: Vec<u8>) -> Result<Vec<OwedWrite>, AllocError>
     ensures pairs { IfOk result (λ lines. (names : List (List ℕ)) → pairs_of names lines.items ≡ (name_at names at, bytes.items) ∷ []) }
     ensures places { IfOk result (λ lines. All (λ line. line.at ≡ at) lines.items) }
 {
     let mut lines = Vec::new(alloc);
-    lines.push(Line { at, bytes })?;
+    lines.push(OwedWrite { at, bytes })?;
     Ok(lines)
 }
 

@@ -1,15 +1,15 @@
 ghost use Rattle.std.specs.Prelude.{◌≡◌, ℕ, List, map};
 ghost use Rattle.hume_base.specs.declared.rule.Rule.TheVariants.{NotBuilt};
 ghost use Rattle.hume_ports.specs.Ports.{names};
-ghost use Rattle.hume_run.specs.BoxRuns.{RunsBox};
+ghost use Rattle.hume_run.specs.inner.BoxRuns.{RunsBox};
 ghost use Rattle.hume_run.specs.Accepted.{IsAccepted};
 ghost use Rattle.hume_run.specs.declared.order.Order.TheVariants.{Run};
 ghost use Rattle.hume_run.specs.Headline.{Ends, Answers};
 ghost use Rattle.hume_run.specs.OneBox.{core_of};
 ghost use Rattle.hume_run.specs.Owed.{owed_run, std_out};
-ghost use Rattle.hume_run.specs.PartsOf.{parts_of};
-ghost use Rattle.hume_run.specs.Reading.{IsInputOf};
-ghost use Rattle.hume_run.specs.Reports.{IsPlaceOf};
+ghost use Rattle.hume_run.specs.inner.PartsOf.{parts_of};
+ghost use Rattle.hume_run.specs.inner.Reading.{IsInputFrom};
+ghost use Rattle.hume_run.specs.inner.Reports.{IsPlaceOf};
 
 use crate::acceptance::accept;
 use crate::box_report::box_report;
@@ -106,8 +106,8 @@ fn run_input(
 ) -> Status
     requires output { IsPlaceOf parts.now.output.now (names (map view ports.old)) output }
     requires out { IsPlaceOf std_out (names (map view ports.old)) out }
-    requires input { (text : List ℕ) × IsInputOf steps text input }
-    ensures { (texts : List ℕ → List ℕ) → IsInputOf steps (texts parts.now.input.now) input
+    requires input { (text : List ℕ) × IsInputFrom steps text input }
+    ensures { (texts : List ℕ → List ℕ) → IsInputFrom steps (texts parts.now.input.now) input
         → (source : List ℕ) → Ends (owed_run steps source texts (core_of (parts_of parts.now))) (map view ports.old) (map view ports.new) result }
 {
     match box_report(alloc, steps, parts, output, out, input) {

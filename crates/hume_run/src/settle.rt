@@ -1,11 +1,11 @@
-ghost use Rattle.std.specs.Prelude.{◌≡◌, ℕ, List, [], true, map, length, All, OnOk, OnErr, IsOk};
+ghost use Rattle.std.specs.Prelude.{◌≡◌, ℕ, List, [], true, map, All, OnOk, OnErr, IsOk};
 ghost use Rattle.hume_ports.specs.Ports.{names, is_among, flushed_of, Untouched};
 ghost use Rattle.hume_ports.specs.Delivery.{Progress, Roomy};
 ghost use Rattle.hume_run.specs.Owed.{Owed};
 ghost use Rattle.hume_run.specs.Headline.{Ends, FailedWrite, FailedFinish};
-ghost use Rattle.hume_run.specs.Reports.{IsPlace, IsReport, name_at, names_at, pairs_of};
+ghost use Rattle.hume_run.specs.inner.Reports.{IsPlace, IsReport, name_at, names_at, pairs_of};
 
-use crate::report::{Line, Report};
+use crate::report::{OwedWrite, Report};
 use crate::status::Status;
 use hume_ports::{Failed, Port, finish_at, write_at};
 
@@ -15,7 +15,7 @@ pub fn settle(ports: &mut [Box<dyn Port>], report: &Report) -> Status
     ensures { (owed : Owed) → IsReport owed (names (map view ports.old)) report.now
         → Ends owed (map view ports.old) (map view ports.new) result }
 {
-    match write_lines(ports, &report.lines) {
+    match write_all(ports, &report.lines) {
         Ok(()) => {}
         Err(Failed) => return Status::Fault,
     }
@@ -26,7 +26,7 @@ pub fn settle(ports: &mut [Box<dyn Port>], report: &Report) -> Status
 }
 
 // Each line by one write, in order.
-fn write_lines(ports: &mut [Box<dyn Port>], lines: &[Line]) -> Result<(), Failed>
+fn write_all(ports: &mut [Box<dyn Port>], lines: &[OwedWrite]) -> Result<(), Failed>
     requires { All (λ line. IsPlace (names (map view ports.old)) line.at) lines.now }
     ensures given { OnOk result (Progress (map view ports.old) (map view ports.new) [] (pairs_of (names (map view ports.old)) lines.now)) }
     ensures failed { OnErr result (FailedWrite (pairs_of (names (map view ports.old)) lines.now) (map view ports.old) (map view ports.new)) }

@@ -1,4 +1,4 @@
-ghost use Rattle.std.specs.Prelude.{◌≡◌, ◌<◌, ℕ, List, [], ◌∷◌, length, map, IfOk, IfSome, IsErrOf};
+ghost use Rattle.std.specs.Prelude.{◌≡◌, ◌<◌, [], ◌∷◌, length, map, IfOk, IfSome, IsErrOf};
 ghost use Rattle.hume_ports.specs.Ports.{names, left_of, ForNameAt, Untouched};
 ghost use Rattle.hume_ports.specs.Delivery.{Pairs, Progress, ReadFailure, Roomy};
 ghost use Rattle.hume_run.specs.Headline.{source_text};

@@ -1,11 +1,11 @@
-ghost use Rattle.std.specs.Prelude.{◌≡◌, ◌<◌, [], ℕ, None, Some, map, length, IfOk, IfErr, IfSome, if◌then◌else◌};
+ghost use Rattle.std.specs.Prelude.{◌≡◌, ◌<◌, [], ℕ, None, Some, map, IfOk, IfErr, if◌then◌else◌};
 ghost use Rattle.std.specs.Str.{bytes_eq};
 ghost use Rattle.hume_base.specs.declared.rule.Rule.TheVariants.{C55};
 ghost use Rattle.hume_ports.specs.Ports.{names, place_of};
 ghost use Rattle.hume_run.specs.OneBox.{core_of};
 ghost use Rattle.hume_run.specs.Owed.{streams, unfit_line};
-ghost use Rattle.hume_run.specs.PartsOf.{parts_of};
-ghost use Rattle.hume_run.specs.Reports.{IsPlaceOf};
+ghost use Rattle.hume_run.specs.inner.PartsOf.{parts_of};
+ghost use Rattle.hume_run.specs.inner.Reports.{IsPlaceOf};
 
 use crate::one_box::Parts;
 use hume_base::{Refusal, Rule};
@@ -28,7 +28,8 @@ pub fn find_streams(
     ensures fit { IfOk result (λ places. unfit_line (names (map view ports.now)) source.now [] (streams (core_of (parts_of parts.now))) ≡ None) }
     ensures input { IfOk result (λ places. IsPlaceOf parts.now.input.now (names (map view ports.now)) places.input) }
     ensures output { IfOk result (λ places. IsPlaceOf parts.now.output.now (names (map view ports.now)) places.output) }
-    ensures unfit { IfErr result (λ refusal. (line : ℕ) × (unfit_line (names (map view ports.now)) source.now [] (streams (core_of (parts_of parts.now))) ≡ Some line)
+    ensures unfit { IfErr result (λ refusal. (line : ℕ)
+        × (unfit_line (names (map view ports.now)) source.now [] (streams (core_of (parts_of parts.now))) ≡ Some line)
         × (refusal ≡ record { rule = C55; line = line })) }
 {
     let Some(input) = fit_port(ports, parts.input, source) else {

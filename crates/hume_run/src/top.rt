@@ -2,7 +2,7 @@ ghost use Rattle.std.specs.Prelude.{◌≡◌, ◌↔◌, map, string_bytes};
 ghost use Rattle.hume_ports.specs.Ports.{names};
 ghost use Rattle.hume_run.specs.Headline.{Headline, IsUsage, Answers, AnswersFrom};
 ghost use Rattle.hume_run.specs.Owed.{std_out};
-ghost use Rattle.hume_run.specs.Reports.{IsPlaceOf};
+ghost use Rattle.hume_run.specs.inner.Reports.{IsPlaceOf};
 
 use crate::check::check_text;
 use crate::order::Order;

@@ -1,12 +1,10 @@
 ghost use Rattle.std.specs.Prelude.{◌≡◌, ◌<◌, ◌≤◌, length, map, IfSome, Some, string_bytes};
 ghost use Rattle.hume_run.specs.Words.{order_of, number_of, run_of as asked_run, steps_of};
-ghost use Rattle.hume_run.specs.Places.{source_place};
+ghost use Rattle.hume_run.specs.inner.Places.{source_place};
 
 use crate::numbers::{is_number, value};
 use crate::order::Order;
-
-/// Supersteps of a run.
-const MAX_STEPS: u32 = 64;
+use hume_base::limits::{MAX_SUPERSTEPS, MAX_WORKERS};
 
 /// The place of the source's name among the words of a run.
 const RUN_SOURCE: u32 = 3;
@@ -17,7 +15,7 @@ const CHECK_SOURCE: u32 = 1;
 /// What the words of a call ask for, if they have a form.
 pub fn read_words(words: &[String]) -> Option<Order>
     ensures order { result ≡ order_of (map string_bytes words.now) }
-    ensures steps { IfSome result (λ order. steps_of order ≤ 64) }
+    ensures steps { IfSome result (λ order. steps_of order ≤ MAX_SUPERSTEPS) }
     ensures source { IfSome result (λ order. source_place order < length words.now) }
 {
     match words {
@@ -43,7 +41,7 @@ fn number(word: &str) -> Option<u32>
 fn run_of(steps: u32, workers: u32) -> Option<Order>
     ensures { result ≡ asked_run (Some steps) (Some workers) }
 {
-    if steps <= MAX_STEPS && workers == 1 {
+    if steps <= MAX_SUPERSTEPS && 1 <= workers && workers <= MAX_WORKERS {
         return Some(Order::Run {
             steps,
             source: RUN_SOURCE,

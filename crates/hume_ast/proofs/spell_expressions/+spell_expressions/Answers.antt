@@ -1,6 +1,6 @@
 use Rattle.hume_base.specs.declared.symbol.Symbol.TheVariants.{Comma, Bar}
 use Rattle.hume_ast.specs.Spelling.{spelled_exp}
-use Rattle.hume_ast.specs.Parts.{spelled_alternative}
+use Rattle.hume_ast.specs.inner.Parts.{spelled_alternative}
 use Rattle.hume_ast.proofs.SpellSteps.{next_turn, next_turn_beside}
 use Rattle.hume_ast.proofs.spell_expressions.+spell_expressions.Goals as goal
 

@@ -3,7 +3,7 @@ use denote.Param.Weighed.{most}
 use Rattle.hume_base.specs.declared.symbol.Symbol.TheVariants.{Comma, Bar}
 use Rattle.hume_ast.specs.declared.tree.Exp.{size-Exp}
 use Rattle.hume_ast.specs.Spelling.{spelled_exp, separated, beside}
-use Rattle.hume_ast.specs.Parts.{spelled_alternative}
+use Rattle.hume_ast.specs.inner.Parts.{spelled_alternative}
 use Rattle.hume_ast.proofs.SpellSteps.{alternatives_size}
 use Rattle.hume_ast.proofs.spell_expressions.+spell_expressions.Given as goal
 

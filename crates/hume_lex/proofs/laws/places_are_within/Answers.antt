@@ -1,5 +1,5 @@
-use Rattle.hume_lex.proofs.Places.{token_within, fault_within}
+use Rattle.hume_lex.proofs.Places.{token_within, error_within}
 use Rattle.hume_lex.proofs.laws.places_are_within.Goals as goal
 
 pub returns : goal.returns
-returns c = record { tokens = token_within; fault = fault_within }
+returns c = record { tokens = token_within; bad_place = error_within }

@@ -1,6 +1,6 @@
 use Rattle.std.proofs.Common.{Some, arith, refl, ap, ◌∙◌, drop, length, length-drop}
-use Rattle.hume_lex.specs.Scan.{first_piece}
-use Rattle.hume_lex.specs.View.{IsScan}
+use Rattle.hume_lex.specs.inner.Scan.{first_piece}
+use Rattle.hume_lex.specs.inner.View.{IsScan}
 use Rattle.hume_lex.proofs.Readings.{scan_fits, scanned_piece}
 use Rattle.hume_lex.proofs.scan.next_front.Goals as goal
 use Rattle.hume_lex.proofs.scan.next_front.Goals.{In-Some}

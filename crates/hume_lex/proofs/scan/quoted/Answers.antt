@@ -1,5 +1,5 @@
 use Rattle.std.proofs.Common.{sym, ap, ◌∙◌}
-use Rattle.hume_lex.specs.Scan.{starts_with_byte}
+use Rattle.hume_lex.specs.inner.Scan.{starts_with_byte}
 use Rattle.hume_lex.proofs.Scans.{quoted_scan}
 use Rattle.hume_lex.proofs.scan.quoted.Goals as goal
 

@@ -1,6 +1,7 @@
 use Rattle.std.proofs.Common.{◌≡◌, ◌∙◌, ◌+◌, ◌<◌, Some, slice_get, ap, map, arith, rules}
 use Rattle.hume_model.specs.Outcomes.{and_then}
-use Rattle.hume_model.specs.Meaning.{eval_with, call_below, first_arm, arm_with}
+use Rattle.hume_model.specs.Meaning.{eval_with, call_below, first_arm}
+use Rattle.hume_model.specs.inner.Arms.{arm_with}
 use Rattle.hume_model.proofs.Ranks.{rank, equations_size, rank-falls}
 use Rattle.hume_model.proofs.Evaluation.{eval-case}
 use Rattle.hume_model.proofs.evaluate.+evaluate.Goals as goal

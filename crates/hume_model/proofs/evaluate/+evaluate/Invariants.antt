@@ -1,8 +1,9 @@
 use Rattle.std.proofs.Common.{◌≡◌, ◌+◌, ◌*◌, max, map, drop}
 use denote.Param.Weighed.{most}
 use Rattle.hume_model.specs.declared.core_tree.Expr.{size-Expr}
-use Rattle.hume_model.specs.Outcomes.{in_order, after}
-use Rattle.hume_model.specs.Meaning.{eval_with, call_below, first_arm, arm_with, first_equation}
+use Rattle.hume_model.specs.Outcomes.{in_order, after_values}
+use Rattle.hume_model.specs.Meaning.{eval_with, call_below, first_arm, first_equation}
+use Rattle.hume_model.specs.inner.Arms.{arm_with}
 use Rattle.hume_model.proofs.Ranks.{rank, arms_size, equations_size}
 use Rattle.hume_model.proofs.evaluate.+evaluate.Given as goal
 
@@ -34,7 +35,7 @@ decreases-eval_update l =
 abbrev pub invariant-eval_all-loop-part : goal.invariant-eval_all-loop-part
 invariant-eval_all-loop-part l =
     let meaning = eval_with (call_below l.core l.bound) in
-    after l.values (in_order (map meaning (drop l.part-index l.parts)) l.env) ≡ in_order (map meaning l.parts) l.env
+    after_values l.values (in_order (map meaning (drop l.part-index l.parts)) l.env) ≡ in_order (map meaning l.parts) l.env
 
 abbrev pub invariant-eval_arms-loop-arm : goal.invariant-eval_arms-loop-arm
 invariant-eval_arms-loop-arm l =

@@ -1,7 +1,7 @@
 use Rattle.std.proofs.Common.{◌≡◌, ◌+◌, ◌*◌, ◌-◌, map, drop, replicate}
 use denote.Param.Weighed.{most}
 use Rattle.hume_base.specs.declared.types.Ty.{size-Ty}
-use Rattle.hume_model.specs.Reading.{Reader, read_with, read_named, read_several, after_values}
+use Rattle.hume_model.specs.inner.Readers.{Reader, read_with, read_named, read_several, after_read}
 use Rattle.hume_model.proofs.WordReading.{rank, sum_size}
 use Rattle.hume_model.proofs.reading.+read.Given as goal
 
@@ -23,9 +23,9 @@ decreases-read_parts l = 3 * (rank l.types.now l.bound + most size-Ty l.tys.now)
 abbrev pub invariant-read_items-loop-place : goal.invariant-read_items-loop-place
 invariant-read_items-loop-place l =
     let reader = read_with (read_named l.types l.bound) l.item in
-    after_values l.values (read_several (replicate {A = Reader} (l.count - l._place) reader) l.rest) ≡ read_several (replicate {A = Reader} l.count reader) l.words
+    after_read l.values (read_several (replicate {A = Reader} (l.count - l._place) reader) l.rest) ≡ read_several (replicate {A = Reader} l.count reader) l.words
 
 abbrev pub invariant-read_parts-loop-ty : goal.invariant-read_parts-loop-ty
 invariant-read_parts-loop-ty l =
     let reader = read_with (read_named l.types l.bound) in
-    after_values l.values (read_several (map reader (drop l.ty-index l.tys)) l.rest) ≡ read_several (map reader l.tys) l.words
+    after_read l.values (read_several (map reader (drop l.ty-index l.tys)) l.rest) ≡ read_several (map reader l.tys) l.words

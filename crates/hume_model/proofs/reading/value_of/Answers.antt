@@ -1,7 +1,8 @@
 use Rattle.std.proofs.Common.{◌≡◌, ◌∙◌, ℕ, List, [], ◌++◌, ap, sym, subst, length, append-nil}
 use Rattle.hume_base.specs.declared.types.Value.{Value}
 use Rattle.hume_base.specs.Flat.{flat}
-use Rattle.hume_model.specs.Reading.{AreWordsOf, read_with, read_named}
+use Rattle.hume_model.specs.Reading.{AreWordsOf}
+use Rattle.hume_model.specs.inner.Readers.{read_with, read_named}
 use Rattle.hume_model.proofs.FrontReading.{value_read}
 use Rattle.hume_model.proofs.reading.value_of.Goals as goal
 

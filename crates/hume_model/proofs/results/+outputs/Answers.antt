@@ -1,6 +1,7 @@
 use Rattle.std.proofs.Common.{◌≡◌, ◌∙◌, ap, map}
 use Rattle.hume_model.specs.Outcomes.{then_outputs}
-use Rattle.hume_model.specs.Results.{result_of, result_arm_with, first_result, meaning_in}
+use Rattle.hume_model.specs.Results.{result_of, first_result, meaning_in}
+use Rattle.hume_model.specs.inner.Arms.{result_arm_with}
 use Rattle.hume_model.proofs.Evaluation.{result-case}
 use Rattle.hume_model.proofs.results.+outputs.Goals as goal
 

@@ -1,7 +1,8 @@
 use Rattle.std.proofs.Common.{◌≡◌, ◌+◌, ◌*◌, max, map, drop}
 use denote.Param.Weighed.{most}
 use Rattle.hume_model.specs.declared.core_tree.Res.{size-Res}
-use Rattle.hume_model.specs.Results.{result_of, result_arm_with, first_result}
+use Rattle.hume_model.specs.Results.{result_of, first_result}
+use Rattle.hume_model.specs.inner.Arms.{result_arm_with}
 use Rattle.hume_model.proofs.results.+outputs.Given as goal
 
 abbrev pub decreases-arm_outputs : goal.decreases-arm_outputs

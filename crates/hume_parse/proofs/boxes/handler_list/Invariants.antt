@@ -1,15 +1,16 @@
 use Rattle.std.proofs.Common.{◌≡◌, ◌<◌, length}
+use Rattle.hume_base.specs.declared.limits.TheConstants.{MAX_DEPTH}
 use Rattle.hume_base.specs.declared.symbol.Symbol.TheVariants.{Bar}
 use Rattle.hume_base.specs.declared.token.Kind.TheVariants.{Sign}
 use Rattle.hume_ast.specs.Places.{kinds}
-use Rattle.hume_grammar.specs.Readers.{listed, many, led, is_sign}
-use Rattle.hume_grammar.specs.Declarations.{handler}
+use Rattle.token_readers.specs.inner.Readers.{listed, many, led, is_sign}
+use Rattle.token_readers.specs.inner.Declarations.{handler}
 use Rattle.hume_parse.proofs.Loops.{joined}
 use Rattle.hume_parse.proofs.boxes.handler_list.Given as goal
 
 abbrev pub invariant-items : goal.invariant-items
 invariant-items l = record {
-  reads : listed Bar (handler 64) (kinds l.fn.tokens) ≡ joined l.items (many (is_sign Bar) (led (Sign Bar) (handler 64)) (kinds l.rest));
+  reads : listed Bar (handler MAX_DEPTH) (kinds l.fn.tokens) ≡ joined l.items (many (is_sign Bar) (led (Sign Bar) (handler MAX_DEPTH)) (kinds l.rest));
   shorter : length l.rest < length l.fn.tokens;
 }
 

@@ -1,15 +1,16 @@
 use Rattle.std.proofs.Common.{◌≡◌, ◌<◌, length}
+use Rattle.hume_base.specs.declared.limits.TheConstants.{MAX_DEPTH}
 use Rattle.hume_base.specs.declared.symbol.Symbol.TheVariants.{Comma}
 use Rattle.hume_base.specs.declared.token.Kind.TheVariants.{Sign}
 use Rattle.hume_ast.specs.Places.{kinds}
-use Rattle.hume_grammar.specs.Readers.{listed, many, led, is_sign}
-use Rattle.hume_grammar.specs.Declarations.{port}
+use Rattle.token_readers.specs.inner.Readers.{listed, many, led, is_sign}
+use Rattle.token_readers.specs.inner.Declarations.{typed_name as port}
 use Rattle.hume_parse.proofs.Loops.{joined}
 use Rattle.hume_parse.proofs.boxes.port_list.Given as goal
 
 abbrev pub invariant-items : goal.invariant-items
 invariant-items l = record {
-  reads : listed Comma (port 64) (kinds l.fn.tokens) ≡ joined l.items (many (is_sign Comma) (led (Sign Comma) (port 64)) (kinds l.rest));
+  reads : listed Comma (port MAX_DEPTH) (kinds l.fn.tokens) ≡ joined l.items (many (is_sign Comma) (led (Sign Comma) (port MAX_DEPTH)) (kinds l.rest));
   shorter : length l.rest < length l.fn.tokens;
 }
 

@@ -2,8 +2,8 @@ use Rattle.std.proofs.Common.{length}
 use Rattle.hume_parse.proofs.Running.{Running}
 use Rattle.hume_parse.proofs.program.program.Given as goal
 
-abbrev pub invariant-lines : goal.invariant-lines
-invariant-lines l = Running l.tokens l.progress l.rest
+abbrev pub invariant-items : goal.invariant-items
+invariant-items l = Running l.tokens l.progress l.rest
 
-abbrev pub decreases-lines : goal.decreases-lines
-decreases-lines l = length l.rest
+abbrev pub decreases-items : goal.decreases-items
+decreases-items l = length l.rest

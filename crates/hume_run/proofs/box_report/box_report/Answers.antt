@@ -1,4 +1,4 @@
-use Rattle.hume_run.specs.PartsOf.{parts_of}
+use Rattle.hume_run.specs.inner.PartsOf.{parts_of}
 use Rattle.hume_run.proofs.BoxOwed.{done_reports, bad_reports}
 use Rattle.hume_run.proofs.box_report.box_report.Goals as goal
 

@@ -6,4 +6,4 @@ pub returns-in-Err : goal.returns-in-Err
 returns-in-Err g c place source = c.end_unaccepted.ensures (Check place) source _ c.in-Err.ensures.error
 
 pub returns : goal.returns
-returns g c place source = check_answers place source _ _ _ _ c.in-Ok.field-0 c.in-Ok.ensures.program c.tell_accepted.ensures
+returns g c place source = check_answers place source _ _ _ _ c.in-Ok.field-0 c.in-Ok.ensures.program c.report_accepted.ensures

@@ -1,5 +1,5 @@
 use Rattle.std.proofs.Common.{◌*◌, ◌-◌, map}
-use Rattle.hume_run.specs.Reading.{distance}
+use Rattle.hume_run.specs.inner.Reading.{distance}
 use Rattle.hume_run.proofs.PortLines.{HasLines}
 use Rattle.hume_run.proofs.input.read_input.Given as goal
 

@@ -1,5 +1,5 @@
 use Rattle.std.proofs.Common.{◌≡◌}
-use Rattle.hume_model.specs.Lockstep.{lockstep}
+use Rattle.hume_net.specs.Lockstep.{lockstep}
 use Rattle.hume_run.proofs.net_run.step_all.Given as goal
 
 abbrev pub invariant-loop-step : goal.invariant-loop-step

@@ -1,6 +1,6 @@
 use Rattle.std.proofs.Common.{◌≡◌, ℕ, List, map, take, All}
 use Rattle.hume_run.specs.Owed.{value_line}
-use Rattle.hume_run.specs.Reports.{name_at, pairs_of}
+use Rattle.hume_run.specs.inner.Reports.{name_at, pairs_of}
 use Rattle.hume_run.proofs.net_run.value_lines.Given as goal
 
 abbrev pub invariant-loop-value : goal.invariant-loop-value

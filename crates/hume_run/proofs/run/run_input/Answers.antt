@@ -1,7 +1,7 @@
 use Rattle.std.proofs.Common.{[]}
 use Rattle.hume_ports.proofs.Progress.{Progress-start}
 use Rattle.hume_ports.proofs.Untouched.{Untouched-start}
-use Rattle.hume_run.specs.PartsOf.{parts_of}
+use Rattle.hume_run.specs.inner.PartsOf.{parts_of}
 use Rattle.hume_run.specs.OneBox.{core_of}
 use Rattle.hume_run.specs.Owed.{owed_run}
 use Rattle.hume_run.proofs.Ending.{ends_without_memory}

@@ -1,5 +1,10 @@
-use Rattle.hume_base.proofs.SymbolTexts.{symbol_exact}
+use Rattle.hume_base.proofs.SymbolTexts.{symbol_by_first, symbol_exact}
 use Rattle.hume_base.proofs.symbol.Symbol.from_text.Goals as goal
 
-pub returns-clause-exact : goal.returns-clause-exact
-returns-clause-exact c = symbol_exact c.args.text.now c.find.result c.find.ensures
+pub returns-in-len1-up-clause-found : goal.returns-in-len1-up-clause-found
+returns-in-len1-up-clause-found c =
+    symbol_by_first c.args.text.now c.in-len1-up.len_at_least c.starting_with.result.now c.find_among.result c.starting_with.ensures c.find_among.ensures
+
+pub returns-in-len1-up-clause-exact : goal.returns-in-len1-up-clause-exact
+returns-in-len1-up-clause-exact c = symbol_exact c.args.text.now c.find_among.result
+    (symbol_by_first c.args.text.now c.in-len1-up.len_at_least c.starting_with.result.now c.find_among.result c.starting_with.ensures c.find_among.ensures)

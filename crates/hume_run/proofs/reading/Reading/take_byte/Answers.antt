@@ -5,7 +5,7 @@ use Rattle.hume_run.proofs.reading.Reading.take_byte.Goals as goal
 
 pub returns-then-len-gt-MAX_LINE_BYTES : goal.returns-then-len-gt-MAX_LINE_BYTES
 returns-then-len-gt-MAX_LINE_BYTES c =
-    rw c.bad_line.ensures (pushed_long _ c.args.self.now c.args.byte c.requires.one_line (ne_eqb _ 10 c.if-byte-eq10.false) c.requires.few
+    rw c.bad_line.ensures (pushed_long _ c.args.self.now c.args.byte c.requires.one_write (ne_eqb _ 10 c.if-byte-eq10.false) c.requires.few
     (omega (arith, ap length c.in_ok-push.ensures.ok)))
 
 pub returns : goal.returns

@@ -1,5 +1,5 @@
 use Rattle.std.proofs.Common.{take}
-use Rattle.hume_run.specs.Reading.{IsOpen, GoesOn}
+use Rattle.hume_run.specs.inner.Reading.{IsOpen, GoesOn}
 use Rattle.hume_run.proofs.reading.Reading.take_piece.Given as goal
 
 abbrev pub invariant-loop-byte : goal.invariant-loop-byte

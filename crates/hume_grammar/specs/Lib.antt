@@ -1,7 +1,0 @@
-pub mod Readers
-pub mod Types
-pub mod Patterns
-pub mod Expressions
-pub mod Declarations
-pub mod Lines
-pub mod Programs

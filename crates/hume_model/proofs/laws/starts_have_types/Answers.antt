@@ -1,5 +1,0 @@
-use Rattle.hume_model.proofs.StartTypes.{start_typed}
-use Rattle.hume_model.proofs.laws.starts_have_types.Goals as goal
-
-pub returns : goal.returns
-returns c = λ core initials coming typed. start_typed core initials coming typed

@@ -1,5 +1,0 @@
-use Rattle.hume_model.proofs.WellFormedCores.{typed_net}
-use Rattle.hume_model.proofs.laws.well_formed_nets_are_typed.Goals as goal
-
-pub returns : goal.returns
-returns c = λ core formed agree. typed_net core formed agree

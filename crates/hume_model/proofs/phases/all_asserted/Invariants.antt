@@ -1,6 +1,0 @@
-use Rattle.std.proofs.Common.{◌≡◌}
-use Rattle.hume_model.specs.Lockstep.{numbered, stepped}
-use Rattle.hume_model.proofs.phases.all_asserted.Given as goal
-
-abbrev pub invariant-loop-number : goal.invariant-loop-number
-invariant-loop-number l = l.halves ≡ numbered l.number (stepped l.core l.state)

@@ -1,0 +1,8 @@
+use Rattle.hume_net.proofs.StatePlaces.{superstep_places, lockstep_places}
+use Rattle.hume_net.proofs.laws.locksteps_have_places.Goals as goal
+
+pub returns-clause-supersteps : goal.returns-clause-supersteps
+returns-clause-supersteps c = superstep_places
+
+pub returns-clause-locksteps : goal.returns-clause-locksteps
+returns-clause-locksteps c = lockstep_places

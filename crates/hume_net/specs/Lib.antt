@@ -1,0 +1,10 @@
+pub mod HalfSteps
+pub mod Sides
+pub mod Lockstep
+pub mod Start
+pub mod Nodes
+pub mod StatePlaces
+pub mod StateTyping
+pub mod Depths
+pub mod Plan
+pub mod inner

@@ -1,0 +1,17 @@
+pub mod Local
+pub mod TokensApart
+pub mod Forms
+pub mod TypesRead
+pub mod PatternsRead
+pub mod Levels
+pub mod Chains
+pub mod Atoms
+pub mod ExpressionsRead
+pub mod DeclarationParts
+pub mod DeclarationsRead
+pub mod ItemsRead
+pub mod AllItemsRead
+pub mod Grouping
+pub mod ProgramsRead
+pub mod StandingFor
+pub mod OneSpelling
