@@ -1,5 +1,6 @@
 pub mod Sizes
 pub mod Tables
 pub mod KeywordTexts
+pub mod Least
 pub mod SymbolTexts
 pub mod WordsTell

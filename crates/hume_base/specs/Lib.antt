@@ -3,6 +3,7 @@ pub mod formers
 pub mod Holding
 pub mod inner
 pub mod Keywords
+pub mod Least
 pub mod Places
 pub mod Rules
 pub mod Sizes

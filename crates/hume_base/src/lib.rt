@@ -2,13 +2,14 @@
 //!
 //! `size` gives the words of a type (`specs/Sizes.antt`), `line_of` the line of a place (`specs/Places.antt`), and copies equal
 //! their originals. Which values a type has is said by `specs/Values.antt`, and which words they are by `specs/Flat.antt`.
-//! `limits` has every limit of the language, once.
+//! `limits` has every limit of the language, once. Which of several broken rules is told is said by `specs/Least.antt`.
 //! Law: the words of a value tell it apart from every other of its type (`words_tell_values_apart`).
 //! It knows nothing of programs, of the bytes of sources or of ports.
 #![tactic(auto)]
 
 mod boxed;
 mod copy;
+mod finding;
 mod keyword;
 mod laws;
 pub mod limits;
@@ -25,6 +26,7 @@ mod words;
 
 pub use boxed::Box;
 pub use copy::{copy_ty, copy_tys, copy_value, copy_values, same_ty};
+pub use finding::{Finding, earlier};
 pub use keyword::Keyword;
 pub use laws::words_tell_values_apart;
 pub use list::List;

@@ -63,8 +63,23 @@ pub const MAX_WIRE_DEPTH: u32 = 16;
 /// Words of the values that all wires of a program hold together.
 pub const MAX_WIRE_WORDS: u32 = 65_536;
 
+/// Words of heap that a box takes.
+pub const MAX_HEAP_WORDS: u32 = 65_536;
+
+/// Words of stack that a box takes.
+pub const MAX_STACK_WORDS: u32 = 16_384;
+
+/// Words of heap and stack that all boxes of a program take together.
+pub const MAX_SPACE_WORDS: u32 = 4_194_304;
+
+/// Instructions that an execute step of a box runs.
+pub const MAX_WORK: u32 = 1_000_000;
+
 /// Bytes of a line that an input stream reads.
 pub const MAX_LINE_BYTES: usize = 65_536;
+
+/// Empty lines in a row that an input stream reads.
+pub const MAX_EMPTY_LINES: u32 = 65_536;
 
 /// Supersteps of a run.
 pub const MAX_SUPERSTEPS: u32 = 64;

@@ -105,6 +105,8 @@ pub struct PortC {
 pub struct BoxC {
     pub name: Text,
     pub line: u32,
+    /// The number of its declaration in the source, from 0.
+    pub declaration: u32,
     pub ins: List<PortC>,
     pub outs: List<PortC>,
     pub fair: bool,
@@ -116,6 +118,8 @@ pub struct BoxC {
 pub struct StreamC {
     pub name: Text,
     pub line: u32,
+    /// The number of its declaration in the source, from 0.
+    pub declaration: u32,
     /// The name of the port outside that the stream reads or writes.
     pub port: Text,
 }
@@ -133,6 +137,8 @@ pub enum NodeC {
 #[derive(Drop)]
 pub struct WireC {
     pub line: u32,
+    /// The number of its declaration in the source, from 0.
+    pub declaration: u32,
     pub from: u32,
     pub from_port: u32,
     pub to: u32,

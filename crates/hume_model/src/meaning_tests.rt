@@ -143,6 +143,7 @@ fn box_of(alloc: Global, rule: RuleC, handlers: List<HandC>) -> Result<BoxC, All
     Ok(BoxC {
         name: Text::from_bytes(alloc, b"b")?,
         line: 1,
+        declaration: 0,
         ins: List::new(alloc),
         outs: List::new(alloc),
         fair: false,

@@ -146,7 +146,7 @@ in_places names lines output places place k d within = let P : ℕ → Type 0 = 
 
 -- what is owed, by the bad line that halts the run
 abbrev input_stream : OneBox → StreamC
-input_stream parts = record { name = codes "s"; line = parts.lines.input; port = parts.input }
+input_stream parts = record { name = codes "s"; line = parts.lines.input; declaration = 1; port = parts.input }
 
 abbrev owed_where : ℕ → List ℕ → (List ℕ → List ℕ) → OneBox → Option ℕ → Owed
 owed_where steps source texts parts halted = record {

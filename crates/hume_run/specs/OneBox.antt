@@ -83,6 +83,7 @@ abbrev pub one_box : OneBox → BoxC
 one_box parts = record {
   name = codes "b";
   line = parts.lines.boxed;
+  declaration = 0;
   ins = record { name = codes "x"; ty = int_32 } ∷ [];
   outs = record { name = codes "y"; ty = int_32 } ∷ [];
   fair = false;
@@ -98,12 +99,12 @@ core_of parts = record {
   funs = [];
   nodes =
       Rules (one_box parts)
-      ∷ From (record { name = codes "s"; line = parts.lines.input; port = parts.input })
-      ∷ To (record { name = codes "t"; line = parts.lines.output; port = parts.output })
+      ∷ From (record { name = codes "s"; line = parts.lines.input; declaration = 1; port = parts.input })
+      ∷ To (record { name = codes "t"; line = parts.lines.output; declaration = 2; port = parts.output })
       ∷ [];
   wires =
-      record { line = parts.lines.wire_in; from = 1; from_port = 0; to = 0; to_port = 0; ty = int_32; depth = 1; initial = None }
-      ∷ record { line = parts.lines.wire_out; from = 0; from_port = 0; to = 2; to_port = 0; ty = int_32; depth = 1; initial = None }
+      record { line = parts.lines.wire_in; declaration = 3; from = 1; from_port = 0; to = 0; to_port = 0; ty = int_32; depth = 1; initial = None }
+      ∷ record { line = parts.lines.wire_out; declaration = 4; from = 0; from_port = 0; to = 2; to_port = 0; ty = int_32; depth = 1; initial = None }
       ∷ [];
 }
 

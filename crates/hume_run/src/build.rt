@@ -18,10 +18,10 @@ pub fn build_core(alloc: Global, parts: &Parts) -> Result<Core, AllocError>
     ensures small { IfOk result (λ core. HasSmallBoxes core) }
 {
     let mut nodes = List::of_one(alloc, NodeC::Rules(one_box(alloc, parts)?))?;
-    nodes.push(NodeC::From(stream(alloc, b"s", parts.lines.input, parts.input)?))?;
-    nodes.push(NodeC::To(stream(alloc, b"t", parts.lines.output, parts.output)?))?;
-    let mut wires = List::of_one(alloc, wire(parts.lines.wire_in, 1, 0))?;
-    wires.push(wire(parts.lines.wire_out, 0, 2))?;
+    nodes.push(NodeC::From(stream(alloc, b"s", (parts.lines.input, 1), parts.input)?))?;
+    nodes.push(NodeC::To(stream(alloc, b"t", (parts.lines.output, 2), parts.output)?))?;
+    let mut wires = List::of_one(alloc, wire((parts.lines.wire_in, 3), 1, 0))?;
+    wires.push(wire((parts.lines.wire_out, 4), 0, 2))?;
     Ok(Core {
         types: Types {
             sums: List::new(alloc),
@@ -39,6 +39,7 @@ fn one_box(alloc: Global, parts: &Parts) -> Result<BoxC, AllocError>
     Ok(BoxC {
         name: Text::from_bytes(alloc, b"b")?,
         line: parts.lines.boxed,
+        declaration: 0,
         ins: List::of_one(alloc, port(alloc, b"x")?)?,
         outs: List::of_one(alloc, port(alloc, b"y")?)?,
         fair: false,
@@ -72,22 +73,25 @@ fn port(alloc: Global, name: &[u8]) -> Result<PortC, AllocError>
     })
 }
 
-fn stream(alloc: Global, name: &[u8], line: u32, port: &[u8]) -> Result<StreamC, AllocError>
-    ensures { IfOk result (λ stream. stream ≡ record { name = name.now; line = line; port = port.now }) }
+// A stream that is declared on a line, as so many.
+fn stream(alloc: Global, name: &[u8], declared: (u32, u32), port: &[u8]) -> Result<StreamC, AllocError>
+    ensures { IfOk result (λ stream. stream ≡ record { name = name.now; line = declared.0; declaration = declared.1; port = port.now }) }
 {
     Ok(StreamC {
         name: Text::from_bytes(alloc, name)?,
-        line,
+        line: declared.0,
+        declaration: declared.1,
         port: Text::from_bytes(alloc, port)?,
     })
 }
 
-// A wire of depth 1 from the first output of a node to the first input of another.
-fn wire(line: u32, from: u32, to: u32) -> WireC
-    ensures { result ≡ record { line = line; from = from; from_port = 0; to = to; to_port = 0; ty = int_32; depth = 1; initial = None } }
+// A wire of depth 1 from the first output of a node to the first input of another, declared on a line, as so many.
+fn wire(declared: (u32, u32), from: u32, to: u32) -> WireC
+    ensures { result ≡ record { line = declared.0; declaration = declared.1; from = from; from_port = 0; to = to; to_port = 0; ty = int_32; depth = 1; initial = None } }
 {
     WireC {
-        line,
+        line: declared.0,
+        declaration: declared.1,
         from,
         from_port: 0,
         to,

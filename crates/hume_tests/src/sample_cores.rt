@@ -36,6 +36,7 @@ fn box_of(
     Ok(NodeC::Rules(BoxC {
         name,
         line: 1,
+        declaration: 0,
         ins,
         outs,
         fair,
@@ -85,6 +86,7 @@ fn stream(alloc: Global) -> Result<StreamC, AllocError> {
     Ok(StreamC {
         name: of_stream,
         line: 1,
+        declaration: 0,
         port,
     })
 }
@@ -109,6 +111,7 @@ fn with_streams(
 fn wire(from: (u32, u32), to: (u32, u32), depth: u32) -> WireC {
     WireC {
         line: 1,
+        declaration: 0,
         from: from.0,
         from_port: from.1,
         to: to.0,
