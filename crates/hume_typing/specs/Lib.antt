@@ -1,0 +1,6 @@
+pub mod Cores
+pub mod Partial
+pub mod Patterns
+pub mod Signatures
+pub mod Typing
+pub mod WrittenTypes
