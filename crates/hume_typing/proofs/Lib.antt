@@ -1,0 +1,4 @@
+mod FormsAgree
+mod Maybe
+mod SameTypes
+mod TypingLevels
