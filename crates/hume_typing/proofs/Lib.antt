@@ -1,4 +1,7 @@
+mod ArmsAgree
 mod FormsAgree
 mod Maybe
+mod PartsAgree
 mod SameTypes
 mod TypingLevels
+mod WalkAgrees
