@@ -283,3 +283,7 @@ HasByItself signatures scope e ty c = (typing signatures e).has scope ty c
 -- the expression is checked against the type, with this core
 abbrev pub IsCheckedAgainst : Signatures → Scope → Exp → Ty → Cored → Type 0
 IsCheckedAgainst signatures scope e ty c = (typing signatures e).checked scope ty c
+
+-- the expression has no type of its own
+abbrev pub is_open : Signatures → Exp → Bool
+is_open signatures e = (typing signatures e).is_open

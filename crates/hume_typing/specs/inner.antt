@@ -1,2 +1,3 @@
+pub mod ResultWalk
 pub mod SameTypes
 pub mod Walk
