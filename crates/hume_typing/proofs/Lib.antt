@@ -3,6 +3,9 @@ mod FormsAgree
 mod Maybe
 mod OpenIsInt32
 mod PartsAgree
+mod ResultLevels
+mod ResultsAgree
+mod ResultWalkAgrees
 mod SameTypes
 mod TypingLevels
 mod WalkAgrees
