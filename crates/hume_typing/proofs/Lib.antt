@@ -1,4 +1,5 @@
 mod ArmsAgree
+mod DeclarationsAgree
 mod FormsAgree
 mod Maybe
 mod OpenIsInt32

@@ -1,4 +1,5 @@
 pub mod Cores
+pub mod Declarations
 pub mod inner
 pub mod Partial
 pub mod Patterns
