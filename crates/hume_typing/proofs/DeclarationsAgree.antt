@@ -8,13 +8,13 @@ use Rattle.hume_model.specs.declared.core_tree.ExnDef.{ExnDef}
 use Rattle.hume_typing.specs.Partial.{given}
 use Rattle.hume_typing.specs.Signatures.{exn_named}
 use Rattle.hume_typing.specs.Patterns.{patterns, positions}
-use Rattle.hume_typing.specs.Declarations.{InPlaces, CoredEquation, CoredRule, CoredHandler, some_so, Equation, equation_core, IsEquation, Rule, rule_core, IsRule, Handler, carried_vars, handler_core, IsHandler, signature_written, ports_written, IsFunction, IsBox, IsTyped}
+use Rattle.hume_typing.specs.Declarations.{InPlaces, CoredEquation, CoredRule, CoredHandler, some_so, Equation, equation_core, IsEquation, Rule, rule_core, IsRule, Handler, carried_vars, handler_core, IsHandler, signature_written, ports_written, IsFunction, IsBox, IsTyped, HasNoType}
 use Rattle.hume_typing.specs.inner.Walk.{walk}
 use Rattle.hume_typing.specs.inner.ResultWalk.{result_walk}
 use Rattle.hume_typing.specs.inner.DeclarationWalk.{found_of_all, equation_walk, rule_walk, handler_walk, function_walk, box_walk, declaration_walk}
 use Rattle.hume_typing.specs.declared.signatures.Signature.{Signature}
 use Rattle.hume_typing.specs.declared.signatures.Signatures.{Signatures}
-use Rattle.hume_typing.proofs.Maybe.{given-at, given-inv, some-same}
+use Rattle.hume_typing.proofs.Maybe.{given-at, given-inv, some-same, not_some}
 use Rattle.hume_typing.proofs.FormsAgree.{Agrees}
 use Rattle.hume_typing.proofs.WalkAgrees.{walk_agrees}
 use Rattle.hume_typing.proofs.ResultsAgree.{ResultAgrees}
@@ -166,3 +166,11 @@ module _ (s : Signatures) where
 
   pub finds_declaration : Finds (IsTyped s) (declaration_walk s)
   finds_declaration decl b = (typed_to decl b, typed_from decl b)
+
+  none_to : (decl : Decl) (o : Option Bool) → declaration_walk s decl ≡ o → HasNoType s decl → o ≡ None
+  none_to decl None is untyped = refl
+  none_to decl (Some b) is untyped = absurd (untyped b (typed_from decl b is))
+
+  -- what is not found is not typed
+  pub finds_none : (decl : Decl) → HasNoType s decl ↔ (declaration_walk s decl ≡ None)
+  finds_none decl = (none_to decl (declaration_walk s decl) refl, λ e b h. not_some b (sym e ∙ typed_to decl b h))

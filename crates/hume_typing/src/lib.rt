@@ -9,6 +9,8 @@
 //! This crate knows trees, types and the core. It doesn't know memory, names of boxes and streams, or how a type is found.
 #![tactic(auto)]
 
+mod laws;
 mod signatures;
 
+pub use laws::{declaration_walk_is_typing, open_is_int32, typing_is_unique, walk_is_typing};
 pub use signatures::{Signature, Signatures};
