@@ -11,7 +11,7 @@ use Rattle.hume_model.specs.Typing.{is_number_type, is_comparison}
 use Rattle.hume_typing.specs.Partial.{given, when}
 use Rattle.hume_typing.specs.Signatures.{Scope, exn_named, variable_named}
 use Rattle.hume_typing.specs.WrittenTypes.{written}
-use Rattle.hume_typing.specs.Cores.{Cored, word_core, truth_core, literal_core, variable_core, let_core, if_core, and_core, or_core, operation_core, neg_core, not_core, convert_core, index_core, update_core, raise_core, raise_with_core}
+use Rattle.hume_typing.specs.Cores.{Cored, letter_core, truth_core, literal_core, variable_core, let_core, if_core, and_core, or_core, operation_core, neg_core, not_core, convert_core, index_core, update_core, raise_core, raise_with_core}
 use Rattle.hume_typing.specs.Typing.{Judged, int32, closed, opened, FirstType, either_type, literal_typing, letter_typing, truth_typing, let_typing, Branches, if_typing, RaisedAlone, RaisedWith, raise_typing, raise_with_typing, Arithmetic, arithmetic_typing, comparison_typing, logic_typing, not_typing, neg_typing, index_typing, Updated, update_typing, cast_typing, star_typing, binary_typing}
 use Rattle.hume_typing.specs.inner.SameTypes.{is_same}
 use Rattle.hume_typing.specs.inner.Walk.{Typed, Walk, expected, closed_walk, of_type, opened_walk, vector_parts, literal_walk, letter_walk, truth_walk, let_walk, two_against, two_own, if_walk, carries_none, raised_alone, raise_walk, raised_with, raise_with_walk, arithmetic_walk, comparison_walk, logic_walk, not_walk, neg_walk, index_walk, updated, update_walk, cast_walk, star_walk, binary_walk}
@@ -80,7 +80,7 @@ agrees_truth b = agrees_closed _ _
 pub agrees_letter : (b : ℕ) → Agrees (letter_typing b) (letter_walk b)
 agrees_letter b = agrees_closed _ _
     (λ scope t c h. λ i. Some (sym h.0 i, sym h.1 i))
-    (λ scope t c h. let e : (CharTy, word_core b) ≡ (t, c) = some-same _ _ h in (sym (ap (λ p. p.0) e), sym (ap (λ p. p.1) e)))
+    (λ scope t c h. let e : (CharTy, letter_core b) ≡ (t, c) = some-same _ _ h in (sym (ap (λ p. p.0) e), sym (ap (λ p. p.1) e)))
 
 pub agrees_star : Agrees star_typing star_walk
 agrees_star = agrees_closed _ _ (λ scope t c h. absurd h) (λ scope t c h. cc)

@@ -6,7 +6,7 @@ use Rattle.hume_model.specs.declared.core_tree.Op.{Op}
 use Rattle.hume_model.specs.declared.core_tree.Op.TheVariants as op
 use Rattle.hume_model.specs.declared.core_tree.PatC.{PatC}
 use Rattle.hume_model.specs.declared.core_tree.Expr.{Expr, Word, Var, Con, Tuple, Vect, Prim, Index, Update, If, Case, Let, Call, Raise}
-use Rattle.hume_typing.specs.Patterns.{CoredPat, literal_word, is_too_wide, word_of_truth}
+use Rattle.hume_typing.specs.Patterns.{CoredPat, literal_word, is_too_wide, is_no_char, word_of_truth}
 
 -- a core, and whether a literal in it is out of the range of its type
 abbrev pub Cored : Type 0
@@ -28,11 +28,11 @@ arm_cores arms = map (λ arm. (arm.0.0, arm.1.0)) arms
 abbrev pub some_arm_too_wide : List CoredArm → Bool
 some_arm_too_wide arms = list_any (λ arm. arm.0.1 || arm.1.1) arms
 
-abbrev pub word_core : ℕ → Cored
-word_core word = (Word word, false)
-
 abbrev pub truth_core : Bool → Cored
-truth_core truth = word_core (word_of_truth truth)
+truth_core truth = (Word (word_of_truth truth), false)
+
+abbrev pub letter_core : ℕ → Cored
+letter_core byte = (Word byte, is_no_char byte)
 
 abbrev pub literal_core : Bool → ℕ → Ty → Cored
 literal_core negative amount ty = (Word (literal_word negative amount), is_too_wide negative amount ty)

@@ -4,7 +4,7 @@ use Rattle.std.specs.Int.RustNames.{int_le, int_lt}
 use Rattle.std.specs.List.{list_any}
 use Rattle.hume_base.specs.declared.types.Ty.{Ty, out-Ty}
 use Rattle.hume_base.specs.declared.types.Ty.TheOpen.{Ty-F}
-use Rattle.hume_base.specs.Values.{is_int_of}
+use Rattle.hume_base.specs.Values.{is_int_of, is_char_word}
 use Rattle.hume_base.specs.Words.{word_of}
 use Rattle.hume_ast.specs.declared.tree.Pat.{Pat, out-Pat, fold-Pat}
 use Rattle.hume_ast.specs.declared.tree.Pat.TheOpen.{Pat-F}
@@ -33,6 +33,10 @@ is_number_of number _ = false
 -- the literal is out of the range of the type
 abbrev pub is_too_wide : Bool → ℕ → Ty → Bool
 is_too_wide negative amount ty = not (is_number_of (literal_number negative amount) (out-Ty ty))
+
+-- the letter is no character
+abbrev pub is_no_char : ℕ → Bool
+is_no_char byte = not (is_char_word byte)
 
 abbrev pub word_of_truth : Bool → ℕ
 word_of_truth truth = if truth then 1 else 0
@@ -85,7 +89,7 @@ pattern_step signatures (Pat-F.Name name) ty = Some ((name, ty) ∷ [], (Var, fa
 pattern_step signatures Pat-F.Any ty = Some ([], (Any, false))
 pattern_step signatures (Pat-F.Num negative amount) ty =
     when (is_number_type ty) (Some ([], (Word (literal_word negative amount), is_too_wide negative amount ty)))
-pattern_step signatures (Pat-F.Letter byte) ty = when (is_char (out-Ty ty)) (Some ([], (Word byte, false)))
+pattern_step signatures (Pat-F.Letter byte) ty = when (is_char (out-Ty ty)) (Some ([], (Word byte, is_no_char byte)))
 pattern_step signatures (Pat-F.Truth truth) ty = when (is_bool (out-Ty ty)) (Some ([], (Word (word_of_truth truth), false)))
 pattern_step signatures (Pat-F.Con name pats) ty = con_bound (con_named name signatures) pats ty
 pattern_step signatures (Pat-F.Paren pat) ty = pat ty

@@ -14,7 +14,7 @@ use Rattle.hume_model.specs.Typing.{is_number_type, is_comparison}
 use Rattle.hume_typing.specs.Signatures.{Scope, Constructor, exn_named, fun_named, con_named, variable_named}
 use Rattle.hume_typing.specs.WrittenTypes.{written}
 use Rattle.hume_typing.specs.Patterns.{CoredPat, pattern}
-use Rattle.hume_typing.specs.Cores.{Cored, CoredArm, word_core, truth_core, literal_core, variable_core, let_core, if_core, and_core, or_core, operation_core, neg_core, not_core, convert_core, index_core, update_core, case_core, raise_core, raise_with_core, call_core, con_core, tuple_core, vector_core}
+use Rattle.hume_typing.specs.Cores.{Cored, CoredArm, letter_core, truth_core, literal_core, variable_core, let_core, if_core, and_core, or_core, operation_core, neg_core, not_core, convert_core, index_core, update_core, case_core, raise_core, raise_with_core, call_core, con_core, tuple_core, vector_core}
 use Rattle.hume_typing.specs.declared.signatures.Signature.{Signature}
 use Rattle.hume_typing.specs.declared.signatures.Signatures.{Signatures}
 
@@ -72,7 +72,7 @@ abbrev pub literal_typing : Bool → ℕ → Judged
 literal_typing negative amount = opened (λ scope ty c. (is_number_type ty ≡ true) × (c ≡ literal_core negative amount ty))
 
 abbrev pub letter_typing : ℕ → Judged
-letter_typing byte = closed (λ scope ty c. (ty ≡ CharTy) × (c ≡ word_core byte))
+letter_typing byte = closed (λ scope ty c. (ty ≡ CharTy) × (c ≡ letter_core byte))
 
 abbrev pub truth_typing : Bool → Judged
 truth_typing truth = closed (λ scope ty c. (ty ≡ BoolTy) × (c ≡ truth_core truth))

@@ -17,7 +17,7 @@ use Rattle.hume_typing.specs.Partial.{given, when}
 use Rattle.hume_typing.specs.Signatures.{Scope, Constructor, exn_named, fun_named, con_named, variable_named}
 use Rattle.hume_typing.specs.WrittenTypes.{written}
 use Rattle.hume_typing.specs.Patterns.{pattern}
-use Rattle.hume_typing.specs.Cores.{Cored, CoredArm, word_core, truth_core, literal_core, variable_core, let_core, if_core, and_core, or_core, operation_core, neg_core, not_core, convert_core, index_core, update_core, case_core, raise_core, raise_with_core, call_core, con_core, tuple_core, vector_core}
+use Rattle.hume_typing.specs.Cores.{Cored, CoredArm, letter_core, truth_core, literal_core, variable_core, let_core, if_core, and_core, or_core, operation_core, neg_core, not_core, convert_core, index_core, update_core, case_core, raise_core, raise_with_core, call_core, con_core, tuple_core, vector_core}
 use Rattle.hume_typing.specs.Typing.{int32}
 use Rattle.hume_typing.specs.inner.SameTypes.{is_same}
 use Rattle.hume_typing.specs.declared.signatures.Signature.{Signature}
@@ -66,7 +66,7 @@ abbrev pub literal_walk : Bool → ℕ → Walk
 literal_walk negative amount = opened_walk (λ scope ty. when (is_number_type ty) (Some (literal_core negative amount ty)))
 
 abbrev pub letter_walk : ℕ → Walk
-letter_walk byte = closed_walk (λ scope. Some (CharTy, word_core byte))
+letter_walk byte = closed_walk (λ scope. Some (CharTy, letter_core byte))
 
 abbrev pub truth_walk : Bool → Walk
 truth_walk truth = closed_walk (λ scope. Some (BoolTy, truth_core truth))
