@@ -1,6 +1,7 @@
 mod ArmsAgree
 mod DeclarationsAgree
 mod FormsAgree
+mod LiteralTypes
 mod Maybe
 mod OpenIsInt32
 mod PartsAgree

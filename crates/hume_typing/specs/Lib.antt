@@ -1,3 +1,4 @@
+pub mod CoreSignatures
 pub mod Cores
 pub mod Declarations
 pub mod inner
