@@ -3,8 +3,10 @@ mod DeclarationsAgree
 mod FormsAgree
 mod LiteralTypes
 mod Maybe
+mod NamesFound
 mod OpenIsInt32
 mod PartsAgree
+mod PatternsTyped
 mod ResultLevels
 mod ResultsAgree
 mod ResultWalkAgrees
