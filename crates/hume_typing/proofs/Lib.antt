@@ -1,6 +1,8 @@
 mod ArmsAgree
 mod DeclarationsAgree
+mod ExpressionsTyped
 mod FormsAgree
+mod FormsTyped
 mod LiteralTypes
 mod Maybe
 mod NamesFound

@@ -10,12 +10,15 @@ use Rattle.hume_base.specs.declared.types.Types.{Types}
 use Rattle.hume_ast.specs.declared.tree.Pat.{Pat, out-Pat, roll-Pat, map-Pat, fold-roll-Pat, ind-Pat}
 use Rattle.hume_ast.specs.declared.tree.Pat.TheOpen.{Pat-F}
 use Rattle.hume_model.specs.declared.core_tree.PatC.{Var, Any, Word, Con, Tuple}
+use Rattle.hume_model.specs.declared.core_tree.InPat.{InPat}
+use Rattle.hume_model.specs.declared.core_tree.InPat.TheVariants as in_pat
 use Rattle.hume_model.specs.Typing.{is_number_type, IsPattern, ArePatterns}
 use Rattle.hume_model.specs.BoxTyping.{PositionsHave}
 use Rattle.hume_typing.specs.Partial.{given, when}
 use Rattle.hume_typing.specs.Signatures.{Scope, Constructor, con_named}
 use Rattle.hume_typing.specs.Patterns.{literal_word, is_too_wide, is_no_char, word_of_truth, is_bool, is_char, is_named, CoredPat, pat_cores, some_pat_too_wide, Bound, all_bound, tuple_bound, con_bound, pattern_step, pattern, patterns, CoredPosition, built, position_step, position, positions}
 use Rattle.hume_typing.specs.CoreSignatures.{scope_types}
+use Rattle.hume_typing.specs.Declarations.{some_so}
 use Rattle.hume_typing.specs.declared.signatures.Signatures.{Signatures}
 use Rattle.hume_typing.proofs.Maybe.{given-inv, when-inv, some-same}
 use Rattle.hume_typing.proofs.SameTypes.{bool_true, char_true, named_true}
@@ -119,3 +122,37 @@ module _ (s : Signatures) where
   pub patterns_typed : (ps : List Pat) (ts : List Ty) (b : Scope × List CoredPat) → patterns s ps ts ≡ Some b → some_pat_too_wide b.1 ≡ false
       → ArePatterns s.types ts (pat_cores b.1) (scope_types b.0)
   patterns_typed ps = all_typed (map (pattern s) ps) (several ps)
+
+  -- a position before others
+  before : (ty : Ty) (tys vars : List Ty) (pats : List InPat) (bound : Option Bound) → ((b : Bound) → bound ≡ Some b → IsTypedPattern ty b) → (layer : Pat-F Pat) (r : Scope × CoredPosition)
+      → position_step bound layer ≡ Some r → r.1.1 ≡ false → PositionsHave s.types tys pats vars → PositionsHave s.types (ty ∷ tys) (r.1.0 ∷ pats) (scope_types r.0 ++ vars)
+  before ty tys vars pats bound typed layer r h off others = by layer h
+    where
+      Goal : Scope × CoredPosition → Type 0
+      Goal r = PositionsHave s.types (ty ∷ tys) (r.1.0 ∷ pats) (scope_types r.0 ++ vars)
+      as_built : built bound ≡ Some r → Goal r
+      as_built h =
+          let k = given-inv bound (λ b. Some (b.0, (in_pat.Built b.1.0, b.1.1))) r h in
+          let e : (k.0.0, (in_pat.Built k.0.1.0, k.0.1.1)) ≡ r = some-same _ _ k.2 in
+          subst Goal e (PositionsHave.built (typed k.0 k.1 (ap (λ r. r.1.1) e ∙ off)) others)
+      by : (layer : Pat-F Pat) → position_step bound layer ≡ Some r → Goal r
+      by Pat-F.Star h = subst Goal (some-same ([], (in_pat.Star, false)) r h) (PositionsHave.star others)
+      by Pat-F.AnyStar h = subst Goal (some-same ([], (in_pat.AnyStar, false)) r h) (PositionsHave.any_star others)
+      by Pat-F.Any h = subst Goal (some-same ([], (in_pat.Any, false)) r h) (PositionsHave.any others)
+      by _ h = as_built h
+
+  pub positions_typed : (ps : List Pat) (ts : List Ty) (b : Scope × List CoredPosition) → positions s ps ts ≡ Some b → some_so b.1 ≡ false
+      → PositionsHave s.types ts (map (λ (p : CoredPosition). p.0) b.1) (scope_types b.0)
+  positions_typed [] [] b h off = subst (λ (r : Scope × List CoredPosition). PositionsHave s.types [] (map (λ (p : CoredPosition). p.0) r.1) (scope_types r.0)) (some-same ([], []) b h) PositionsHave.none
+  positions_typed [] (t ∷ ts) b h off = cc
+  positions_typed (p ∷ ps) [] b h off = cc
+  positions_typed (p ∷ ps) (t ∷ ts) b h off =
+      let k = given-inv (position s p t) (λ first. given (positions s ps ts) (λ others. Some (first.0 ++ others.0, first.1 ∷ others.1))) b h in
+      let m = given-inv (positions s ps ts) (λ others. Some (k.0.0 ++ others.0, k.0.1 ∷ others.1)) b k.2 in
+      let e : (k.0.0 ++ m.0.0, k.0.1 ∷ m.0.1) ≡ b = some-same _ _ m.2 in
+      let flags = or_parts k.0.1.1 (some_so m.0.1) (ap (λ r. some_so r.1) e ∙ off) in
+      let others = positions_typed ps ts m.0 m.1 flags.1 in
+      let pats : List InPat = map (λ (p : CoredPosition). p.0) m.0.1 in
+      subst (λ (r : Scope × List CoredPosition). PositionsHave s.types (t ∷ ts) (map (λ (p : CoredPosition). p.0) r.1) (scope_types r.0)) e
+          (subst (PositionsHave s.types (t ∷ ts) (k.0.1.0 ∷ pats)) (sym (map-append (λ (v : List ℕ × Ty). v.1) k.0.0 m.0.0))
+              (before t ts (scope_types m.0.0) pats (pattern s p t) (pattern_typed p t) (out-Pat p) k.0 k.1 flags.0 others))
