@@ -1,5 +1,6 @@
 mod ArmsAgree
 mod DeclarationsAgree
+mod DeclarationsTyped
 mod ExpressionsTyped
 mod FormsAgree
 mod FormsTyped
@@ -11,6 +12,7 @@ mod PartsAgree
 mod PatternsTyped
 mod ResultLevels
 mod ResultsAgree
+mod ResultsTyped
 mod ResultWalkAgrees
 mod SameTypes
 mod TypingLevels
