@@ -43,6 +43,10 @@ CoredHandler = HandC × Bool
 abbrev pub some_so : {A : Type 0} → List (A × Bool) → Bool
 some_so cs = list_any (λ c. c.1) cs
 
+-- the cores alone
+abbrev pub cores_alone : {A : Type 0} → List (A × Bool) → List A
+cores_alone cs = map (λ c. c.0) cs
+
 -- an equation as it is written: its name, its patterns and its body
 abbrev pub Equation : Type 0
 Equation = List ℕ × List Pat × Exp
@@ -64,7 +68,7 @@ abbrev pub Rule : Type 0
 Rule = List Pat × Exp
 
 abbrev pub rule_core : List CoredPosition → CoredRes → CoredRule
-rule_core pats result = (record { pats = map (λ (position : CoredPosition). position.0) pats; result = result.0 }, some_so pats || result.1)
+rule_core pats result = (record { pats = cores_alone pats; result = result.0 }, some_so pats || result.1)
 
 -- the rule has positions for the inputs, and its result is one for the outputs
 pub record IsRule (signatures : Signatures) (ins outs : List Ty) (rule : Rule) (c : CoredRule) : Type 0 where

@@ -2,14 +2,28 @@
 ghost use Rattle.std.specs.Prelude.{◌≡◌, ◌↔◌, ℕ, List, ◌∷◌, Bool, true, false, Option, Some, None};
 ghost use Rattle.hume_base.specs.declared.types.Ty.{Ty};
 ghost use Rattle.hume_ast.specs.declared.tree.TyExp.{TyExp};
+ghost use Rattle.hume_ast.specs.declared.tree.Pat.{Pat};
 ghost use Rattle.hume_ast.specs.declared.tree.Exp.{Exp};
 ghost use Rattle.hume_ast.specs.declared.tree.Decl.{Decl};
+ghost use Rattle.hume_model.specs.declared.core_tree.PatC.{PatC};
+ghost use Rattle.hume_model.specs.declared.core_tree.Expr.{Expr};
+ghost use Rattle.hume_model.specs.declared.core_tree.Res.{Res};
+ghost use Rattle.hume_model.specs.declared.core_tree.FunC.{FunC};
+ghost use Rattle.hume_model.specs.declared.core_tree.RuleC.{RuleC};
+ghost use Rattle.hume_model.specs.declared.core_tree.HandC.{HandC};
+ghost use Rattle.hume_model.specs.declared.core_tree.BoxC.{BoxC};
+ghost use Rattle.hume_model.specs.declared.core_tree.Core.{Core};
+ghost use Rattle.hume_model.specs.Typing.{IsPattern, HasType, EquationsHave};
+ghost use Rattle.hume_model.specs.ResultTyping.{GivesOutputs};
+ghost use Rattle.hume_model.specs.BoxTyping.{port_types, PositionsHave, RuleIsTyped, HandlerIsTyped};
+ghost use Rattle.hume_typing.specs.CoreSignatures.{scope_types, IsOfSignature, HasSignatures};
+ghost use Rattle.hume_typing.specs.Patterns.{CoredPosition, pattern, positions};
 ghost use Rattle.hume_typing.specs.Signatures.{Scope};
 ghost use Rattle.hume_typing.specs.Cores.{Cored};
 ghost use Rattle.hume_typing.specs.Typing.{HasByItself, IsCheckedAgainst, is_open, int32};
 ghost use Rattle.hume_typing.specs.Results.{CoredRes, IsResult};
 ghost use Rattle.hume_typing.specs.Declarations.{
-    Equation, CoredEquation, IsEquation, Rule, CoredRule, IsRule, Handler, CoredHandler, IsHandler, IsFunction, IsBox, IsTyped, HasNoType,
+    InPlaces, some_so, cores_alone, Equation, CoredEquation, IsEquation, Rule, CoredRule, IsRule, Handler, CoredHandler, IsHandler, IsFunction, IsBox, IsTyped, HasNoType,
 };
 ghost use Rattle.hume_typing.specs.inner.Walk.{walk};
 ghost use Rattle.hume_typing.specs.inner.ResultWalk.{result_walk};
@@ -52,4 +66,21 @@ pub fn declaration_walk_is_typing()
     ensures boxes { (s : Signatures) (ins outs : List (List ℕ × TyExp)) (rs : List Rule) (hs : List Handler) (cs : List CoredRule) (ds : List CoredHandler) → IsBox s ins outs rs hs cs ds ↔ (box_walk s ins outs rs hs ≡ Some (cs, ds)) }
     ensures typed { (s : Signatures) (decl : Decl) (too_wide : Bool) → IsTyped s decl too_wide ↔ (declaration_walk s decl ≡ Some too_wide) }
     ensures untyped { (s : Signatures) (decl : Decl) → HasNoType s decl ↔ (declaration_walk s decl ≡ None) }
+{}
+
+/// Where no literal is out of the range of its type, the cores of expressions and results have their types in each core that
+/// has the signatures.
+pub fn cores_are_typed()
+    ensures by_itself { (s : Signatures) (core : Core) (scope : Scope) (e : Exp) (t : Ty) (c : Expr) → HasSignatures s core → HasByItself s scope e t (c, false) → HasType core (scope_types scope) c t }
+    ensures against { (s : Signatures) (core : Core) (scope : Scope) (e : Exp) (t : Ty) (c : Expr) → HasSignatures s core → IsCheckedAgainst s scope e t (c, false) → HasType core (scope_types scope) c t }
+    ensures result { (s : Signatures) (core : Core) (scope : Scope) (e : Exp) (tys : List Ty) (c : Res) → HasSignatures s core → IsResult s scope e tys (c, false) → GivesOutputs core tys (scope_types scope) c }
+{}
+
+/// So it is with patterns, positions, equations, rules and handlers.
+pub fn parts_are_typed()
+    ensures patterns { (s : Signatures) (p : Pat) (t : Ty) (vars : Scope) (c : PatC) → pattern s p t ≡ Some (vars, (c, false)) → IsPattern s.types t c (scope_types vars) }
+    ensures positions { (s : Signatures) (ps : List Pat) (ins : List Ty) (vars : Scope) (cs : List CoredPosition) → positions s ps ins ≡ Some (vars, cs) → some_so cs ≡ false → PositionsHave s.types ins (cores_alone cs) (scope_types vars) }
+    ensures equations { (s : Signatures) (core : Core) (f : Signature) (function : FunC) (es : List Equation) (cs : List CoredEquation) → HasSignatures s core → IsOfSignature f function → InPlaces (IsEquation s f) es cs → some_so cs ≡ false → EquationsHave core function (cores_alone cs) }
+    ensures rule { (s : Signatures) (core : Core) (b : BoxC) (r : Rule) (c : RuleC) → HasSignatures s core → IsRule s (port_types b.ins) (port_types b.outs) r (c, false) → RuleIsTyped core b c }
+    ensures handler { (s : Signatures) (core : Core) (b : BoxC) (h : Handler) (c : HandC) → HasSignatures s core → IsHandler s (port_types b.outs) h (c, false) → HandlerIsTyped core b c }
 {}
