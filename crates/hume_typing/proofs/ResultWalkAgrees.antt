@@ -1,12 +1,12 @@
 -- The walk over a result finds exactly what is said of it.
-use Rattle.std.proofs.Common.{◌≡◌, ℕ, List, [], ◌∷◌, map, Option, Some, None, refl, ap, sym, subst, ◌∙◌}
+use Rattle.std.proofs.Common.{◌≡◌, List, [], ◌∷◌, map, Some, None, refl, ap, sym, subst, ◌∙◌}
 use Rattle.hume_base.specs.declared.types.Ty.{Ty}
 use Rattle.hume_ast.specs.declared.tree.Pat.{Pat}
 use Rattle.hume_ast.specs.declared.tree.Exp.{Exp, roll-Exp, fold-roll-Exp, ind-Exp, map-Exp}
 use Rattle.hume_ast.specs.declared.tree.Exp.TheOpen.{Exp-F}
 use Rattle.hume_typing.specs.Signatures.{Scope}
 use Rattle.hume_typing.specs.Typing.{Judged, typing, typing_step}
-use Rattle.hume_typing.specs.Results.{CoredRes, AsResult, as_result, result_step, result_level, result_arm_with, IsResult}
+use Rattle.hume_typing.specs.Results.{CoredRes, as_result, result_step, result_level, result_arm_with, IsResult}
 use Rattle.hume_typing.specs.inner.Walk.{Walk, walk, walk_step}
 use Rattle.hume_typing.specs.inner.ResultWalk.{ResultWalk, result_walk, result_walk_step, result_walk_form}
 use Rattle.hume_typing.specs.declared.signatures.Signatures.{Signatures}

@@ -1,5 +1,5 @@
 -- Patterns against the types of what they match.
-use Rattle.std.specs.Prelude.{ℕ, ◌^◌, ◌==◌, ◌&&◌, ◌||◌, nat_lt, nat_le, not, Bool, true, false, ℤ, pos, neg_ℤ, List, [], ◌∷◌, ◌++◌, map, Option, Some, None, if◌then◌else◌}
+use Rattle.std.specs.Prelude.{ℕ, ◌^◌, ◌==◌, ◌&&◌, not, Bool, true, false, ℤ, pos, neg_ℤ, List, [], ◌∷◌, ◌++◌, map, Option, Some, None, if◌then◌else◌}
 use Rattle.std.specs.Int.RustNames.{int_le, int_lt}
 use Rattle.std.specs.List.{list_any}
 use Rattle.hume_base.specs.declared.types.Ty.{Ty, out-Ty}
@@ -81,7 +81,8 @@ tuple_bound pats _ = None
 abbrev pub con_bound : Option Constructor → List (Ty → Option Bound) → Ty → Option Bound
 con_bound None pats ty = None
 con_bound (Some con) pats ty =
-    when (is_named con.sum (out-Ty ty)) (given (all_bound pats con.fields) (λ all. Some (all.0, (Con con.place (pat_cores all.1), some_pat_too_wide all.1))))
+    when (is_named con.sum (out-Ty ty)) (given (all_bound pats con.fields) (λ all.
+    Some (all.0, (Con con.place (pat_cores all.1), some_pat_too_wide all.1))))
 
 -- one level of a pattern, against the type of what it matches
 abbrev pub pattern_step : Signatures → Pat-F (Ty → Option Bound) → Ty → Option Bound

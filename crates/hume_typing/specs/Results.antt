@@ -1,5 +1,5 @@
 -- Which results of rules and handlers have which core, by the types of the outputs.
-use Rattle.std.specs.Prelude.{◌≡◌, ℕ, ◌||◌, Bool, true, false, List, [], ◌∷◌, ◌++◌, map, Option, Some, None}
+use Rattle.std.specs.Prelude.{◌≡◌, ℕ, ◌||◌, Bool, false, List, [], ◌∷◌, ◌++◌, map, Option, Some, None}
 use Rattle.std.specs.List.{list_any}
 use Rattle.hume_base.specs.declared.types.Ty.{Ty, Bool as BoolTy}
 use Rattle.hume_ast.specs.declared.tree.Pat.{Pat}
@@ -113,23 +113,26 @@ raise_with_result signatures name j a = followed j (λ scope tys c.
 
 abbrev pub let_result : Judged → List ℕ → Judged → AsResult → AsResult
 let_result j name a b = followed j (λ scope tys c.
-    (of : Ty) × (part : Cored) × (body : CoredRes) × a.has scope of part × b.result (scope ++ (name, of) ∷ []) tys body × (c ≡ let_result_core part body))
+    (of : Ty) × (part : Cored) × (body : CoredRes) × a.has scope of part × b.result (scope ++ (name, of) ∷ []) tys body
+    × (c ≡ let_result_core part body))
 
 abbrev pub if_result : Judged → Judged → AsResult → AsResult → AsResult
 if_result j test a b = followed j (λ scope tys c.
-    (t : Cored) × (when_true : CoredRes) × (when_false : CoredRes) × test.checked scope BoolTy t × a.result scope tys when_true × b.result scope tys when_false
-    × (c ≡ if_result_core t when_true when_false))
+    (t : Cored) × (when_true : CoredRes) × (when_false : CoredRes) × test.checked scope BoolTy t × a.result scope tys when_true
+    × b.result scope tys when_false × (c ≡ if_result_core t when_true when_false))
 
 -- the alternatives' patterns are checked against the type of what they match, and their bodies are results
 abbrev pub ArmsResult : Signatures → Scope → Ty → List ResultArm → List Ty → List CoredResArm → Type 0
 ArmsResult signatures scope of [] tys [] = Unit {0}
 ArmsResult signatures scope of (arm ∷ arms) tys (c ∷ cs) =
-    (vars : Scope) × (pattern signatures arm.pat of ≡ Some (vars, c.0)) × arm.body.result (scope ++ vars) tys c.1 × ArmsResult signatures scope of arms tys cs
+    (vars : Scope) × (pattern signatures arm.pat of ≡ Some (vars, c.0)) × arm.body.result (scope ++ vars) tys c.1
+    × ArmsResult signatures scope of arms tys cs
 ArmsResult signatures scope of _ tys _ = ⊥
 
 abbrev pub case_result : Signatures → Judged → Judged → List ResultArm → AsResult
 case_result signatures j a arms = followed j (λ scope tys c.
-    (of : Ty) × (part : Cored) × (cs : List CoredResArm) × a.has scope of part × ArmsResult signatures scope of arms tys cs × (c ≡ case_result_core of part cs))
+    (of : Ty) × (part : Cored) × (cs : List CoredResArm) × a.has scope of part × ArmsResult signatures scope of arms tys cs
+    × (c ≡ case_result_core of part cs))
 
 abbrev pub result_arm_with : (X : Type 0) → (X → AsResult) → Pat × X → ResultArm
 result_arm_with X k arm = record { pat = arm.0; body = k arm.1 }

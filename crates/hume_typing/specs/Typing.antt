@@ -1,5 +1,5 @@
 -- Which types an expression has, and with which core: a row for each form.
-use Rattle.std.specs.Prelude.{◌≡◌, ℕ, ◌&&◌, Bool, true, false, List, [], ◌∷◌, ◌++◌, length, map, Option, Some, None}
+use Rattle.std.specs.Prelude.{◌≡◌, ℕ, ◌&&◌, Bool, true, false, List, [], ◌∷◌, ◌++◌, length, map, Some, None}
 use Rattle.hume_base.specs.declared.types.Ty.{Ty, Bool as BoolTy, Char as CharTy, Int, Tuple as TupleTy, Vector as VectorTy, Named as NamedTy}
 use Rattle.hume_ast.specs.declared.tree.BinOp.{BinOp}
 use Rattle.hume_ast.specs.declared.tree.BinOp.TheVariants as sign
@@ -78,7 +78,8 @@ abbrev pub truth_typing : Bool → Judged
 truth_typing truth = closed (λ scope ty c. (ty ≡ BoolTy) × (c ≡ truth_core truth))
 
 abbrev pub Binding : List ℕ → Judged → (Scope → Ty → Cored → Type 0) → Scope → Ty → Cored → Type 0
-Binding name a Body scope ty c = (of : Ty) × (part : Cored) × (body : Cored) × a.has scope of part × Body (scope ++ (name, of) ∷ []) ty body × (c ≡ let_core part body)
+Binding name a Body scope ty c =
+    (of : Ty) × (part : Cored) × (body : Cored) × a.has scope of part × Body (scope ++ (name, of) ∷ []) ty body × (c ≡ let_core part body)
 
 -- `let name = a in b`: the variable has the type that a has by itself
 abbrev pub let_typing : List ℕ → Judged → Judged → Judged
@@ -86,8 +87,8 @@ let_typing name a b = record { is_open = b.is_open; has = Binding name a b.has; 
 
 abbrev pub Branches : Judged → Judged → Judged → Scope → Ty → Cored → Type 0
 Branches test a b scope ty c =
-    (t : Cored) × (when_true : Cored) × (when_false : Cored) × test.checked scope BoolTy t × a.checked scope ty when_true × b.checked scope ty when_false
-    × (c ≡ if_core t when_true when_false)
+    (t : Cored) × (when_true : Cored) × (when_false : Cored) × test.checked scope BoolTy t × a.checked scope ty when_true
+    × b.checked scope ty when_false × (c ≡ if_core t when_true when_false)
 
 abbrev pub if_typing : Judged → Judged → Judged → Judged
 if_typing test a b = record {
@@ -100,7 +101,8 @@ if_typing test a b = record {
 abbrev pub ArmsChecked : Signatures → Scope → Ty → List Arm → Ty → List CoredArm → Type 0
 ArmsChecked signatures scope of [] ty [] = Unit {0}
 ArmsChecked signatures scope of (arm ∷ arms) ty (c ∷ cs) =
-    (vars : Scope) × (pattern signatures arm.pat of ≡ Some (vars, c.0)) × arm.body.checked (scope ++ vars) ty c.1 × ArmsChecked signatures scope of arms ty cs
+    (vars : Scope) × (pattern signatures arm.pat of ≡ Some (vars, c.0)) × arm.body.checked (scope ++ vars) ty c.1
+    × ArmsChecked signatures scope of arms ty cs
 ArmsChecked signatures scope of _ ty _ = ⊥
 
 -- the body of the alternative has the type by itself
@@ -185,8 +187,9 @@ index_typing a b = closed (λ scope ty c.
 
 abbrev pub Updated : (Scope → Ty → Cored → Type 0) → Judged → Judged → Scope → Ty → Cored → Type 0
 Updated Vector b d scope ty c =
-    (count : ℕ) × (item : Ty) × (of : Ty) × (vector : Cored) × (place : Cored) × (new_item : Cored) × (ty ≡ VectorTy count item) × Vector scope ty vector
-    × b.has scope of place × (is_number_type of ≡ true) × d.checked scope item new_item × (c ≡ update_core count vector place new_item)
+    (count : ℕ) × (item : Ty) × (of : Ty) × (vector : Cored) × (place : Cored) × (new_item : Cored) × (ty ≡ VectorTy count item)
+    × Vector scope ty vector × b.has scope of place × (is_number_type of ≡ true) × d.checked scope item new_item
+    × (c ≡ update_core count vector place new_item)
 
 -- `update a b d`
 abbrev pub update_typing : Judged → Judged → Judged → Judged
@@ -195,8 +198,8 @@ update_typing a b d = record { is_open = false; has = Updated a.has b d; checked
 -- `(a as type)`
 abbrev pub cast_typing : Signatures → Judged → TyExp → Judged
 cast_typing signatures a type = closed (λ scope ty c.
-    (of : Ty) × (part : Cored) × (written signatures.types type ≡ Some ty) × (is_number_type ty ≡ true) × a.has scope of part × (is_number_type of ≡ true)
-    × (c ≡ convert_core ty part))
+    (of : Ty) × (part : Cored) × (written signatures.types type ≡ Some ty) × (is_number_type ty ≡ true) × a.has scope of part
+    × (is_number_type of ≡ true) × (c ≡ convert_core ty part))
 
 -- a small name: a variable where it stands alone, else a function
 abbrev pub app_typing : Signatures → List ℕ → List Judged → Judged

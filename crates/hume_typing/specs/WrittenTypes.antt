@@ -1,5 +1,5 @@
 -- The types that are written.
-use Rattle.std.specs.Prelude.{ℕ, ◌&&◌, nat_le, Bool, List, [], ◌∷◌, map, Option, Some, None}
+use Rattle.std.specs.Prelude.{ℕ, ◌&&◌, nat_le, Bool, List, [], ◌∷◌, map, Option, Some}
 use Rattle.hume_base.specs.declared.limits.TheConstants.{MAX_WIDTH, MAX_LENGTH}
 use Rattle.hume_base.specs.declared.types.Ty.{Ty, Bool as BoolTy, Char as CharTy, Int, Nat, Vector, Named, Tuple}
 use Rattle.hume_base.specs.declared.types.Types.{Types}

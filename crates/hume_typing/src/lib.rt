@@ -12,5 +12,8 @@
 mod laws;
 mod signatures;
 
-pub use laws::{cores_are_typed, declaration_walk_is_typing, open_is_int32, parts_are_typed, typing_is_unique, walk_is_typing};
+pub use laws::{
+    cores_are_typed, declaration_walk_is_typing, open_is_int32, parts_are_typed, typing_is_unique,
+    walk_is_typing,
+};
 pub use signatures::{Signature, Signatures};
