@@ -33,9 +33,11 @@ InPlaces Belongs _ _ = ⊥
 abbrev pub CoredEquation : Type 0
 CoredEquation = EqC × Bool
 
+-- the same of a rule
 abbrev pub CoredRule : Type 0
 CoredRule = RuleC × Bool
 
+-- the same of a handler
 abbrev pub CoredHandler : Type 0
 CoredHandler = HandC × Bool
 
@@ -51,6 +53,7 @@ cores_alone cs = map (λ c. c.0) cs
 abbrev pub WrittenEquation : Type 0
 WrittenEquation = List ℕ × List Pat × Exp
 
+-- the core of an equation
 abbrev pub equation_core : List CoredPat → Cored → CoredEquation
 equation_core pats body = (record { pats = pat_cores pats; body = body.0 }, some_pat_too_wide pats || body.1)
 
@@ -67,6 +70,7 @@ pub record IsEquation (signatures : Signatures) (signature : Signature) (equatio
 abbrev pub WrittenRule : Type 0
 WrittenRule = List Pat × Exp
 
+-- the core of a rule
 abbrev pub rule_core : List CoredPosition → CoredRes → CoredRule
 rule_core pats result = (record { pats = cores_alone pats; result = result.0 }, some_so pats || result.1)
 
@@ -96,6 +100,7 @@ carried_vars None (Some pat) = None
 carried_vars (Some carried) None = None
 carried_vars (Some carried) (Some pat) = carried_layer carried (out-Pat pat)
 
+-- the core of a handler for the exception of the number
 abbrev pub handler_core : ℕ → Bool → CoredRes → CoredHandler
 handler_core number bound result = (record { exn = number; bound = bound; result = result.0 }, result.1)
 
