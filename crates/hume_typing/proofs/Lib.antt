@@ -17,3 +17,4 @@ pub mod ResultWalkAgrees
 pub mod SameTypes
 pub mod TypingLevels
 pub mod WalkAgrees
+pub mod WalkLevels

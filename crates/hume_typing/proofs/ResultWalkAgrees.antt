@@ -75,7 +75,7 @@ module _ (s : Signatures) where
   form w _ = refl
 
   -- the walk that goes along, one level down
-  walk_level : (x : Exp-F Exp) → (result_walk s (roll-Exp x)).walk ≡ walk_step s (walks x)
+  pub walk_level : (x : Exp-F Exp) → (result_walk s (roll-Exp x)).walk ≡ walk_step s (walks x)
   walk_level x = ap (λ (r : ResultWalk). r.walk) (fold-roll-Exp ResultWalk (result_walk_step s) x) ∙ form (walk_step s (walks x)) (map-Exp Exp ResultWalk (result_walk s) x)
 
   pub goes : (e : Exp) → Goes e

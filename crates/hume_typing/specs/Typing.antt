@@ -133,7 +133,7 @@ abbrev pub Alternatives : Signatures → Judged → List Arm → Scope → Ty �
 Alternatives signatures a arms scope of ty c =
     (part : Cored) × (cs : List CoredArm) × a.has scope of part × ArmsChecked signatures scope of arms ty cs × (c ≡ case_core of part cs)
 
--- what is matched has its type by itself
+-- `case`: what is matched has its type by itself
 abbrev pub case_typing : Signatures → Judged → List Arm → Judged
 case_typing signatures a arms = record {
   is_open = all_arms_open arms;
