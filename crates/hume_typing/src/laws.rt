@@ -32,7 +32,7 @@ ghost use Rattle.hume_typing.specs.declared.signatures.Signature.{Signature};
 ghost use Rattle.hume_typing.specs.declared.signatures.Signatures.{Signatures};
 
 /// An expression has one type by itself at most, with one core, and one core against a type. So it is with the cores of
-/// results, equations, rules and handlers, and with whether a declaration has a literal that is out of range.
+/// results, equations, rules, handlers, functions and boxes, and with whether a declaration has a literal that is out of range.
 pub fn typing_is_unique()
     ensures by_itself { (s : Signatures) (scope : Scope) (e : Exp) (t u : Ty) (c d : Cored)
         → HasByItself s scope e t c → HasByItself s scope e u d → (t ≡ u) × (c ≡ d) }
@@ -46,7 +46,18 @@ pub fn typing_is_unique()
         → IsRule s ins outs r c → IsRule s ins outs r d → c ≡ d }
     ensures handler { (s : Signatures) (outs : List Ty) (h : WrittenHandler) (c d : CoredHandler)
         → IsHandler s outs h c → IsHandler s outs h d → c ≡ d }
+    ensures function { (s : Signatures) (name : List ℕ) (tys : List TyExp) (es : List WrittenEquation) (cs ds : List CoredEquation)
+        → IsFunction s name tys es cs → IsFunction s name tys es ds → cs ≡ ds }
+    ensures boxes { (s : Signatures) (ins outs : List (List ℕ × TyExp)) (rs : List WrittenRule) (hs : List WrittenHandler)
+        (cs ds : List CoredRule) (es fs : List CoredHandler)
+        → IsBox s ins outs rs hs cs es → IsBox s ins outs rs hs ds fs → (cs ≡ ds) × (es ≡ fs) }
     ensures declaration { (s : Signatures) (decl : Decl) (a b : Bool) → IsTyped s decl a → IsTyped s decl b → a ≡ b }
+{}
+
+/// What an expression has by itself it may be checked against, with the same core.
+pub fn own_type_is_accepted()
+    ensures { (s : Signatures) (scope : Scope) (e : Exp) (t : Ty) (c : Cored)
+        → HasByItself s scope e t c → IsCheckedAgainst s scope e t c }
 {}
 
 /// An open expression, where no type is expected, is checked against `int 32`.
