@@ -22,7 +22,8 @@ use Rattle.hume_typing.proofs.ResultWalkAgrees.{result_walk_agrees}
 abbrev pub Finds : {A B : Type 0} → (A → B → Type 0) → (A → Option B) → Type 0
 Finds Belongs find = (x : _) (c : _) → Belongs x c ↔ (find x ≡ Some c)
 
-pub only_one : {A B : Type 0} (Belongs : A → B → Type 0) (find : A → Option B) → Finds Belongs find → (x : A) (c d : B) → Belongs x c → Belongs x d → c ≡ d
+pub only_one : {A B : Type 0} (Belongs : A → B → Type 0) (find : A → Option B) → Finds Belongs find → (x : A) (c d : B) → Belongs x c
+    → Belongs x d → c ≡ d
 only_one Belongs find f x c d h k = some-same _ _ (sym ((f x c).0 h) ∙ (f x d).0 k)
 
 module _ {A B : Type 0} (Belongs : A → B → Type 0) (find : A → Option B) (f : Finds Belongs find) where
@@ -48,7 +49,8 @@ module _ (s : Signatures) where
   finds_equation signature equation c = (to, from)
     where
       to : IsEquation s signature equation c → equation_walk s signature equation ≡ Some c
-      to h = given-at _ _ (h.vars, h.pats) h.binds ∙ given-at _ _ h.body ((walk_agrees s equation.2).checked_against h.vars signature.gives h.body h.typed) ∙ ap Some (sym h.is)
+      to h = given-at _ _ (h.vars, h.pats) h.binds
+          ∙ given-at _ _ h.body ((walk_agrees s equation.2).checked_against h.vars signature.gives h.body h.typed) ∙ ap Some (sym h.is)
 
       from : equation_walk s signature equation ≡ Some c → IsEquation s signature equation c
       from h =
@@ -67,7 +69,8 @@ module _ (s : Signatures) where
   finds_rule ins outs rule c = (to, from)
     where
       to : IsRule s ins outs rule c → rule_walk s ins outs rule ≡ Some c
-      to h = given-at _ _ (h.vars, h.pats) h.binds ∙ given-at _ _ h.result ((result_walk_agrees s rule.1).result_to h.vars outs h.result h.gives) ∙ ap Some (sym h.is)
+      to h = given-at _ _ (h.vars, h.pats) h.binds ∙ given-at _ _ h.result ((result_walk_agrees s rule.1).result_to h.vars outs h.result h.gives)
+          ∙ ap Some (sym h.is)
 
       from : rule_walk s ins outs rule ≡ Some c → IsRule s ins outs rule c
       from h =
@@ -113,7 +116,8 @@ module _ (s : Signatures) where
   finds_function name tys equations cs = (to, from)
     where
       to : IsFunction s name tys equations cs → function_walk s name tys equations ≡ Some cs
-      to h = given-at _ _ h.signature h.is_written ∙ (finds_all (IsEquation s h.signature) (equation_walk s h.signature) (finds_equation h.signature) equations cs).0 h.have
+      to h = given-at _ _ h.signature h.is_written
+          ∙ (finds_all (IsEquation s h.signature) (equation_walk s h.signature) (finds_equation h.signature) equations cs).0 h.have
 
       from : function_walk s name tys equations ≡ Some cs → IsFunction s name tys equations cs
       from h =
@@ -148,7 +152,8 @@ module _ (s : Signatures) where
 
   typed_to : (decl : Decl) (b : Bool) → IsTyped s decl b → declaration_walk s decl ≡ Some b
   typed_to (Fun name tys equations) b h = given-at _ _ h.0 ((finds_function name tys equations h.0).0 h.1) ∙ ap Some (sym h.2)
-  typed_to (BoxD name inputs outputs fair rules handlers) b h = given-at _ _ (h.0, h.1) (box_to inputs outputs rules handlers h.0 h.1 h.2) ∙ ap Some (sym h.3)
+  typed_to (BoxD name inputs outputs fair rules handlers) b h = given-at _ _ (h.0, h.1) (box_to inputs outputs rules handlers h.0 h.1 h.2)
+      ∙ ap Some (sym h.3)
   typed_to (Sum name constructors) b h = ap Some (sym h)
   typed_to (Exn name carries) b h = ap Some (sym h)
   typed_to (Stream name from port) b h = ap Some (sym h)

@@ -25,7 +25,8 @@ use Rattle.hume_typing.proofs.ResultsTyped.{sound_result}
 
 module _ (s : Signatures) (core : Core) (of : HasSignatures s core) where
   -- an equation before others
-  before : (signature : Signature) (function : FunC) → IsOfSignature signature function → (equation : WrittenEquation) (c : CoredEquation) → IsEquation s signature equation c → c.1 ≡ false
+  before : (signature : Signature) (function : FunC) → IsOfSignature signature function → (equation : WrittenEquation) (c : CoredEquation)
+      → IsEquation s signature equation c → c.1 ≡ false
       → (others : List EqC) → EquationsHave core function others → EquationsHave core function (c.0 ∷ others)
   before signature function is equation c h off others rest =
       let flags = or_parts (some_pat_too_wide h.pats) h.body.1 (ap (λ (r : CoredEquation). r.1) (sym h.is) ∙ off) in
@@ -37,7 +38,8 @@ module _ (s : Signatures) (core : Core) (of : HasSignatures s core) where
       subst (HasType core (scope_types h.vars) h.body.0) (sym is.gives) ((sound s core of equation.2).checked h.vars signature.gives h.body h.typed flags.1) in
       subst (λ (r : CoredEquation). EquationsHave core function (r.0 ∷ others)) (sym h.is) (EquationsHave.one (scope_types h.vars) pats body rest)
 
-  pub equations_typed : (signature : Signature) (function : FunC) → IsOfSignature signature function → (equations : List WrittenEquation) (cs : List CoredEquation)
+  pub equations_typed : (signature : Signature) (function : FunC) → IsOfSignature signature function
+      → (equations : List WrittenEquation) (cs : List CoredEquation)
       → InPlaces (IsEquation s signature) equations cs → some_so cs ≡ false → EquationsHave core function (map (λ (c : CoredEquation). c.0) cs)
   equations_typed signature function is [] [] h off = EquationsHave.none
   equations_typed signature function is [] (c ∷ cs) h off = absurd h
@@ -45,7 +47,8 @@ module _ (s : Signatures) (core : Core) (of : HasSignatures s core) where
   equations_typed signature function is (x ∷ xs) (c ∷ cs) h off =
       let flags = or_parts c.1 (some_so cs) off in before signature function is x c h.0 flags.0 _ (equations_typed signature function is xs cs h.1 flags.1)
 
-  pub rule_typed : (b : BoxC) (rule : WrittenRule) (c : CoredRule) → IsRule s (port_types b.ins) (port_types b.outs) rule c → c.1 ≡ false → RuleIsTyped core b c.0
+  pub rule_typed : (b : BoxC) (rule : WrittenRule) (c : CoredRule) → IsRule s (port_types b.ins) (port_types b.outs) rule c → c.1 ≡ false
+      → RuleIsTyped core b c.0
   rule_typed b rule c h off =
       let flags = or_parts (some_so h.pats) h.result.1 (ap (λ (r : CoredRule). r.1) (sym h.is) ∙ off) in
       let cores = map (λ (p : CoredPosition). p.0) h.pats in
@@ -64,7 +67,8 @@ module _ (s : Signatures) (core : Core) (of : HasSignatures s core) where
   layer_carries : (t : Ty) (layer : Pat-F Pat) (r : Scope × Bool) → carried_layer t layer ≡ Some r → Carries (Some t) r.0 r.1
   layer_carries t (Pat-F.Name name) r h =
       subst (λ (r : Scope × Bool). Carries (Some t) r.0 r.1) (some-same ((name, t) ∷ [], true) r h) (record { types = refl; some = λ on e. not_some t (sym e) })
-  layer_carries t Pat-F.Any r h = subst (λ (r : Scope × Bool). Carries (Some t) r.0 r.1) (some-same ([], false) r h) (record { types = refl; some = λ on e. not_some t (sym e) })
+  layer_carries t Pat-F.Any r h = subst (λ (r : Scope
+      × Bool). Carries (Some t) r.0 r.1) (some-same ([], false) r h) (record { types = refl; some = λ on e. not_some t (sym e) })
   layer_carries t _ r h = cc
 
   carries : (carried : Option Ty) (pat : Option Pat) (r : Scope × Bool) → carried_vars carried pat ≡ Some r → Carries carried r.0 r.1
@@ -73,10 +77,12 @@ module _ (s : Signatures) (core : Core) (of : HasSignatures s core) where
   carries (Some t) None r h = cc
   carries (Some t) (Some pat) r h = layer_carries t (out-Pat pat) r h
 
-  pub handler_typed : (b : BoxC) (handler : WrittenHandler) (c : CoredHandler) → IsHandler s (port_types b.outs) handler c → c.1 ≡ false → HandlerIsTyped core b c.0
+  pub handler_typed : (b : BoxC) (handler : WrittenHandler) (c : CoredHandler) → IsHandler s (port_types b.outs) handler c → c.1 ≡ false
+      → HandlerIsTyped core b c.0
   handler_typed b handler c h off =
       let binds = carries h.exn.carries handler.1 (h.vars, h.bound) h.binds in
-      let gives = (sound_result s core of handler.2).result h.vars (port_types b.outs) h.result h.gives (ap (λ (r : CoredHandler). r.1) (sym h.is) ∙ off) in
+      let gives = (sound_result s core of handler.2).result h.vars (port_types b.outs) h.result h.gives (ap (λ (r : CoredHandler). r.1) (sym h.is)
+      ∙ off) in
       subst (λ (r : CoredHandler). HandlerIsTyped core b r.0) (sym h.is) (record {
         is = record { exn = h.exn; known = exn_stands s core of handler.0 h.number h.exn h.known; carries = binds.some };
         outputs = subst (λ vars. GivesOutputs core (port_types b.outs) vars h.result.0) binds.types gives;

@@ -54,7 +54,8 @@ module _ (s : Signatures) (core : Core) (of : HasSignatures s core) where
       (λ off. HasType.word (literal_word negative amount) (literal-value core.types t negative amount h.0 off)))
 
   pub sound_letter : (byte : ℕ) → IsSound (letter_typing byte)
-  sound_letter byte = sound_closed _ (λ scope t c h. shown scope t _ c (letter_core byte) h.0 h.1 (λ off. HasType.word byte (letter-value core.types byte off)))
+  sound_letter byte =
+      sound_closed _ (λ scope t c h. shown scope t _ c (letter_core byte) h.0 h.1 (λ off. HasType.word byte (letter-value core.types byte off)))
 
   truth : (scope : Scope) (b : Bool) → HasType core (scope_types scope) (truth_core b).0 BoolTy
   truth scope b = HasType.word (word_of_truth b) (truth-value core.types b)
@@ -146,7 +147,8 @@ module _ (s : Signatures) (core : Core) (of : HasSignatures s core) where
         HasType.opposite (HaveTypes.one (p.checked scope BoolTy h.0 h.2 off) HaveTypes.none)))
 
     negation : (Part : Scope → Ty → Cored → Type 0) → AllTypedAs Part → AllTypedAs (Negation Part)
-    negation Part v scope t c h = shown scope t t c (neg_core t h.0) refl h.3 (λ off. HasType.negation t h.1 (HaveTypes.one (v scope t h.0 h.2 off) HaveTypes.none))
+    negation Part v scope t c h =
+        shown scope t t c (neg_core t h.0) refl h.3 (λ off. HasType.negation t h.1 (HaveTypes.one (v scope t h.0 h.2 off) HaveTypes.none))
 
     pub sound_neg : IsSound (neg_typing a)
     sound_neg = record { has = negation a.has p.has; checked = negation a.checked p.checked }
@@ -157,7 +159,8 @@ module _ (s : Signatures) (core : Core) (of : HasSignatures s core) where
 
   -- an exception stands under its number
   pub exn_stands : (name : List ℕ) (number : ℕ) (exn : ExnDef) → exn_named name s ≡ Some (number, exn) → slice_get core.exns number ≡ Some exn
-  exn_stands name number exn h = ap (λ (xs : List ExnDef). slice_get xs number) of.exns ∙ first_stands (λ (exn : ExnDef). exn.name) name s.exns number exn h
+  exn_stands name number exn h = ap (λ (xs : List ExnDef). slice_get xs number) of.exns
+      ∙ first_stands (λ (exn : ExnDef). exn.name) name s.exns number exn h
 
   pub sound_raise : (name : List ℕ) → IsSound (raise_typing s name)
   sound_raise name = sound_opened _ (λ scope t c h. shown scope t t c (raise_core h.0) refl h.2 (λ off.
@@ -172,7 +175,8 @@ module _ (s : Signatures) (core : Core) (of : HasSignatures s core) where
   AllSound [] = Unit {0}
   AllSound (j ∷ js) = IsSound j × AllSound js
 
-  all_checked : (js : List Judged) → AllSound js → (scope : Scope) (ts : List Ty) (cs : List Cored) → AllChecked scope js ts cs → some_too_wide cs ≡ false
+  all_checked : (js : List Judged) → AllSound js → (scope : Scope) (ts : List Ty) (cs : List Cored) → AllChecked scope js ts cs
+      → some_too_wide cs ≡ false
       → HaveTypes core (scope_types scope) (cores cs) ts
   all_checked [] g scope [] [] h off = HaveTypes.none
   all_checked [] g scope (t ∷ ts) cs h off = absurd h
@@ -201,7 +205,8 @@ module _ (s : Signatures) (core : Core) (of : HasSignatures s core) where
   each_checked (j ∷ js) g scope t [] h off = absurd h
 
   pub sound_app : (name : List ℕ) (js : List Judged) → AllSound js → IsSound (app_typing s name js)
-  sound_app name [] g = sound_closed _ (λ scope t c h. shown scope t t c (variable_core h.0) refl h.2 (λ off. HasType.variable h.0 (variable_stands name scope h.0 t h.1)))
+  sound_app name [] g =
+      sound_closed _ (λ scope t c h. shown scope t t c (variable_core h.0) refl h.2 (λ off. HasType.variable h.0 (variable_stands name scope h.0 t h.1)))
   sound_app name (j ∷ js) g = sound_closed _ (λ scope t c h.
       let f = of.funs h.0 h.1 (first_stands (λ (function : Signature). function.name) name s.funs h.0 h.1 h.3) in
       shown scope t f.function.gives c (call_core h.0 h.2) (h.4 ∙ sym f.is.gives) h.6 (λ off.
@@ -222,7 +227,8 @@ module _ (s : Signatures) (core : Core) (of : HasSignatures s core) where
     }
 
     elements : (scope : Scope) (item t : Ty) (c : Cored) → Elements js scope item t c → IsTypedAs scope t c
-    elements scope item t c h = shown scope t _ c (vector_core h.0) h.1 h.3 (λ off. HasType.vector (length js) item (each_checked js g scope item h.0 h.2 off))
+    elements scope item t c h =
+        shown scope t _ c (vector_core h.0) h.1 h.3 (λ off. HasType.vector (length js) item (each_checked js g scope item h.0 h.2 off))
 
     pub sound_vector : IsSound (vector_typing js)
     sound_vector = record { has = λ scope t c h. elements scope h.0 t c h.2; checked = λ scope t c h. elements scope h.0 t c h.1 }
@@ -232,7 +238,8 @@ module _ (s : Signatures) (core : Core) (of : HasSignatures s core) where
   AllArmsSound [] = Unit {0}
   AllArmsSound (arm ∷ arms) = IsSound arm.body × AllArmsSound arms
 
-  arms_typed : (scope : Scope) (u t : Ty) (arms : List Arm) → AllArmsSound arms → (cs : List CoredArm) → ArmsChecked s scope u arms t cs → some_arm_too_wide cs ≡ false
+  arms_typed : (scope : Scope) (u t : Ty) (arms : List Arm) → AllArmsSound arms → (cs : List CoredArm) → ArmsChecked s scope u arms t cs
+      → some_arm_too_wide cs ≡ false
       → ArmsHaveType core (scope_types scope) u (arm_cores cs) t
   arms_typed scope u t [] g [] h off = ArmsHaveType.no_arm
   arms_typed scope u t [] g (c ∷ cs) h off = absurd h
@@ -241,7 +248,8 @@ module _ (s : Signatures) (core : Core) (of : HasSignatures s core) where
       let two = or_parts c.0.1 c.1.1 flags.0 in
       let p : IsPattern core.types u c.0.0 (scope_types h.0) =
       subst (λ types. IsPattern types u c.0.0 (scope_types h.0)) (sym of.types) (pattern_typed s arm.pat u (h.0, c.0) h.1 two.0) in
-      let body = subst (λ vars. HasType core vars c.1.0 t) (map-append (λ (v : List ℕ × Ty). v.1) scope h.0) (g.0.checked (scope ++ h.0) t c.1 h.2 two.1) in
+      let body = subst (λ vars. HasType core vars c.1.0 t) (map-append (λ (v : List ℕ
+      × Ty). v.1) scope h.0) (g.0.checked (scope ++ h.0) t c.1 h.2 two.1) in
       ArmsHaveType.one_arm p body (arms_typed scope u t arms g.1 cs h.3 flags.1)
   arms_typed scope u t (arm ∷ arms) g [] h off = absurd h
 
