@@ -35,7 +35,8 @@ module _ (s : Signatures) (scope : Scope) (u : Ty) where
   arms_from [] [] g t [] h = tt
   arms_from [] [] g t (c ∷ cs) h = cc
   arms_from (arm ∷ arms) (a ∷ ws) g t cs h =
-      let k = given-inv (pattern s a.0 u) (λ p. given (a.1.against (scope ++ p.0) t) (λ c. given (arms_against s scope u ws t) (λ cs. Some ((p.1, c) ∷ cs)))) cs h in
+      let k = given-inv (pattern s a.0 u) (λ p. given (a.1.against (scope ++ p.0) t) (λ c. given (arms_against s scope u ws t)
+      (λ cs. Some ((p.1, c) ∷ cs)))) cs h in
       let m = given-inv (a.1.against (scope ++ k.0.0) t) (λ c. given (arms_against s scope u ws t) (λ cs. Some ((k.0.1, c) ∷ cs))) cs k.2 in
       let n = given-inv (arms_against s scope u ws t) (λ cs. Some ((k.0.1, m.0) ∷ cs)) cs m.2 in
       subst (ArmsChecked s scope u (arm ∷ arms) t) (some-same _ _ n.2)
@@ -89,14 +90,16 @@ module _ (s : Signatures) (scope : Scope) (u : Ty) where
           → (if o then rest_open a ws else rest_closed a ws) ≡ Some r
           → either_type o (FirstArmType s scope u arms r.0) (ArmHas s scope u arm r.0) × ArmsChecked s scope u (arm ∷ arms) r.0 r.1
       by true rest h =
-          let k = given-inv (arms_own s scope u ws) (λ r. given (pattern s a.0 u) (λ p. given (a.1.against (scope ++ p.0) r.0) (λ c. Some (r.0, (p.1, c) ∷ r.1)))) r h in
+          let k = given-inv (arms_own s scope u ws) (λ r. given (pattern s a.0 u) (λ p. given (a.1.against (scope ++ p.0) r.0)
+          (λ c. Some (r.0, (p.1, c) ∷ r.1)))) r h in
           let m = given-inv (pattern s a.0 u) (λ p. given (a.1.against (scope ++ p.0) k.0.0) (λ c. Some (k.0.0, (p.1, c) ∷ k.0.1))) r k.2 in
           let n = given-inv (a.1.against (scope ++ m.0.0) k.0.0) (λ c. Some (k.0.0, (m.0.1, c) ∷ k.0.1)) r m.2 in
           let f = rest k.0 k.1 in
           subst (λ r. FirstArmType s scope u arms r.0 × ArmsChecked s scope u (arm ∷ arms) r.0 r.1) (some-same (k.0.0, (m.0.1, n.0) ∷ k.0.1) r n.2)
           (f.0, (m.0.0, ap (λ p. pattern s p u) g.0 ∙ m.1, g.1.against_checked _ k.0.0 n.0 n.1, f.1))
       by false rest h =
-          let k = given-inv (pattern s a.0 u) (λ p. given (a.1.own (scope ++ p.0)) (λ q. given (arms_against s scope u ws q.0) (λ cs. Some (q.0, (p.1, q.1) ∷ cs)))) r h in
+          let k = given-inv (pattern s a.0 u) (λ p. given (a.1.own (scope ++ p.0)) (λ q. given (arms_against s scope u ws q.0)
+          (λ cs. Some (q.0, (p.1, q.1) ∷ cs)))) r h in
           let m = given-inv (a.1.own (scope ++ k.0.0)) (λ q. given (arms_against s scope u ws q.0) (λ cs. Some (q.0, (k.0.1, q.1) ∷ cs))) r k.2 in
           let n = given-inv (arms_against s scope u ws m.0.0) (λ cs. Some (m.0.0, (k.0.1, m.0.1) ∷ cs)) r m.2 in
           let is = ap (λ p. pattern s p u) g.0 ∙ k.1 in

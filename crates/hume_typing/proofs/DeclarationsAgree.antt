@@ -54,7 +54,8 @@ module _ (s : Signatures) where
 
       from : equation_walk s signature equation ≡ Some c → IsEquation s signature equation c
       from h =
-          let k = given-inv (patterns s equation.1 signature.params) (λ bound. given ((walk s equation.2).against bound.0 signature.gives) (λ body. Some (equation_core bound.1 body))) c h in
+          let k = given-inv (patterns s equation.1 signature.params) (λ bound. given ((walk s equation.2).against bound.0 signature.gives)
+          (λ body. Some (equation_core bound.1 body))) c h in
           let m = given-inv ((walk s equation.2).against k.0.0 signature.gives) (λ body. Some (equation_core k.0.1 body)) c k.2 in
           record {
             vars = k.0.0;
@@ -74,7 +75,8 @@ module _ (s : Signatures) where
 
       from : rule_walk s ins outs rule ≡ Some c → IsRule s ins outs rule c
       from h =
-          let k = given-inv (positions s rule.0 ins) (λ bound. given ((result_walk s rule.1).result bound.0 outs) (λ result. Some (rule_core bound.1 result))) c h in
+          let k = given-inv (positions s rule.0 ins) (λ bound. given ((result_walk s rule.1).result bound.0 outs)
+          (λ result. Some (rule_core bound.1 result))) c h in
           let m = given-inv ((result_walk s rule.1).result k.0.0 outs) (λ result. Some (rule_core k.0.1 result)) c k.2 in
           record {
             vars = k.0.0;
@@ -121,24 +123,30 @@ module _ (s : Signatures) where
 
       from : function_walk s name tys equations ≡ Some cs → IsFunction s name tys equations cs
       from h =
-          let k = given-inv (signature_written s.types name tys) (λ (signature : Signature). found_of_all (equation_walk s signature) equations) cs h in
+          let k = given-inv (signature_written s.types name tys)
+          (λ (signature : Signature). found_of_all (equation_walk s signature) equations) cs h in
           record { signature = k.0; is_written = k.1; have = (finds_all (IsEquation s k.0) (equation_walk s k.0) (finds_equation k.0) equations cs).1 k.2 }
 
-  pub box_to : (inputs outputs : List (List ℕ × TyExp)) (rules : List WrittenRule) (handlers : List WrittenHandler) (rs : List CoredRule) (hs : List CoredHandler)
+  pub box_to : (inputs outputs : List (List ℕ × TyExp)) (rules : List WrittenRule) (handlers : List WrittenHandler) (rs : List CoredRule)
+      (hs : List CoredHandler)
       → IsBox s inputs outputs rules handlers rs hs → box_walk s inputs outputs rules handlers ≡ Some (rs, hs)
   box_to inputs outputs rules handlers rs hs h =
       given-at _ _ h.ins h.inputs_are ∙ given-at _ _ h.outs h.outputs_are
       ∙ given-at _ _ rs ((finds_all (IsRule s h.ins h.outs) (rule_walk s h.ins h.outs) (finds_rule h.ins h.outs) rules rs).0 h.rules_have)
       ∙ given-at _ _ hs ((finds_all (IsHandler s h.outs) (handler_walk s h.outs) (finds_handler h.outs) handlers hs).0 h.handlers_have)
 
-  pub box_from : (inputs outputs : List (List ℕ × TyExp)) (rules : List WrittenRule) (handlers : List WrittenHandler) (rs : List CoredRule) (hs : List CoredHandler)
+  pub box_from : (inputs outputs : List (List ℕ × TyExp)) (rules : List WrittenRule) (handlers : List WrittenHandler) (rs : List CoredRule)
+      (hs : List CoredHandler)
       → box_walk s inputs outputs rules handlers ≡ Some (rs, hs) → IsBox s inputs outputs rules handlers rs hs
   box_from inputs outputs rules handlers rs hs h =
       let k = given-inv (ports_written s.types inputs) (λ ins. given (ports_written s.types outputs) (λ outs.
-      given (found_of_all (rule_walk s ins outs) rules) (λ rs. given (found_of_all (handler_walk s outs) handlers) (λ hs. Some (rs, hs))))) (rs, hs) h in
+      given (found_of_all (rule_walk s ins outs) rules) (λ rs. given (found_of_all (handler_walk s outs) handlers)
+      (λ hs. Some (rs, hs))))) (rs, hs) h in
       let l = given-inv (ports_written s.types outputs) (λ outs.
-      given (found_of_all (rule_walk s k.0 outs) rules) (λ rs. given (found_of_all (handler_walk s outs) handlers) (λ hs. Some (rs, hs)))) (rs, hs) k.2 in
-      let m = given-inv (found_of_all (rule_walk s k.0 l.0) rules) (λ rs. given (found_of_all (handler_walk s l.0) handlers) (λ hs. Some (rs, hs))) (rs, hs) l.2 in
+      given (found_of_all (rule_walk s k.0 outs) rules) (λ rs. given (found_of_all (handler_walk s outs) handlers)
+      (λ hs. Some (rs, hs)))) (rs, hs) k.2 in
+      let m = given-inv (found_of_all (rule_walk s k.0 l.0) rules) (λ rs. given (found_of_all (handler_walk s l.0) handlers)
+      (λ hs. Some (rs, hs))) (rs, hs) l.2 in
       let n = given-inv (found_of_all (handler_walk s l.0) handlers) (λ hs. Some (m.0, hs)) (rs, hs) m.2 in
       let e : (m.0, n.0) ≡ (rs, hs) = some-same _ _ n.2 in
       record {

@@ -194,7 +194,8 @@ module _ (ja jb : Judged) (a b : Walk) (p : Agrees ja a) (q : Agrees jb b) where
           → (left : Cored) × (right : Cored) × (FirstType (ja ∷ jb ∷ []) scope t × ja.checked scope t left × jb.checked scope t right)
           × (is_number_type t ≡ true) × (c ≡ operation_core operation t left right)
       own scope t c h =
-          let k = given-inv (two_own a.is_open b.is_open a b scope) (λ p. when (is_number_type p.0) (Some (p.0, operation_core operation p.0 p.1 p.2))) (t, c) h in
+          let k = given-inv (two_own a.is_open b.is_open a b scope)
+          (λ p. when (is_number_type p.0) (Some (p.0, operation_core operation p.0 p.1 p.2))) (t, c) h in
           let m = when-inv (is_number_type k.0.0) (Some (k.0.0, operation_core operation k.0.0 k.0.1 k.0.2)) (t, c) k.2 in
           let e : (k.0.0, operation_core operation k.0.0 k.0.1 k.0.2) ≡ (t, c) = some-same _ _ m.1 in
           let is : k.0.0 ≡ t = ap (λ r. r.0) e in
@@ -208,7 +209,8 @@ module _ (ja jb : Judged) (a b : Walk) (p : Agrees ja a) (q : Agrees jb b) where
   agrees_comparison operation = agrees_closed _ _
       (λ scope t c h. given-at _ _ (h.0, h.1, h.2) (two_own_to scope h.0 h.1 h.2 h.4 h.6 h.7) ∙ when-at _ _ h.5 ∙ (λ i. Some (sym h.3 i, sym h.8 i)))
       (λ scope t c h.
-      let k = given-inv (two_own a.is_open b.is_open a b scope) (λ p. when (is_comparison operation p.0) (Some (BoolTy, operation_core operation p.0 p.1 p.2))) (t, c) h in
+      let k = given-inv (two_own a.is_open b.is_open a b scope)
+      (λ p. when (is_comparison operation p.0) (Some (BoolTy, operation_core operation p.0 p.1 p.2))) (t, c) h in
       let m = when-inv (is_comparison operation k.0.0) (Some (BoolTy, operation_core operation k.0.0 k.0.1 k.0.2)) (t, c) k.2 in
       let e : (BoolTy, operation_core operation k.0.0 k.0.1 k.0.2) ≡ (t, c) = some-same _ _ m.1 in
       let f = two_own_from scope k.0.0 k.0.1 k.0.2 k.1 in
@@ -268,7 +270,8 @@ module _ (ja jb : Judged) (a b : Walk) (p : Agrees ja a) (q : Agrees jb b) where
       own : (scope : Scope) (t : Ty) (c : Cored) → (if_walk test a b).own scope ≡ Some (t, c)
           → FirstType (ja ∷ jb ∷ []) scope t × Branches jt ja jb scope t c
       own scope t c h =
-          let k = given-inv (test.against scope BoolTy) (λ x. given (two_own a.is_open b.is_open a b scope) (λ p. Some (p.0, if_core x p.1 p.2))) (t, c) h in
+          let k = given-inv (test.against scope BoolTy) (λ x. given (two_own a.is_open b.is_open a b scope)
+          (λ p. Some (p.0, if_core x p.1 p.2))) (t, c) h in
           let m = given-inv (two_own a.is_open b.is_open a b scope) (λ p. Some (p.0, if_core k.0 p.1 p.2)) (t, c) k.2 in
           let e : (m.0.0, if_core k.0 m.0.1 m.0.2) ≡ (t, c) = some-same _ _ m.2 in
           let f = two_own_from scope t m.0.1 m.0.2 (m.1 ∙ (λ i. Some ((e i).0, m.0.1, m.0.2))) in
@@ -336,8 +339,10 @@ module _ (j : Judged) (a : Walk) (p : Agrees j a) where
       (λ scope t c h. given-at _ _ t h.2 ∙ when-at _ _ h.3 ∙ given-at _ _ (h.0, h.1) (p.has_own scope h.0 h.1 h.4) ∙ when-at _ _ h.5
       ∙ (λ i. Some (t, sym h.6 i)))
       (λ scope t c h.
-      let k = given-inv (written s.types type) (λ ty. when (is_number_type ty) (given (a.own scope) (λ part. when (is_number_type part.0) (Some (ty, convert_core ty part.1))))) (t, c) h in
-      let l = when-inv (is_number_type k.0) (given (a.own scope) (λ part. when (is_number_type part.0) (Some (k.0, convert_core k.0 part.1)))) (t, c) k.2 in
+      let k = given-inv (written s.types type) (λ ty. when (is_number_type ty) (given (a.own scope)
+      (λ part. when (is_number_type part.0) (Some (ty, convert_core ty part.1))))) (t, c) h in
+      let l = when-inv (is_number_type k.0) (given (a.own scope)
+      (λ part. when (is_number_type part.0) (Some (k.0, convert_core k.0 part.1)))) (t, c) k.2 in
       let m = given-inv (a.own scope) (λ part. when (is_number_type part.0) (Some (k.0, convert_core k.0 part.1))) (t, c) l.1 in
       let n = when-inv (is_number_type m.0.0) (Some (k.0, convert_core k.0 m.0.1)) (t, c) m.2 in
       let e : (k.0, convert_core k.0 m.0.1) ≡ (t, c) = some-same _ _ n.1 in
@@ -369,7 +374,8 @@ pub agrees_raise : (s : Signatures) (name : List ℕ) → Agrees (raise_typing s
 agrees_raise s name = agrees_opened _ _
     (λ scope t c h. given-at _ _ h.0 (raised_alone-to s name h.0 h.1) ∙ ap Some (sym h.2))
     (λ scope t c h. let k =
-    given-inv (raised_alone (exn_named name s)) (λ number. Some (raise_core number)) c h in (k.0, raised_alone-from s name k.0 k.1, sym (some-same _ _ k.2)))
+    given-inv (raised_alone (exn_named name s))
+    (λ number. Some (raise_core number)) c h in (k.0, raised_alone-from s name k.0 k.1, sym (some-same _ _ k.2)))
 
 module _ (s : Signatures) (name : List ℕ) (j : Judged) (a : Walk) (p : Agrees j a) where
   pub raised_with-to : (scope : Scope) (n : ℕ) (part : Cored) → RaisedWith s name j scope n part
@@ -410,7 +416,8 @@ module _ (ja jb jd : Judged) (a b d : Walk) (p : Agrees ja a) (q : Agrees jb b) 
   rest_from scope t vector c h =
       let k = given-inv (vector_parts t) (λ parts. given (b.own scope) (λ place. when (is_number_type place.0)
       (given (d.against scope parts.1) (λ new_item. Some (update_core parts.0 vector place.1 new_item))))) c h in
-      let l = given-inv (b.own scope) (λ place. when (is_number_type place.0) (given (d.against scope k.0.1) (λ new_item. Some (update_core k.0.0 vector place.1 new_item)))) c k.2 in
+      let l = given-inv (b.own scope) (λ place. when (is_number_type place.0) (given (d.against scope k.0.1)
+      (λ new_item. Some (update_core k.0.0 vector place.1 new_item)))) c k.2 in
       let m = when-inv (is_number_type l.0.0) (given (d.against scope k.0.1) (λ new_item. Some (update_core k.0.0 vector l.0.1 new_item))) c l.2 in
       let n = given-inv (d.against scope k.0.1) (λ new_item. Some (update_core k.0.0 vector l.0.1 new_item)) c m.1 in
       (k.0.0, k.0.1, l.0.0, l.0.1, n.0, k.1, q.own_has scope l.0.0 l.0.1 l.1, m.0, r.against_checked scope k.0.1 n.0 n.1, sym (some-same _ _ n.2))

@@ -41,7 +41,8 @@ module _ (s : Signatures) (core : Core) (of : HasSignatures s core) where
   -- what is equal is typed alike
   shown : (scope : Scope) (t u : Ty) (c d : Cored) → t ≡ u → c ≡ d → IsTypedAs scope u d → IsTypedAs scope t c
   shown scope t u c d is e f off =
-      subst (λ v. HasType core (scope_types scope) c.0 v) (sym is) (subst (λ (r : Cored). HasType core (scope_types scope) r.0 u) (sym e) (f (ap (λ (r : Cored). r.1) (sym e) ∙ off)))
+      subst (λ v. HasType core (scope_types scope) c.0 v) (sym is) (subst (λ (r : Cored). HasType core (scope_types scope) r.0 u) (sym e) (f (ap
+      (λ (r : Cored). r.1) (sym e) ∙ off)))
 
   sound_closed : (P : Scope → Ty → Cored → Type 0) → AllTypedAs P → IsSound (closed P)
   sound_closed P p = record { has = p; checked = p }
@@ -69,7 +70,8 @@ module _ (s : Signatures) (core : Core) (of : HasSignatures s core) where
   binding : (name : List ℕ) (a : Judged) (Body : Scope → Ty → Cored → Type 0) → AllTypedAs a.has → AllTypedAs Body → AllTypedAs (Binding name a Body)
   binding name a Body p q scope t c h = shown scope t t c (let_core h.1 h.2) refl h.5 (λ off.
       let flags = or_parts h.1.1 h.2.1 off in
-      HasType.binding h.0 (p scope h.0 h.1 h.3 flags.0) (subst (λ vars. HasType core vars h.2.0 t) (one_more scope name h.0) (q (scope ++ (name, h.0) ∷ []) t h.2 h.4 flags.1)))
+      HasType.binding h.0 (p scope h.0 h.1 h.3 flags.0) (subst
+      (λ vars. HasType core vars h.2.0 t) (one_more scope name h.0) (q (scope ++ (name, h.0) ∷ []) t h.2 h.4 flags.1)))
 
   pub sound_let : (name : List ℕ) (a b : Judged) → IsSound a → IsSound b → IsSound (let_typing name a b)
   sound_let name a b p q = record { has = binding name a b.has p.has q.has; checked = binding name a b.checked p.has q.checked }
@@ -136,7 +138,8 @@ module _ (s : Signatures) (core : Core) (of : HasSignatures s core) where
     updated Vector v scope t c h = shown scope t (VectorTy h.0 h.1) c (update_core h.0 h.3 h.4 h.5) h.6 h.11 (λ off.
         let first = or_parts h.3.1 (h.4.1 || h.5.1) off in
         let two = or_parts h.4.1 h.5.1 first.1 in
-        HasType.update h.0 h.2 h.1 h.9 (subst (HasType core (scope_types scope) h.3.0) h.6 (v scope t h.3 h.7 first.0)) (p.has scope h.2 h.4 h.8 two.0) (q.checked scope h.1 h.5 h.10 two.1))
+        HasType.update h.0 h.2 h.1 h.9
+        (subst (HasType core (scope_types scope) h.3.0) h.6 (v scope t h.3 h.7 first.0)) (p.has scope h.2 h.4 h.8 two.0) (q.checked scope h.1 h.5 h.10 two.1))
 
   pub sound_update : (a b d : Judged) → IsSound a → IsSound b → IsSound d → IsSound (update_typing a b d)
   sound_update a b d p q r = record { has = updated b d q r a.has p.has; checked = updated b d q r a.checked p.checked }
@@ -206,11 +209,13 @@ module _ (s : Signatures) (core : Core) (of : HasSignatures s core) where
 
   pub sound_app : (name : List ℕ) (js : List Judged) → AllSound js → IsSound (app_typing s name js)
   sound_app name [] g =
-      sound_closed _ (λ scope t c h. shown scope t t c (variable_core h.0) refl h.2 (λ off. HasType.variable h.0 (variable_stands name scope h.0 t h.1)))
+      sound_closed _ (λ scope t c h. shown scope t t c (variable_core h.0) refl h.2
+      (λ off. HasType.variable h.0 (variable_stands name scope h.0 t h.1)))
   sound_app name (j ∷ js) g = sound_closed _ (λ scope t c h.
       let f = of.funs h.0 h.1 (first_stands (λ (function : Signature). function.name) name s.funs h.0 h.1 h.3) in
       shown scope t f.function.gives c (call_core h.0 h.2) (h.4 ∙ sym f.is.gives) h.6 (λ off.
-      HasType.call h.0 f.function f.there (subst (HaveTypes core (scope_types scope) (cores h.2)) (sym f.is.params) (all_checked (j ∷ js) g scope h.1.params h.2 h.5 off))))
+      HasType.call h.0 f.function f.there
+      (subst (HaveTypes core (scope_types scope) (cores h.2)) (sym f.is.params) (all_checked (j ∷ js) g scope h.1.params h.2 h.5 off))))
 
   module _ (js : List Judged) (g : AllSound js) where
     pub sound_con : (name : List ℕ) → IsSound (con_typing s name js)

@@ -134,7 +134,8 @@ module _ (s : Signatures) where
 
   opens : (e : Exp) → Opens (typing s e)
   opens =
-      ind-Exp (λ e. Opens (typing s e)) (λ x y is. subst (λ x. Opens (typing s (roll-Exp x))) is (subst Opens (sym (typing_roll s (map-Exp Known Exp (λ e. e.0) y))) (level y)))
+      ind-Exp (λ e. Opens (typing s e)) (λ x y is. subst (λ x. Opens (typing s (roll-Exp x))) is
+      (subst Opens (sym (typing_roll s (map-Exp Known Exp (λ e. e.0) y))) (level y)))
 
   pub open_is_int32 : (scope : Scope) (e : Exp) (t : Ty) (c : Cored) → (typing s e).is_open ≡ true
       → HasByItself s scope e t c ↔ ((t ≡ int32) × IsCheckedAgainst s scope e int32 c)

@@ -103,7 +103,8 @@ module _ (js : List Judged) (ws : List Walk) (g : AllAgree js ws) where
   agrees_con s name = agrees_closed _ _
       (λ scope t c h. given-at _ _ h.0 h.2 ∙ given-at _ _ h.1 (all_to js ws g scope h.0.fields h.1 h.4) ∙ (λ i. Some (sym h.3 i, sym h.5 i)))
       (λ scope t c h.
-      let k = given-inv (con_named name s) (λ (con : Constructor). given (all_against scope ws con.fields) (λ cs. Some (NamedTy con.sum, con_core con.place cs))) (t, c) h in
+      let k = given-inv (con_named name s) (λ (con : Constructor). given (all_against scope ws con.fields)
+      (λ cs. Some (NamedTy con.sum, con_core con.place cs))) (t, c) h in
       let m = given-inv (all_against scope ws k.0.fields) (λ cs. Some (NamedTy k.0.sum, con_core k.0.place cs)) (t, c) k.2 in
       let e : (NamedTy k.0.sum, con_core k.0.place m.0) ≡ (t, c) = some-same _ _ m.2 in
       (k.0, m.0, k.1, sym (ap (λ r. r.0) e), all_from js ws g scope k.0.fields m.0 m.1, sym (ap (λ r. r.1) e)))

@@ -56,7 +56,8 @@ module _ (s : Signatures) where
       → AllTyped ps → Typed (con_bound o ps)
   con_typed None found ps g t b h off = cc
   con_typed (Some con) found ps g t b h off =
-      let k = when-inv (is_named con.sum (out-Ty t)) (given (all_bound ps con.fields) (λ all. Some (all.0, (Con con.place (pat_cores all.1), some_pat_too_wide all.1)))) b h in
+      let k = when-inv (is_named con.sum (out-Ty t)) (given (all_bound ps con.fields)
+      (λ all. Some (all.0, (Con con.place (pat_cores all.1), some_pat_too_wide all.1)))) b h in
       let m = given-inv (all_bound ps con.fields) (λ all. Some (all.0, (Con con.place (pat_cores all.1), some_pat_too_wide all.1))) b k.1 in
       let e : (m.0.0, (Con con.place (pat_cores m.0.1), some_pat_too_wide m.0.1)) ≡ b = some-same _ _ m.2 in
       let is : NamedTy con.sum ≡ t = sym (rolls-Named con.sum) ∙ ap roll-Ty (named_true con.sum (out-Ty t) k.0) ∙ roll-out-Ty t in
@@ -149,7 +150,8 @@ module _ (s : Signatures) where
   pub positions_typed : (ps : List Pat) (ts : List Ty) (b : Scope × List CoredPosition) → positions s ps ts ≡ Some b → some_so b.1 ≡ false
       → PositionsHave s.types ts (map (λ (p : CoredPosition). p.0) b.1) (scope_types b.0)
   positions_typed [] [] b h off = subst (λ (r : Scope
-      × List CoredPosition). PositionsHave s.types [] (map (λ (p : CoredPosition). p.0) r.1) (scope_types r.0)) (some-same ([], []) b h) PositionsHave.none
+      × List CoredPosition). PositionsHave s.types [] (map
+      (λ (p : CoredPosition). p.0) r.1) (scope_types r.0)) (some-same ([], []) b h) PositionsHave.none
   positions_typed [] (t ∷ ts) b h off = cc
   positions_typed (p ∷ ps) [] b h off = cc
   positions_typed (p ∷ ps) (t ∷ ts) b h off =

@@ -126,7 +126,8 @@ module _ (s : Signatures) where
 
   rolled : (y : Exp-F Known) → AgreesOn (roll-Exp (parts y))
   rolled y = subst (λ r. ResultAgrees r (result_walk s (roll-Exp (parts y)))) (sym (result_roll s (parts y)))
-      (subst (ResultAgrees (result_level s Exp (λ e. e) (as_result s) (parts y))) (sym (fold-roll-Exp ResultWalk (result_walk_step s) (parts y))) (level y _ _ (whole (parts y))))
+      (subst (ResultAgrees (result_level s Exp
+      (λ e. e) (as_result s) (parts y))) (sym (fold-roll-Exp ResultWalk (result_walk_step s) (parts y))) (level y _ _ (whole (parts y))))
 
   pub result_walk_agrees : (e : Exp) → AgreesOn e
   result_walk_agrees = ind-Exp AgreesOn (λ x y is. subst (λ x. AgreesOn (roll-Exp x)) is (rolled y))

@@ -110,7 +110,8 @@ module _ (s : Signatures) (scope : Scope) (u : Ty) (tys : List Ty) where
   arms_from [] [] g [] h = tt
   arms_from [] [] g (c ∷ cs) h = cc
   arms_from (arm ∷ arms) (w ∷ ws) g cs h =
-      let k = given-inv (pattern s w.0 u) (λ p. given (w.1.result (scope ++ p.0) tys) (λ c. given (arms_result s scope u ws tys) (λ cs. Some ((p.1, c) ∷ cs)))) cs h in
+      let k = given-inv (pattern s w.0 u) (λ p. given (w.1.result (scope ++ p.0) tys) (λ c. given (arms_result s scope u ws tys)
+      (λ cs. Some ((p.1, c) ∷ cs)))) cs h in
       let m = given-inv (w.1.result (scope ++ k.0.0) tys) (λ c. given (arms_result s scope u ws tys) (λ cs. Some ((k.0.1, c) ∷ cs))) cs k.2 in
       let n = given-inv (arms_result s scope u ws tys) (λ cs. Some ((k.0.1, m.0) ∷ cs)) cs m.2 in
       subst (ArmsResult s scope u (arm ∷ arms) tys) (some-same _ _ n.2)
@@ -137,7 +138,8 @@ module _ (j : Judged) (w : Walk) (whole : Agrees j w) where
   pub agrees_tuple_result : (rs : List AsResult) (ws : List ResultWalk) → AllResultsAgree rs ws
       → ResultAgrees (tuple_result j rs) (tuple_result_walk w ws)
   agrees_tuple_result rs ws g =
-      agrees_leaf (Valued j) _ (valued w) _ value_to value_from (λ scope ts cs h. outputs_to rs ws g scope ts cs h) (λ scope ts cs h. outputs_from rs ws g scope ts cs h) w
+      agrees_leaf (Valued j) _ (valued w) _ value_to value_from (λ scope ts cs h. outputs_to rs ws g scope ts cs h)
+      (λ scope ts cs h. outputs_from rs ws g scope ts cs h) w
 
   pub agrees_paren_result : (r : AsResult) (a : ResultWalk) → ResultAgrees r a → ResultAgrees r (paren_result_walk w a)
   agrees_paren_result r a g = record {
@@ -164,7 +166,8 @@ module _ (j : Judged) (w : Walk) (whole : Agrees j w) where
   agrees_raise_result s name = agrees_followed _ _
       (λ scope tys c h. given-at _ _ h.0 (raised_alone-to s name h.0 h.1) ∙ ap Some (sym h.2))
       (λ scope tys c h.
-      let k = given-inv (raised_alone (exn_named name s)) (λ number. Some (raise_result_core number)) c h in (k.0, raised_alone-from s name k.0 k.1, sym (some-same _ _ k.2)))
+      let k = given-inv (raised_alone (exn_named name s))
+      (λ number. Some (raise_result_core number)) c h in (k.0, raised_alone-from s name k.0 k.1, sym (some-same _ _ k.2)))
 
   module _ (ja : Judged) (a : Walk) (p : Agrees ja a) where
     pub agrees_raise_with_result : (s : Signatures) (name : List ℕ) → ResultAgrees (raise_with_result s name j ja) (raise_with_result_walk s name w a)
@@ -190,7 +193,8 @@ module _ (j : Judged) (w : Walk) (whole : Agrees j w) where
         given-at _ _ h.0 (p.checked_against scope BoolTy h.0 h.3) ∙ given-at _ _ h.1 (rb.result_to scope tys h.1 h.4)
         ∙ given-at _ _ h.2 (qd.result_to scope tys h.2 h.5) ∙ ap Some (sym h.6))
         (λ scope tys c h.
-        let k = given-inv (a.against scope BoolTy) (λ t. given (b.result scope tys) (λ yes. given (d.result scope tys) (λ no. Some (if_result_core t yes no)))) c h in
+        let k = given-inv (a.against scope BoolTy) (λ t. given (b.result scope tys) (λ yes. given (d.result scope tys)
+        (λ no. Some (if_result_core t yes no)))) c h in
         let m = given-inv (b.result scope tys) (λ yes. given (d.result scope tys) (λ no. Some (if_result_core k.0 yes no))) c k.2 in
         let n = given-inv (d.result scope tys) (λ no. Some (if_result_core k.0 m.0 no)) c m.2 in
         (k.0, m.0, n.0, p.against_checked scope BoolTy k.0 k.1, rb.result_from scope tys m.0 m.1, qd.result_from scope tys n.0 n.1, sym (some-same _ _ n.2)))

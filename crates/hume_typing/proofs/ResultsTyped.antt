@@ -155,7 +155,8 @@ module _ (s : Signatures) (core : Core) (of : HasSignatures s core) where
 
   sound_star : IsSoundResult star_result
   sound_star =
-      sound_leaf _ NoOutputs (λ scope t out h off outs tys others. subst (λ (o : CoredOut). OutsHave core (scope_types scope) (o.0 ∷ outs) (t ∷ tys)) (sym h) (OutsHave.star others)) no_outs
+      sound_leaf _ NoOutputs (λ scope t out h off outs tys others. subst
+      (λ (o : CoredOut). OutsHave core (scope_types scope) (o.0 ∷ outs) (t ∷ tys)) (sym h) (OutsHave.star others)) no_outs
 
   abbrev Known : Type 0
   Known = (e : Exp) × IsSoundResult (as_result s e)
@@ -190,7 +191,8 @@ module _ (s : Signatures) (core : Core) (of : HasSignatures s core) where
 
   rolled : (y : Exp-F Known) → IsSoundResult (as_result s (roll-Exp (parts y)))
   rolled y =
-      subst IsSoundResult (sym (result_roll s (parts y))) (level y _ (subst (IsSound s core of) (typing_roll s (parts y)) (part (roll-Exp (parts y)))))
+      subst IsSoundResult (sym (result_roll s (parts y))) (level y _
+      (subst (IsSound s core of) (typing_roll s (parts y)) (part (roll-Exp (parts y)))))
 
   pub sound_result : (e : Exp) → IsSoundResult (as_result s e)
   sound_result = ind-Exp (λ e. IsSoundResult (as_result s e)) (λ x y is. subst (λ x. IsSoundResult (as_result s (roll-Exp x))) is (rolled y))

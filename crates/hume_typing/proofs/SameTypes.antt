@@ -79,7 +79,8 @@ decided_level y u =
     let one : is_same (roll-Ty (parts y)) u ≡ same_step (tests (parts y)) u = ap (λ f. f u) (fold-roll-Ty (Ty → Bool) same_step (parts y)) in (
       λ h. ap roll-Ty (level_true y u (sym one ∙ h))
           ∙ roll-out-Ty u,
-      λ e. subst (λ w. is_same (roll-Ty (parts y)) w ≡ true) e (ap (λ f. f (roll-Ty (parts y))) (fold-roll-Ty (Ty → Bool) same_step (parts y)) ∙ level_from y),
+      λ e. subst (λ w. is_same (roll-Ty (parts y)) w ≡ true) e (ap (λ f. f (roll-Ty (parts y))) (fold-roll-Ty (Ty → Bool) same_step (parts y))
+          ∙ level_from y),
     )
 
 pub is_same-Decides : (t u : Ty) → Decides (is_same t u) (t ≡ u)
