@@ -93,10 +93,9 @@ impl<'a> Context<'a> {
     pub fn repeat(&mut self) -> Result<(), AllocError>
         ensures { OnOk result (self.new ≡ (self.old.0, top self.old.1 ∷ self.old.1, self.old.2)) }
     {
-        let Some(number) = self.held.pop() else {
+        let Some(number) = self.held.last() else {
             return Err(AllocError);
         };
-        self.held.push(number)?;
         self.held.push(number)?;
         Ok(())
     }
@@ -105,55 +104,55 @@ impl<'a> Context<'a> {
     pub fn repeat_below(&mut self) -> Result<(), AllocError>
         ensures { OnOk result (self.new ≡ (self.old.0, top (below self.old.1) ∷ self.old.1, self.old.2)) }
     {
-        let Some(last) = self.held.pop() else {
+        let Some(number) = self.held.before_last() else {
             return Err(AllocError);
         };
-        let Some(number) = self.held.pop() else {
-            return Err(AllocError);
-        };
-        self.held.push(number)?;
-        self.held.push(last)?;
         self.held.push(number)?;
         Ok(())
     }
 
     /// What is seen of the last type of the stack.
-    pub fn shape(&mut self) -> Result<Shape, AllocError>
-        ensures keeps { OnOk result (self.new ≡ self.old) }
-        ensures is { IfOk result (λ shape. shape ≡ shape_seen (out-Ty (top self.old.1))) }
+    pub fn shape(&self) -> Result<Shape, AllocError>
+        ensures { IfOk result (λ shape. shape ≡ shape_seen (out-Ty (top self.now.1))) }
     {
-        let Some(number) = self.held.pop() else {
+        let Some(number) = self.held.last() else {
             return Err(AllocError);
         };
-        self.held.push(number)?;
         let shape = shape_of_node(self.types.node(number));
         Ok(shape)
     }
 
     /// Whether the last two types of the stack are one.
-    pub fn are_same(&mut self) -> Result<bool, AllocError>
-        ensures keeps { OnOk result (self.new ≡ self.old) }
-        ensures is { IfOk result (λ same. IsTrue same ↔ (top self.old.1 ≡ top (below self.old.1))) }
+    pub fn are_same(&self) -> Result<bool, AllocError>
+        ensures { IfOk result (λ same. IsTrue same ↔ (top self.now.1 ≡ top (below self.now.1))) }
     {
-        let Some(last) = self.held.pop() else {
+        let Some(last) = self.held.last() else {
             return Err(AllocError);
         };
-        let Some(before) = self.held.pop() else {
+        let Some(before) = self.held.before_last() else {
             return Err(AllocError);
         };
-        self.held.push(before)?;
-        self.held.push(last)?;
         Ok(self.types.is_same(last, before))
+    }
+
+    /// The last type of the stack as a tree of at most so many nodes; what it takes goes off the room.
+    pub fn tree(&self, alloc: Global, room: &mut usize) -> Result<Ty, AllocError>
+        ensures { IfOk result (λ ty. ty ≡ top self.now.1) }
+    {
+        let Some(number) = self.held.last() else {
+            return Err(AllocError);
+        };
+        let ty = tree(alloc, &self.types, number, room)?;
+        Ok(ty)
     }
 
     /// Puts a part of the last type of the stack, a tuple, on the stack.
     pub fn push_part(&mut self, at: usize) -> Result<(), AllocError>
         ensures { OnOk result (self.new ≡ (self.old.0, part_at at (out-Ty (top self.old.1)) ∷ self.old.1, self.old.2)) }
     {
-        let Some(number) = self.held.pop() else {
+        let Some(number) = self.held.last() else {
             return Err(AllocError);
         };
-        self.held.push(number)?;
         match part_of_node(self.types.node(number), at) {
             None => Err(AllocError),
             Some(part) => {
@@ -167,10 +166,9 @@ impl<'a> Context<'a> {
     pub fn push_item(&mut self) -> Result<(), AllocError>
         ensures { OnOk result (self.new ≡ (self.old.0, item_of (out-Ty (top self.old.1)) ∷ self.old.1, self.old.2)) }
     {
-        let Some(number) = self.held.pop() else {
+        let Some(number) = self.held.last() else {
             return Err(AllocError);
         };
-        self.held.push(number)?;
         match item_of_node(self.types.node(number)) {
             None => Err(AllocError),
             Some(item) => {
@@ -200,19 +198,6 @@ impl<'a> Context<'a> {
         let number = self.types.number(Node::Vector(count, item))?;
         self.held.push(number)?;
         Ok(())
-    }
-
-    /// The last type of the stack as a tree of at most so many nodes; what it takes goes off the room.
-    pub fn tree(&mut self, alloc: Global, room: &mut usize) -> Result<Ty, AllocError>
-        ensures keeps { OnOk result (self.new ≡ self.old) }
-        ensures is { IfOk result (λ ty. ty ≡ top self.old.1) }
-    {
-        let Some(number) = self.held.pop() else {
-            return Err(AllocError);
-        };
-        self.held.push(number)?;
-        let ty = tree(alloc, &self.types, number, room)?;
-        Ok(ty)
     }
 
     /// Puts a type that is a tree on the stack.

@@ -1,4 +1,4 @@
-ghost use Rattle.std.specs.Prelude.{◌≡◌, [], ◌∷◌, length, take, drop, reverse, IfOk, OnOk, OnErr, MatchOption};
+ghost use Rattle.std.specs.Prelude.{◌≡◌, ◌≤◌, ◌+◌, [], ◌∷◌, length, take, drop, reverse, IfOk, OnOk, OnErr, IfSome, MatchOption};
 
 use std::alloc::{AllocError, Global};
 use std::marker::Model;
@@ -38,6 +38,29 @@ impl Stack {
         ensures { MatchOption result ((self.old ≡ []) × (self.new ≡ [])) (λ number. self.old ≡ number ∷ self.new) }
     {
         self.numbers.pop()
+    }
+
+    pub(crate) fn last(&self) -> Option<u32>
+        ensures { MatchOption result (self.now ≡ []) (λ number. self.now ≡ number ∷ drop 1 self.now) }
+    {
+        self.from_last(0)
+    }
+
+    pub(crate) fn before_last(&self) -> Option<u32>
+        ensures { IfSome result (λ number. drop 1 self.now ≡ number ∷ drop 2 self.now) }
+    {
+        self.from_last(1)
+    }
+
+    // The number below so many others.
+    fn from_last(&self, others: usize) -> Option<u32>
+        ensures { MatchOption result (length self.now ≤ others) (λ number. drop others self.now ≡ number ∷ drop (others + 1) self.now) }
+    {
+        let count = self.numbers.len();
+        if count <= others {
+            return None;
+        }
+        Some(self.numbers[count - 1 - others])
     }
 
     /// Takes the last numbers out, in the order in which they were pushed.
