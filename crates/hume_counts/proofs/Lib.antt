@@ -1,0 +1,2 @@
+mod CountSteps
+mod Searching
