@@ -1,0 +1,10 @@
+pub mod CoreSignatures
+pub mod Cores
+pub mod Declarations
+pub mod inner
+pub mod Partial
+pub mod Patterns
+pub mod Results
+pub mod Signatures
+pub mod Typing
+pub mod WrittenTypes

@@ -1,0 +1,4 @@
+pub mod DeclarationWalk
+pub mod ResultWalk
+pub mod SameTypes
+pub mod Walk
