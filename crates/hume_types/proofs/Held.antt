@@ -11,7 +11,7 @@ use Rattle.hume_types.specs.declared.node.Node.{Node}
 use Rattle.hume_types.specs.declared.node.Node.TheVariants as of
 use Rattle.hume_types.specs.Nodes.{type_at, ty_of, level_of, all_below, IsWithin, Grows}
 use Rattle.hume_types.specs.Contexts.{Known, with_found, top}
-use Rattle.hume_types.specs.Variables.{last_named, or_here}
+use Rattle.hume_typing.specs.Signatures.{variable_named, inner_or_this}
 
 -- the types of numbers, and those of variables
 abbrev pub shown : List Ty → List ℕ → List Ty
@@ -86,36 +86,36 @@ abbrev found_shown : List Ty → Option (ℕ × ℕ) → Option (ℕ × Ty)
 found_shown tys None = None
 found_shown tys (Some p) = Some (p.0, type_at tys p.1)
 
-last_shown : (tys : List Ty) (x : List ℕ) (vs : List (List ℕ × ℕ)) → last_named x (shown_vars tys vs) ≡ found_shown tys (last_named x vs)
+last_shown : (tys : List Ty) (x : List ℕ) (vs : List (List ℕ × ℕ)) → variable_named x (shown_vars tys vs) ≡ found_shown tys (variable_named x vs)
 last_shown tys x [] = refl
-last_shown tys x (v ∷ vs) = ap (or_here x (v.0, type_at tys v.1)) (last_shown tys x vs) ∙ by (last_named x vs)
+last_shown tys x (v ∷ vs) = ap (inner_or_this x (v.0, type_at tys v.1)) (last_shown tys x vs) ∙ by (variable_named x vs)
   where
     test : (b : Bool) → (if b then Some (0, type_at tys v.1) else None) ≡ found_shown tys (if b then Some (0, v.1) else None)
     test true = refl
     test false = refl
 
-    by : (o : Option (ℕ × ℕ)) → or_here x (v.0, type_at tys v.1) (found_shown tys o) ≡ found_shown tys (or_here x v o)
-    by None = test (bytes_eq x v.0)
+    by : (o : Option (ℕ × ℕ)) → inner_or_this x (v.0, type_at tys v.1) (found_shown tys o) ≡ found_shown tys (inner_or_this x v o)
+    by None = test (bytes_eq v.0 x)
     by (Some p) = refl
 
-pub found_below : (b : ℕ) (x : List ℕ) (vs : List (List ℕ × ℕ)) (p : ℕ × ℕ) → all_below b (numbers vs) → last_named x vs ≡ Some p → p.1 < b
+pub found_below : (b : ℕ) (x : List ℕ) (vs : List (List ℕ × ℕ)) (p : ℕ × ℕ) → all_below b (numbers vs) → variable_named x vs ≡ Some p → p.1 < b
 found_below b x [] p w h = cc
-found_below b x (v ∷ vs) p w h = by (last_named x vs) (λ r q. found_below b x vs r w.1 q) refl h
+found_below b x (v ∷ vs) p w h = by (variable_named x vs) (λ r q. found_below b x vs r w.1 q) refl h
   where
     test : (c : Bool) → (if c then Some (0, v.1) else None) ≡ Some p → p.1 < b
     test true e = subst (λ q. q.1 < b) (let s : (0, v.1) ≡ p = cc in s) w.0
     test false e = cc
 
-    by : (o : Option (ℕ × ℕ)) → ((r : ℕ × ℕ) → o ≡ Some r → r.1 < b) → o ≡ o → or_here x v o ≡ Some p → p.1 < b
-    by None rest q e = test (bytes_eq x v.0) e
+    by : (o : Option (ℕ × ℕ)) → ((r : ℕ × ℕ) → o ≡ Some r → r.1 < b) → o ≡ o → inner_or_this x v o ≡ Some p → p.1 < b
+    by None rest q e = test (bytes_eq v.0 x) e
     by (Some r) rest q e = subst (λ q. q.1 < b) (let s : (r.0 + 1, r.1) ≡ p = cc in s) (rest r refl)
 
-pub finds_none : (tys : List Ty) (x : List ℕ) (vs : List (List ℕ × ℕ)) (k : Known) → shown_vars tys vs ≡ k.0 → last_named x vs ≡ None → (None, k) ≡ with_found (last_named x k.0) k
-finds_none tys x vs k is h = sym (ap (λ o. with_found o k) (ap (last_named x) (sym is) ∙ last_shown tys x vs ∙ ap (found_shown tys) h))
+pub finds_none : (tys : List Ty) (x : List ℕ) (vs : List (List ℕ × ℕ)) (k : Known) → shown_vars tys vs ≡ k.0 → variable_named x vs ≡ None → (None, k) ≡ with_found (variable_named x k.0) k
+finds_none tys x vs k is h = sym (ap (λ o. with_found o k) (ap (variable_named x) (sym is) ∙ last_shown tys x vs ∙ ap (found_shown tys) h))
 
-pub finds_some : (tys : List Ty) (x : List ℕ) (vs : List (List ℕ × ℕ)) (k : Known) (p : ℕ × ℕ) → shown_vars tys vs ≡ k.0 → last_named x vs ≡ Some p
-    → (Some p.0, (k.0, type_at tys p.1 ∷ k.1, k.2)) ≡ with_found (last_named x k.0) k
-finds_some tys x vs k p is h = sym (ap (λ o. with_found o k) (ap (last_named x) (sym is) ∙ last_shown tys x vs ∙ ap (found_shown tys) h))
+pub finds_some : (tys : List Ty) (x : List ℕ) (vs : List (List ℕ × ℕ)) (k : Known) (p : ℕ × ℕ) → shown_vars tys vs ≡ k.0 → variable_named x vs ≡ Some p
+    → (Some p.0, (k.0, type_at tys p.1 ∷ k.1, k.2)) ≡ with_found (variable_named x k.0) k
+finds_some tys x vs k p is h = sym (ap (λ o. with_found o k) (ap (variable_named x) (sym is) ∙ last_shown tys x vs ∙ ap (found_shown tys) h))
 
 -- the node of the last number tells the level of the last type
 pub top_level : (tys : List Ty) (held ns : List ℕ) (n : ℕ) (node : Node) (ts : List Ty) → shown tys held ≡ ts → held ≡ n ∷ ns → type_at tys n ≡ ty_of tys node → out-Ty (top ts) ≡ level_of tys node

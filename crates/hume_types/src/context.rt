@@ -1,7 +1,7 @@
 ghost use Rattle.std.specs.Prelude.{◌≡◌, ◌<◌, ℕ, List, [], ◌∷◌, ◌++◌, ◌↔◌, IsTrue, length, take, drop, reverse, slice_get, OnOk, OnErr, IfOk, IfSome};
 ghost use Rattle.hume_base.specs.declared.types.Ty.{Ty as TyTree, Tuple as TupleTy, Vector as VectorTy, out-Ty};
 ghost use Rattle.hume_types.specs.Nodes.{type_at, ty_of, level_of, IsWithin};
-ghost use Rattle.hume_types.specs.Variables.{last_named};
+ghost use Rattle.hume_typing.specs.Signatures.{variable_named};
 ghost use Rattle.hume_types.specs.Contexts.{top, below, with_found, shape_of as shape_seen, part_at, item_of};
 
 use crate::node::Node;
@@ -256,7 +256,7 @@ impl<'a> Context<'a> {
 
     /// The place of the last variable of a name. Its type goes on the stack.
     pub fn find(&mut self, name: &[u8]) -> Result<Option<u32>, AllocError>
-        ensures { IfOk result (λ place. (place, self.new) ≡ with_found (last_named name.now self.old.0) self.old) }
+        ensures { IfOk result (λ place. (place, self.new) ≡ with_found (variable_named name.now self.old.0) self.old) }
     {
         match self.vars.find(name) {
             None => Ok(None),

@@ -1,5 +1,5 @@
 ghost use Rattle.std.specs.Prelude.{◌≡◌, [], ◌∷◌, ◌++◌, ◌<◌, ◌^◌, length, take, map, OnOk, OnErr, IfOk, MatchOption, Some, None};
-ghost use Rattle.hume_types.specs.Variables.{last_named};
+ghost use Rattle.hume_typing.specs.Signatures.{variable_named};
 
 use std::alloc::{AllocError, Global};
 use std::marker::Model;
@@ -54,7 +54,7 @@ impl<'a> Variables<'a> {
 
     /// The place of the last variable of a name, and the number of its type.
     pub(crate) fn find(&self, name: &[u8]) -> Option<(u32, u32)>
-        ensures { result ≡ last_named name.now self.now }
+        ensures { result ≡ variable_named name.now self.now }
     {
         last_of(self.entries.as_slice(), name)
     }
@@ -63,11 +63,11 @@ impl<'a> Variables<'a> {
 #[tactic(auto, using(crate::proofs::Vars::var_steps))]
 fn last_of(vars: &[(&[u8], u32)], name: &[u8]) -> Option<(u32, u32)>
     requires { length vars.now < 2 ^ 32 }
-    ensures { result ≡ last_named name.now (map (λ v. (v.0.now, v.1)) vars.now) }
+    ensures { result ≡ variable_named name.now (map (λ v. (v.0.now, v.1)) vars.now) }
 {
     let mut found = None;
     for (i, v) in vars.iter().enumerate() {
-        if name == v.0 {
+        if v.0 == name {
             found = Some((i as u32, v.1));
         }
     }
