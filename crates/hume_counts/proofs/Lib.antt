@@ -1,2 +1,3 @@
 mod CountSteps
 mod Searching
+mod Tallying

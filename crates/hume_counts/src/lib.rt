@@ -11,10 +11,14 @@ mod counts;
 mod declarations;
 mod expressions;
 mod first;
+mod limits;
 mod patterns;
 mod results;
 mod stars;
+mod tally;
 mod types;
 
 pub use counts::Counts;
 pub use first::{first_miscounted, first_stray_star};
+pub use limits::first_past_limits;
+pub use tally::Tally;
