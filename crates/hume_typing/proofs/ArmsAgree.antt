@@ -1,5 +1,5 @@
 -- The walk finds exactly what is said of a `case`.
-use Rattle.std.proofs.Common.{◌≡◌, ℕ, List, [], ◌∷◌, ◌++◌, Option, Some, None, refl, ap, sym, subst, ◌∙◌, Bool, true, false, ◌&&◌, if◌then◌else◌}
+use Rattle.std.proofs.Common.{◌≡◌, List, [], ◌∷◌, ◌++◌, Option, Some, refl, ap, sym, subst, ◌∙◌, Bool, true, false, ◌&&◌, if◌then◌else◌}
 use Rattle.hume_base.specs.declared.types.Ty.{Ty}
 use Rattle.hume_ast.specs.declared.tree.Pat.{Pat}
 use Rattle.hume_typing.specs.Partial.{given}
@@ -36,7 +36,7 @@ module _ (s : Signatures) (scope : Scope) (u : Ty) where
       let m = given-inv (a.1.against (scope ++ k.0.0) t) (λ c. given (arms_against s scope u ws t) (λ cs. Some ((k.0.1, c) ∷ cs))) cs k.2 in
       let n = given-inv (arms_against s scope u ws t) (λ cs. Some ((k.0.1, m.0) ∷ cs)) cs m.2 in
       subst (ArmsChecked s scope u (arm ∷ arms) t) (some-same _ _ n.2)
-          (k.0.0, ap (λ p. pattern s p u) g.0 ∙ k.1, g.1.against_checked _ t m.0 m.1, arms_from arms ws g.2 t n.0 n.1)
+      (k.0.0, ap (λ p. pattern s p u) g.0 ∙ k.1, g.1.against_checked _ t m.0 m.1, arms_from arms ws g.2 t n.0 n.1)
   arms_from [] (a ∷ ws) g t cs h = absurd g
   arms_from (arm ∷ arms) [] g t cs h = absurd g
 
@@ -83,15 +83,16 @@ module _ (s : Signatures) (scope : Scope) (u : Ty) where
           let n = given-inv (a.1.against (scope ++ m.0.0) k.0.0) (λ c. Some (k.0.0, (m.0.1, c) ∷ k.0.1)) r m.2 in
           let f = rest k.0 k.1 in
           subst (λ r. FirstArmType s scope u arms r.0 × ArmsChecked s scope u (arm ∷ arms) r.0 r.1) (some-same (k.0.0, (m.0.1, n.0) ∷ k.0.1) r n.2)
-              (f.0, (m.0.0, ap (λ p. pattern s p u) g.0 ∙ m.1, g.1.against_checked _ k.0.0 n.0 n.1, f.1))
+          (f.0, (m.0.0, ap (λ p. pattern s p u) g.0 ∙ m.1, g.1.against_checked _ k.0.0 n.0 n.1, f.1))
       by false rest h =
           let k = given-inv (pattern s a.0 u) (λ p. given (a.1.own (scope ++ p.0)) (λ q. given (arms_against s scope u ws q.0) (λ cs. Some (q.0, (p.1, q.1) ∷ cs)))) r h in
           let m = given-inv (a.1.own (scope ++ k.0.0)) (λ q. given (arms_against s scope u ws q.0) (λ cs. Some (q.0, (k.0.1, q.1) ∷ cs))) r k.2 in
           let n = given-inv (arms_against s scope u ws m.0.0) (λ cs. Some (m.0.0, (k.0.1, m.0.1) ∷ cs)) r m.2 in
           let is = ap (λ p. pattern s p u) g.0 ∙ k.1 in
-          subst (λ r. ArmHas s scope u arm r.0 × ArmsChecked s scope u (arm ∷ arms) r.0 r.1) (some-same (m.0.0, (k.0.1, m.0.1) ∷ n.0) r n.2)
-              ((k.0.0, k.0.1, m.0.1, is, g.1.own_has _ m.0.0 m.0.1 m.1),
-               (k.0.0, is, g.1.against_checked _ m.0.0 m.0.1 (g.1.own_against _ m.0.0 m.0.1 m.1), arms_from arms ws g.2 m.0.0 n.0 n.1))
+          subst (λ r. ArmHas s scope u arm r.0 × ArmsChecked s scope u (arm ∷ arms) r.0 r.1) (some-same (m.0.0, (k.0.1, m.0.1) ∷ n.0) r n.2) (
+            (k.0.0, k.0.1, m.0.1, is, g.1.own_has _ m.0.0 m.0.1 m.1),
+            (k.0.0, is, g.1.against_checked _ m.0.0 m.0.1 (g.1.own_against _ m.0.0 m.0.1 m.1), arms_from arms ws g.2 m.0.0 n.0 n.1),
+          )
   arms_own_from [] (a ∷ ws) g r h = absurd g
   arms_own_from (arm ∷ arms) [] g r h = absurd g
 
@@ -122,6 +123,7 @@ agrees_case s j w arms ws q g = record {
         let e : (m.0.0, case_core k.0.0 k.0.1 m.0.1) ≡ (t, c) = some-same _ _ m.2 in
         let f = arms_own_from s scope k.0.0 arms ws g (t, m.0.1) (m.1 ∙ (λ i. Some ((e i).0, m.0.1))) in
         (k.0.0, f.0, (k.0.1, m.0.1, q.own_has scope k.0.0 k.0.1 k.1, f.1, sym (ap (λ r. r.1) e)))
+
     to : (scope : Scope) (t : Ty) (c : Cored) → (case_typing s j arms).checked scope t c → (case_walk s w ws).against scope t ≡ Some c
     to scope t c h =
         given-at _ _ (h.0, h.1.0) (q.has_own scope h.0 h.1.0 h.1.2) ∙ given-at _ _ h.1.1 (arms_to s scope h.0 arms ws g t h.1.1 h.1.3) ∙ ap Some (sym h.1.4)

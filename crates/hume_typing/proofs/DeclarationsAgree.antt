@@ -1,5 +1,5 @@
 -- The walk over equations, rules, handlers and declarations finds exactly what is said of them.
-use Rattle.std.proofs.Common.{◌≡◌, ◌↔◌, ℕ, List, [], ◌∷◌, Option, Some, None, refl, ap, sym, subst, ◌∙◌, Bool, true, false, ◌||◌}
+use Rattle.std.proofs.Common.{◌≡◌, ◌↔◌, ℕ, List, [], ◌∷◌, Option, Some, None, refl, ap, sym, subst, ◌∙◌, Bool, ◌||◌}
 use Rattle.hume_base.specs.declared.types.Ty.{Ty}
 use Rattle.hume_ast.specs.declared.tree.TyExp.{TyExp}
 use Rattle.hume_ast.specs.declared.tree.Decl.{Decl}
@@ -8,16 +8,14 @@ use Rattle.hume_model.specs.declared.core_tree.ExnDef.{ExnDef}
 use Rattle.hume_typing.specs.Partial.{given}
 use Rattle.hume_typing.specs.Signatures.{exn_named}
 use Rattle.hume_typing.specs.Patterns.{patterns, positions}
-use Rattle.hume_typing.specs.Declarations.{InPlaces, CoredEquation, CoredRule, CoredHandler, some_so, Equation, equation_core, IsEquation, Rule, rule_core, IsRule, Handler, carried_vars, handler_core, IsHandler, signature_written, ports_written, IsFunction, IsBox, IsTyped, HasNoType}
+use Rattle.hume_typing.specs.Declarations.{InPlaces, CoredRule, CoredHandler, some_so, equation_core, IsEquation, WrittenRule, rule_core, IsRule, WrittenHandler, carried_vars, handler_core, IsHandler, signature_written, ports_written, IsFunction, IsBox, IsTyped, HasNoType}
 use Rattle.hume_typing.specs.inner.Walk.{walk}
 use Rattle.hume_typing.specs.inner.ResultWalk.{result_walk}
 use Rattle.hume_typing.specs.inner.DeclarationWalk.{found_of_all, equation_walk, rule_walk, handler_walk, function_walk, box_walk, declaration_walk}
 use Rattle.hume_typing.specs.declared.signatures.Signature.{Signature}
 use Rattle.hume_typing.specs.declared.signatures.Signatures.{Signatures}
 use Rattle.hume_typing.proofs.Maybe.{given-at, given-inv, some-same, not_some}
-use Rattle.hume_typing.proofs.FormsAgree.{Agrees}
 use Rattle.hume_typing.proofs.WalkAgrees.{walk_agrees}
-use Rattle.hume_typing.proofs.ResultsAgree.{ResultAgrees}
 use Rattle.hume_typing.proofs.ResultWalkAgrees.{result_walk_agrees}
 
 -- what belongs is what is found
@@ -51,6 +49,7 @@ module _ (s : Signatures) where
     where
       to : IsEquation s signature equation c → equation_walk s signature equation ≡ Some c
       to h = given-at _ _ (h.vars, h.pats) h.binds ∙ given-at _ _ h.body ((walk_agrees s equation.2).checked_against h.vars signature.gives h.body h.typed) ∙ ap Some (sym h.is)
+
       from : equation_walk s signature equation ≡ Some c → IsEquation s signature equation c
       from h =
           let k = given-inv (patterns s equation.1 signature.params) (λ bound. given ((walk s equation.2).against bound.0 signature.gives) (λ body. Some (equation_core bound.1 body))) c h in
@@ -69,6 +68,7 @@ module _ (s : Signatures) where
     where
       to : IsRule s ins outs rule c → rule_walk s ins outs rule ≡ Some c
       to h = given-at _ _ (h.vars, h.pats) h.binds ∙ given-at _ _ h.result ((result_walk_agrees s rule.1).result_to h.vars outs h.result h.gives) ∙ ap Some (sym h.is)
+
       from : rule_walk s ins outs rule ≡ Some c → IsRule s ins outs rule c
       from h =
           let k = given-inv (positions s rule.0 ins) (λ bound. given ((result_walk s rule.1).result bound.0 outs) (λ result. Some (rule_core bound.1 result))) c h in
@@ -89,12 +89,13 @@ module _ (s : Signatures) where
       to h =
           given-at _ _ (h.number, h.exn) h.known ∙ given-at _ _ (h.vars, h.bound) h.binds
           ∙ given-at _ _ h.result ((result_walk_agrees s handler.2).result_to h.vars outs h.result h.gives) ∙ ap Some (sym h.is)
+
       from : handler_walk s outs handler ≡ Some c → IsHandler s outs handler c
       from h =
           let k = given-inv (exn_named handler.0 s) (λ (found : ℕ × ExnDef). given (carried_vars found.1.carries handler.1) (λ carried.
-              given ((result_walk s handler.2).result carried.0 outs) (λ result. Some (handler_core found.0 carried.1 result)))) c h in
+          given ((result_walk s handler.2).result carried.0 outs) (λ result. Some (handler_core found.0 carried.1 result)))) c h in
           let l = given-inv (carried_vars k.0.1.carries handler.1) (λ carried.
-              given ((result_walk s handler.2).result carried.0 outs) (λ result. Some (handler_core k.0.0 carried.1 result))) c k.2 in
+          given ((result_walk s handler.2).result carried.0 outs) (λ result. Some (handler_core k.0.0 carried.1 result))) c k.2 in
           let m = given-inv ((result_walk s handler.2).result l.0.0 outs) (λ result. Some (handler_core k.0.0 l.0.1 result)) c l.2 in
           record {
             number = k.0.0;
@@ -113,25 +114,26 @@ module _ (s : Signatures) where
     where
       to : IsFunction s name tys equations cs → function_walk s name tys equations ≡ Some cs
       to h = given-at _ _ h.signature h.is_written ∙ (finds_all (IsEquation s h.signature) (equation_walk s h.signature) (finds_equation h.signature) equations cs).0 h.have
+
       from : function_walk s name tys equations ≡ Some cs → IsFunction s name tys equations cs
       from h =
           let k = given-inv (signature_written s.types name tys) (λ (signature : Signature). found_of_all (equation_walk s signature) equations) cs h in
           record { signature = k.0; is_written = k.1; have = (finds_all (IsEquation s k.0) (equation_walk s k.0) (finds_equation k.0) equations cs).1 k.2 }
 
-  pub box_to : (inputs outputs : List (List ℕ × TyExp)) (rules : List Rule) (handlers : List Handler) (rs : List CoredRule) (hs : List CoredHandler)
+  pub box_to : (inputs outputs : List (List ℕ × TyExp)) (rules : List WrittenRule) (handlers : List WrittenHandler) (rs : List CoredRule) (hs : List CoredHandler)
       → IsBox s inputs outputs rules handlers rs hs → box_walk s inputs outputs rules handlers ≡ Some (rs, hs)
   box_to inputs outputs rules handlers rs hs h =
       given-at _ _ h.ins h.inputs_are ∙ given-at _ _ h.outs h.outputs_are
       ∙ given-at _ _ rs ((finds_all (IsRule s h.ins h.outs) (rule_walk s h.ins h.outs) (finds_rule h.ins h.outs) rules rs).0 h.rules_have)
       ∙ given-at _ _ hs ((finds_all (IsHandler s h.outs) (handler_walk s h.outs) (finds_handler h.outs) handlers hs).0 h.handlers_have)
 
-  pub box_from : (inputs outputs : List (List ℕ × TyExp)) (rules : List Rule) (handlers : List Handler) (rs : List CoredRule) (hs : List CoredHandler)
+  pub box_from : (inputs outputs : List (List ℕ × TyExp)) (rules : List WrittenRule) (handlers : List WrittenHandler) (rs : List CoredRule) (hs : List CoredHandler)
       → box_walk s inputs outputs rules handlers ≡ Some (rs, hs) → IsBox s inputs outputs rules handlers rs hs
   box_from inputs outputs rules handlers rs hs h =
       let k = given-inv (ports_written s.types inputs) (λ ins. given (ports_written s.types outputs) (λ outs.
-          given (found_of_all (rule_walk s ins outs) rules) (λ rs. given (found_of_all (handler_walk s outs) handlers) (λ hs. Some (rs, hs))))) (rs, hs) h in
+      given (found_of_all (rule_walk s ins outs) rules) (λ rs. given (found_of_all (handler_walk s outs) handlers) (λ hs. Some (rs, hs))))) (rs, hs) h in
       let l = given-inv (ports_written s.types outputs) (λ outs.
-          given (found_of_all (rule_walk s k.0 outs) rules) (λ rs. given (found_of_all (handler_walk s outs) handlers) (λ hs. Some (rs, hs)))) (rs, hs) k.2 in
+      given (found_of_all (rule_walk s k.0 outs) rules) (λ rs. given (found_of_all (handler_walk s outs) handlers) (λ hs. Some (rs, hs)))) (rs, hs) k.2 in
       let m = given-inv (found_of_all (rule_walk s k.0 l.0) rules) (λ rs. given (found_of_all (handler_walk s l.0) handlers) (λ hs. Some (rs, hs))) (rs, hs) l.2 in
       let n = given-inv (found_of_all (handler_walk s l.0) handlers) (λ hs. Some (m.0, hs)) (rs, hs) m.2 in
       let e : (m.0, n.0) ≡ (rs, hs) = some-same _ _ n.2 in

@@ -1,5 +1,5 @@
 -- The cores of equations, rules and handlers have their types, if no literal in them is out of range.
-use Rattle.std.proofs.Common.{◌≡◌, ◌≢◌, ℕ, List, [], ◌∷◌, ◌++◌, map, slice_get, Option, Some, None, refl, ap, sym, subst, ◌∙◌, Bool, true, false, ◌||◌, if◌then◌else◌}
+use Rattle.std.proofs.Common.{◌≡◌, ◌≢◌, List, [], ◌∷◌, map, Option, Some, None, refl, ap, sym, subst, ◌∙◌, Bool, true, false, if◌then◌else◌}
 use Rattle.std.proofs.lemmas.Bool.{or_parts}
 use Rattle.hume_base.specs.declared.types.Ty.{Ty}
 use Rattle.hume_ast.specs.declared.tree.Pat.{Pat, out-Pat}
@@ -7,16 +7,13 @@ use Rattle.hume_ast.specs.declared.tree.Pat.TheOpen.{Pat-F}
 use Rattle.hume_model.specs.declared.core_tree.Core.{Core}
 use Rattle.hume_model.specs.declared.core_tree.FunC.{FunC}
 use Rattle.hume_model.specs.declared.core_tree.EqC.{EqC}
-use Rattle.hume_model.specs.declared.core_tree.RuleC.{RuleC}
-use Rattle.hume_model.specs.declared.core_tree.HandC.{HandC}
 use Rattle.hume_model.specs.declared.core_tree.BoxC.{BoxC}
-use Rattle.hume_model.specs.declared.core_tree.ExnDef.{ExnDef}
 use Rattle.hume_model.specs.Typing.{HasType, ArePatterns, EquationsHave}
 use Rattle.hume_model.specs.ResultTyping.{GivesOutputs}
-use Rattle.hume_model.specs.BoxTyping.{port_types, PositionsHave, PositionsAreTyped, RuleIsTyped, HandlerIsKnown, HandlerIsTyped, carried_types, handler_types}
+use Rattle.hume_model.specs.BoxTyping.{port_types, PositionsHave, RuleIsTyped, HandlerIsTyped, carried_types}
 use Rattle.hume_typing.specs.Signatures.{Scope}
-use Rattle.hume_typing.specs.Patterns.{CoredPat, CoredPosition, pat_cores, some_pat_too_wide}
-use Rattle.hume_typing.specs.Declarations.{InPlaces, CoredEquation, CoredRule, CoredHandler, some_so, Equation, equation_core, IsEquation, Rule, rule_core, IsRule, Handler, carried_layer, carried_vars, handler_core, IsHandler}
+use Rattle.hume_typing.specs.Patterns.{CoredPosition, pat_cores, some_pat_too_wide}
+use Rattle.hume_typing.specs.Declarations.{InPlaces, CoredEquation, CoredRule, CoredHandler, some_so, WrittenEquation, IsEquation, WrittenRule, IsRule, WrittenHandler, carried_layer, carried_vars, IsHandler}
 use Rattle.hume_typing.specs.CoreSignatures.{scope_types, IsOfSignature, HasSignatures}
 use Rattle.hume_typing.specs.declared.signatures.Signature.{Signature}
 use Rattle.hume_typing.specs.declared.signatures.Signatures.{Signatures}
@@ -28,19 +25,19 @@ use Rattle.hume_typing.proofs.ResultsTyped.{sound_result}
 
 module _ (s : Signatures) (core : Core) (of : HasSignatures s core) where
   -- an equation before others
-  before : (signature : Signature) (function : FunC) → IsOfSignature signature function → (equation : Equation) (c : CoredEquation) → IsEquation s signature equation c → c.1 ≡ false
+  before : (signature : Signature) (function : FunC) → IsOfSignature signature function → (equation : WrittenEquation) (c : CoredEquation) → IsEquation s signature equation c → c.1 ≡ false
       → (others : List EqC) → EquationsHave core function others → EquationsHave core function (c.0 ∷ others)
   before signature function is equation c h off others rest =
       let flags = or_parts (some_pat_too_wide h.pats) h.body.1 (ap (λ (r : CoredEquation). r.1) (sym h.is) ∙ off) in
       let pats : ArePatterns core.types function.params (pat_cores h.pats) (scope_types h.vars) =
-          subst (λ types. ArePatterns types function.params (pat_cores h.pats) (scope_types h.vars)) (sym of.types)
-              (subst (λ ts. ArePatterns s.types ts (pat_cores h.pats) (scope_types h.vars)) (sym is.params)
-                  (patterns_typed s equation.1 signature.params (h.vars, h.pats) h.binds flags.0)) in
+      subst (λ types. ArePatterns types function.params (pat_cores h.pats) (scope_types h.vars)) (sym of.types)
+      (subst (λ ts. ArePatterns s.types ts (pat_cores h.pats) (scope_types h.vars)) (sym is.params)
+      (patterns_typed s equation.1 signature.params (h.vars, h.pats) h.binds flags.0)) in
       let body : HasType core (scope_types h.vars) h.body.0 function.gives =
-          subst (HasType core (scope_types h.vars) h.body.0) (sym is.gives) ((sound s core of equation.2).checked h.vars signature.gives h.body h.typed flags.1) in
+      subst (HasType core (scope_types h.vars) h.body.0) (sym is.gives) ((sound s core of equation.2).checked h.vars signature.gives h.body h.typed flags.1) in
       subst (λ (r : CoredEquation). EquationsHave core function (r.0 ∷ others)) (sym h.is) (EquationsHave.one (scope_types h.vars) pats body rest)
 
-  pub equations_typed : (signature : Signature) (function : FunC) → IsOfSignature signature function → (equations : List Equation) (cs : List CoredEquation)
+  pub equations_typed : (signature : Signature) (function : FunC) → IsOfSignature signature function → (equations : List WrittenEquation) (cs : List CoredEquation)
       → InPlaces (IsEquation s signature) equations cs → some_so cs ≡ false → EquationsHave core function (map (λ (c : CoredEquation). c.0) cs)
   equations_typed signature function is [] [] h off = EquationsHave.none
   equations_typed signature function is [] (c ∷ cs) h off = absurd h
@@ -48,12 +45,12 @@ module _ (s : Signatures) (core : Core) (of : HasSignatures s core) where
   equations_typed signature function is (x ∷ xs) (c ∷ cs) h off =
       let flags = or_parts c.1 (some_so cs) off in before signature function is x c h.0 flags.0 _ (equations_typed signature function is xs cs h.1 flags.1)
 
-  pub rule_typed : (b : BoxC) (rule : Rule) (c : CoredRule) → IsRule s (port_types b.ins) (port_types b.outs) rule c → c.1 ≡ false → RuleIsTyped core b c.0
+  pub rule_typed : (b : BoxC) (rule : WrittenRule) (c : CoredRule) → IsRule s (port_types b.ins) (port_types b.outs) rule c → c.1 ≡ false → RuleIsTyped core b c.0
   rule_typed b rule c h off =
       let flags = or_parts (some_so h.pats) h.result.1 (ap (λ (r : CoredRule). r.1) (sym h.is) ∙ off) in
       let cores = map (λ (p : CoredPosition). p.0) h.pats in
       let pats : PositionsHave core.types (port_types b.ins) cores (scope_types h.vars) =
-          subst (λ types. PositionsHave types (port_types b.ins) cores (scope_types h.vars)) (sym of.types) (positions_typed s rule.0 (port_types b.ins) (h.vars, h.pats) h.binds flags.0) in
+      subst (λ types. PositionsHave types (port_types b.ins) cores (scope_types h.vars)) (sym of.types) (positions_typed s rule.0 (port_types b.ins) (h.vars, h.pats) h.binds flags.0) in
       subst (λ (r : CoredRule). RuleIsTyped core b r.0) (sym h.is) (record {
         positions = record { vars = scope_types h.vars; have = pats };
         outputs = (sound_result s core of rule.1).result h.vars (port_types b.outs) h.result h.gives flags.1;
@@ -76,7 +73,7 @@ module _ (s : Signatures) (core : Core) (of : HasSignatures s core) where
   carries (Some t) None r h = cc
   carries (Some t) (Some pat) r h = layer_carries t (out-Pat pat) r h
 
-  pub handler_typed : (b : BoxC) (handler : Handler) (c : CoredHandler) → IsHandler s (port_types b.outs) handler c → c.1 ≡ false → HandlerIsTyped core b c.0
+  pub handler_typed : (b : BoxC) (handler : WrittenHandler) (c : CoredHandler) → IsHandler s (port_types b.outs) handler c → c.1 ≡ false → HandlerIsTyped core b c.0
   handler_typed b handler c h off =
       let binds = carries h.exn.carries handler.1 (h.vars, h.bound) h.binds in
       let gives = (sound_result s core of handler.2).result h.vars (port_types b.outs) h.result h.gives (ap (λ (r : CoredHandler). r.1) (sym h.is) ∙ off) in

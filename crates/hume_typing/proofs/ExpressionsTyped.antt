@@ -1,6 +1,5 @@
 -- The core of an expression has its type, if no literal in it is out of range.
-use Rattle.std.proofs.Common.{◌≡◌, ℕ, List, [], ◌∷◌, map, Option, Some, None, sym, subst}
-use Rattle.hume_base.specs.declared.types.Ty.{Ty}
+use Rattle.std.proofs.Common.{List, [], ◌∷◌, map, Some, None, sym, subst}
 use Rattle.hume_ast.specs.declared.tree.Pat.{Pat}
 use Rattle.hume_ast.specs.declared.tree.Exp.{Exp, roll-Exp, ind-Exp, map-Exp}
 use Rattle.hume_ast.specs.declared.tree.Exp.TheOpen.{Exp-F}

@@ -9,9 +9,9 @@ use Rattle.hume_model.specs.declared.core_tree.Op.TheVariants as op
 use Rattle.hume_model.specs.declared.core_tree.ExnDef.{ExnDef}
 use Rattle.hume_model.specs.Typing.{is_number_type, is_comparison}
 use Rattle.hume_typing.specs.Partial.{given, when}
-use Rattle.hume_typing.specs.Signatures.{Scope, exn_named, variable_named}
+use Rattle.hume_typing.specs.Signatures.{Scope, exn_named}
 use Rattle.hume_typing.specs.WrittenTypes.{written}
-use Rattle.hume_typing.specs.Cores.{Cored, letter_core, truth_core, literal_core, variable_core, let_core, if_core, and_core, or_core, operation_core, neg_core, not_core, convert_core, index_core, update_core, raise_core, raise_with_core}
+use Rattle.hume_typing.specs.Cores.{Cored, letter_core, truth_core, literal_core, let_core, if_core, and_core, or_core, operation_core, neg_core, not_core, convert_core, index_core, update_core, raise_core, raise_with_core}
 use Rattle.hume_typing.specs.Typing.{Judged, int32, closed, opened, FirstType, either_type, literal_typing, letter_typing, truth_typing, let_typing, Branches, if_typing, RaisedAlone, RaisedWith, raise_typing, raise_with_typing, Arithmetic, arithmetic_typing, comparison_typing, logic_typing, not_typing, neg_typing, index_typing, Updated, update_typing, cast_typing, star_typing, binary_typing}
 use Rattle.hume_typing.specs.inner.SameTypes.{is_same}
 use Rattle.hume_typing.specs.inner.Walk.{Typed, Walk, expected, closed_walk, of_type, opened_walk, vector_parts, literal_walk, letter_walk, truth_walk, let_walk, two_against, two_own, if_walk, carries_none, raised_alone, raise_walk, raised_with, raise_with_walk, arithmetic_walk, comparison_walk, logic_walk, not_walk, neg_walk, index_walk, updated, update_walk, cast_walk, star_walk, binary_walk}
@@ -188,6 +188,7 @@ module _ (ja jb : Judged) (a b : Walk) (p : Agrees ja a) (q : Agrees jb b) where
           let is : k.0.0 ≡ t = ap (λ r. r.0) e in
           let f = two_own_from scope t k.0.1 k.0.2 (k.1 ∙ (λ i. Some (is i, k.0.1, k.0.2))) in
           (k.0.1, k.0.2, f, subst (λ u. is_number_type u ≡ true) is m.0, sym (ap (λ r. r.1) e) ∙ (λ i. operation_core operation (is i) k.0.1 k.0.2))
+
       to : (scope : Scope) (t : Ty) (c : Cored) → Arithmetic operation ja jb scope t c → (arithmetic_walk operation a b).against scope t ≡ Some c
       to scope t c h = when-at _ _ h.2 ∙ given-at _ _ (h.0, h.1) (two_against_to scope t h.0 h.1 h.3 h.4) ∙ ap Some (sym h.5)
 
@@ -195,36 +196,36 @@ module _ (ja jb : Judged) (a b : Walk) (p : Agrees ja a) (q : Agrees jb b) where
   agrees_comparison operation = agrees_closed _ _
       (λ scope t c h. given-at _ _ (h.0, h.1, h.2) (two_own_to scope h.0 h.1 h.2 h.4 h.6 h.7) ∙ when-at _ _ h.5 ∙ (λ i. Some (sym h.3 i, sym h.8 i)))
       (λ scope t c h.
-          let k = given-inv (two_own a.is_open b.is_open a b scope) (λ p. when (is_comparison operation p.0) (Some (BoolTy, operation_core operation p.0 p.1 p.2))) (t, c) h in
-          let m = when-inv (is_comparison operation k.0.0) (Some (BoolTy, operation_core operation k.0.0 k.0.1 k.0.2)) (t, c) k.2 in
-          let e : (BoolTy, operation_core operation k.0.0 k.0.1 k.0.2) ≡ (t, c) = some-same _ _ m.1 in
-          let f = two_own_from scope k.0.0 k.0.1 k.0.2 k.1 in
-          (k.0.0, k.0.1, k.0.2, sym (ap (λ r. r.0) e), f.0, m.0, f.1, f.2, sym (ap (λ r. r.1) e)))
+      let k = given-inv (two_own a.is_open b.is_open a b scope) (λ p. when (is_comparison operation p.0) (Some (BoolTy, operation_core operation p.0 p.1 p.2))) (t, c) h in
+      let m = when-inv (is_comparison operation k.0.0) (Some (BoolTy, operation_core operation k.0.0 k.0.1 k.0.2)) (t, c) k.2 in
+      let e : (BoolTy, operation_core operation k.0.0 k.0.1 k.0.2) ≡ (t, c) = some-same _ _ m.1 in
+      let f = two_own_from scope k.0.0 k.0.1 k.0.2 k.1 in
+      (k.0.0, k.0.1, k.0.2, sym (ap (λ r. r.0) e), f.0, m.0, f.1, f.2, sym (ap (λ r. r.1) e)))
 
   pub agrees_logic : (core : Cored → Cored → Cored) → Agrees (logic_typing core ja jb) (logic_walk core a b)
   agrees_logic core = agrees_closed _ _
       (λ scope t c h. given-at _ _ (h.0, h.1) (two_against_to scope BoolTy h.0 h.1 h.3 h.4) ∙ (λ i. Some (sym h.2 i, sym h.5 i)))
       (λ scope t c h.
-          let k = given-inv (two_against a b scope BoolTy) (λ two. Some (BoolTy, core two.0 two.1)) (t, c) h in
-          let e : (BoolTy, core k.0.0 k.0.1) ≡ (t, c) = some-same _ _ k.2 in
-          let f = two_against_from scope BoolTy k.0.0 k.0.1 k.1 in
-          (k.0.0, k.0.1, sym (ap (λ r. r.0) e), f.0, f.1, sym (ap (λ r. r.1) e)))
+      let k = given-inv (two_against a b scope BoolTy) (λ two. Some (BoolTy, core two.0 two.1)) (t, c) h in
+      let e : (BoolTy, core k.0.0 k.0.1) ≡ (t, c) = some-same _ _ k.2 in
+      let f = two_against_from scope BoolTy k.0.0 k.0.1 k.1 in
+      (k.0.0, k.0.1, sym (ap (λ r. r.0) e), f.0, f.1, sym (ap (λ r. r.1) e)))
 
   pub agrees_index : Agrees (index_typing ja jb) (index_walk a b)
   agrees_index = agrees_closed _ _
       (λ scope t c h.
-          given-at _ _ (_, h.2) (p.has_own scope _ h.2 h.4) ∙ given-at _ _ (h.0, t) (vector_parts-at _ h.0 t refl) ∙ given-at _ _ (h.1, h.3) (q.has_own scope h.1 h.3 h.5) ∙ when-at _ _ h.6
-          ∙ (λ i. Some (t, sym h.7 i)))
+      given-at _ _ (_, h.2) (p.has_own scope _ h.2 h.4) ∙ given-at _ _ (h.0, t) (vector_parts-at _ h.0 t refl) ∙ given-at _ _ (h.1, h.3) (q.has_own scope h.1 h.3 h.5) ∙ when-at _ _ h.6
+      ∙ (λ i. Some (t, sym h.7 i)))
       (λ scope t c h.
-          let k = given-inv (a.own scope) (λ vector. given (vector_parts vector.0) (λ parts. given (b.own scope) (λ place.
-              when (is_number_type place.0) (Some (parts.1, index_core parts.0 vector.1 place.1))))) (t, c) h in
-          let l = given-inv (vector_parts k.0.0) (λ parts. given (b.own scope) (λ place.
-              when (is_number_type place.0) (Some (parts.1, index_core parts.0 k.0.1 place.1)))) (t, c) k.2 in
-          let m = given-inv (b.own scope) (λ place. when (is_number_type place.0) (Some (l.0.1, index_core l.0.0 k.0.1 place.1))) (t, c) l.2 in
-          let n = when-inv (is_number_type m.0.0) (Some (l.0.1, index_core l.0.0 k.0.1 m.0.1)) (t, c) m.2 in
-          let e : (l.0.1, index_core l.0.0 k.0.1 m.0.1) ≡ (t, c) = some-same _ _ n.1 in
-          let is = vector_parts-inv k.0.0 l.0.0 t (l.1 ∙ (λ i. Some (l.0.0, (e i).0))) in
-          (l.0.0, m.0.0, k.0.1, m.0.1, p.own_has scope _ k.0.1 (k.1 ∙ (λ i. Some (is i, k.0.1))), q.own_has scope m.0.0 m.0.1 m.1, n.0, sym (ap (λ r. r.1) e)))
+      let k = given-inv (a.own scope) (λ vector. given (vector_parts vector.0) (λ parts. given (b.own scope) (λ place.
+      when (is_number_type place.0) (Some (parts.1, index_core parts.0 vector.1 place.1))))) (t, c) h in
+      let l = given-inv (vector_parts k.0.0) (λ parts. given (b.own scope) (λ place.
+      when (is_number_type place.0) (Some (parts.1, index_core parts.0 k.0.1 place.1)))) (t, c) k.2 in
+      let m = given-inv (b.own scope) (λ place. when (is_number_type place.0) (Some (l.0.1, index_core l.0.0 k.0.1 place.1))) (t, c) l.2 in
+      let n = when-inv (is_number_type m.0.0) (Some (l.0.1, index_core l.0.0 k.0.1 m.0.1)) (t, c) m.2 in
+      let e : (l.0.1, index_core l.0.0 k.0.1 m.0.1) ≡ (t, c) = some-same _ _ n.1 in
+      let is = vector_parts-inv k.0.0 l.0.0 t (l.1 ∙ (λ i. Some (l.0.0, (e i).0))) in
+      (l.0.0, m.0.0, k.0.1, m.0.1, p.own_has scope _ k.0.1 (k.1 ∙ (λ i. Some (is i, k.0.1))), q.own_has scope m.0.0 m.0.1 m.1, n.0, sym (ap (λ r. r.1) e)))
 
   pub agrees_if : (jt : Judged) (test : Walk) → Agrees jt test → Agrees (if_typing jt ja jb) (if_walk test a b)
   agrees_if jt test r = record {
@@ -248,6 +249,7 @@ module _ (ja jb : Judged) (a b : Walk) (p : Agrees ja a) (q : Agrees jb b) where
           let e : (m.0.0, if_core k.0 m.0.1 m.0.2) ≡ (t, c) = some-same _ _ m.2 in
           let f = two_own_from scope t m.0.1 m.0.2 (m.1 ∙ (λ i. Some ((e i).0, m.0.1, m.0.2))) in
           (f.0, (k.0, m.0.1, m.0.2, r.against_checked scope BoolTy k.0 k.1, f.1, f.2, sym (ap (λ r. r.1) e)))
+
       to : (scope : Scope) (t : Ty) (c : Cored) → Branches jt ja jb scope t c → (if_walk test a b).against scope t ≡ Some c
       to scope t c h =
           given-at _ _ h.0 (r.checked_against scope BoolTy h.0 h.3) ∙ given-at _ _ (h.1, h.2) (two_against_to scope t h.1 h.2 h.4 h.5) ∙ ap Some (sym h.6)
@@ -273,9 +275,9 @@ module _ (j : Judged) (a : Walk) (p : Agrees j a) where
   agrees_not = agrees_closed _ _
       (λ scope t c h. given-at _ _ h.0 (p.checked_against scope BoolTy h.0 h.2) ∙ (λ i. Some (sym h.1 i, sym h.3 i)))
       (λ scope t c h.
-          let k = given-inv (a.against scope BoolTy) (λ part. Some (BoolTy, not_core part)) (t, c) h in
-          let e : (BoolTy, not_core k.0) ≡ (t, c) = some-same _ _ k.2 in
-          (k.0, sym (ap (λ r. r.0) e), p.against_checked scope BoolTy k.0 k.1, sym (ap (λ r. r.1) e)))
+      let k = given-inv (a.against scope BoolTy) (λ part. Some (BoolTy, not_core part)) (t, c) h in
+      let e : (BoolTy, not_core k.0) ≡ (t, c) = some-same _ _ k.2 in
+      (k.0, sym (ap (λ r. r.0) e), p.against_checked scope BoolTy k.0 k.1, sym (ap (λ r. r.1) e)))
 
   pub agrees_neg : Agrees (neg_typing j) (neg_walk a)
   agrees_neg = record {
@@ -298,6 +300,7 @@ module _ (j : Judged) (a : Walk) (p : Agrees j a) where
           let e : (k.0.0, neg_core k.0.0 k.0.1) ≡ (t, c) = some-same _ _ m.1 in
           let is : k.0.0 ≡ t = ap (λ r. r.0) e in
           (k.0.1, subst (λ u. is_number_type u ≡ true) is m.0, k.1 ∙ (λ i. Some (is i, k.0.1)), sym (ap (λ r. r.1) e) ∙ (λ i. neg_core (is i) k.0.1))
+
       to : (scope : Scope) (t : Ty) (c : Cored) → (neg_typing j).checked scope t c → (neg_walk a).against scope t ≡ Some c
       to scope t c h = when-at _ _ h.1 ∙ given-at _ _ h.0 (p.checked_against scope t h.0 h.2) ∙ ap Some (sym h.3)
 
@@ -305,14 +308,20 @@ module _ (j : Judged) (a : Walk) (p : Agrees j a) where
   agrees_cast s type = agrees_closed _ _
       (λ scope t c h. given-at _ _ t h.2 ∙ when-at _ _ h.3 ∙ given-at _ _ (h.0, h.1) (p.has_own scope h.0 h.1 h.4) ∙ when-at _ _ h.5 ∙ (λ i. Some (t, sym h.6 i)))
       (λ scope t c h.
-          let k = given-inv (written s.types type) (λ ty. when (is_number_type ty) (given (a.own scope) (λ part. when (is_number_type part.0) (Some (ty, convert_core ty part.1))))) (t, c) h in
-          let l = when-inv (is_number_type k.0) (given (a.own scope) (λ part. when (is_number_type part.0) (Some (k.0, convert_core k.0 part.1)))) (t, c) k.2 in
-          let m = given-inv (a.own scope) (λ part. when (is_number_type part.0) (Some (k.0, convert_core k.0 part.1))) (t, c) l.1 in
-          let n = when-inv (is_number_type m.0.0) (Some (k.0, convert_core k.0 m.0.1)) (t, c) m.2 in
-          let e : (k.0, convert_core k.0 m.0.1) ≡ (t, c) = some-same _ _ n.1 in
-          let is : k.0 ≡ t = ap (λ r. r.0) e in
-          (m.0.0, m.0.1, k.1 ∙ ap Some is, subst (λ u. is_number_type u ≡ true) is l.0, p.own_has scope m.0.0 m.0.1 m.1, n.0,
-              sym (ap (λ r. r.1) e) ∙ (λ i. convert_core (is i) m.0.1)))
+      let k = given-inv (written s.types type) (λ ty. when (is_number_type ty) (given (a.own scope) (λ part. when (is_number_type part.0) (Some (ty, convert_core ty part.1))))) (t, c) h in
+      let l = when-inv (is_number_type k.0) (given (a.own scope) (λ part. when (is_number_type part.0) (Some (k.0, convert_core k.0 part.1)))) (t, c) k.2 in
+      let m = given-inv (a.own scope) (λ part. when (is_number_type part.0) (Some (k.0, convert_core k.0 part.1))) (t, c) l.1 in
+      let n = when-inv (is_number_type m.0.0) (Some (k.0, convert_core k.0 m.0.1)) (t, c) m.2 in
+      let e : (k.0, convert_core k.0 m.0.1) ≡ (t, c) = some-same _ _ n.1 in
+      let is : k.0 ≡ t = ap (λ r. r.0) e in (
+        m.0.0,
+        m.0.1,
+        k.1 ∙ ap Some is,
+        subst (λ u. is_number_type u ≡ true) is l.0,
+        p.own_has scope m.0.0 m.0.1 m.1,
+        n.0,
+        sym (ap (λ r. r.1) e) ∙ (λ i. convert_core (is i) m.0.1),
+      ))
 
 -- exceptions
 carries_none-inv : (number : ℕ) (carries : Option Ty) (n : ℕ) → carries_none number carries ≡ Some n → (number ≡ n) × (carries ≡ None)
@@ -349,8 +358,8 @@ module _ (s : Signatures) (name : List ℕ) (j : Judged) (a : Walk) (p : Agrees 
   agrees_raise_with = agrees_opened _ _
       (λ scope t c h. given-at _ _ (h.0, h.1) (raised_with-to scope h.0 h.1 h.2) ∙ ap Some (sym h.3))
       (λ scope t c h.
-          let k = given-inv (raised_with (exn_named name s) a scope) (λ raised. Some (raise_with_core raised.0 raised.1)) c h in
-          (k.0.0, k.0.1, raised_with-from scope k.0.0 k.0.1 k.1, sym (some-same _ _ k.2)))
+      let k = given-inv (raised_with (exn_named name s) a scope) (λ raised. Some (raise_with_core raised.0 raised.1)) c h in
+      (k.0.0, k.0.1, raised_with-from scope k.0.0 k.0.1 k.1, sym (some-same _ _ k.2)))
 
 module _ (ja jb jd : Judged) (a b d : Walk) (p : Agrees ja a) (q : Agrees jb b) (r : Agrees jd d) where
   -- what an update says of all but the vector's core
@@ -366,7 +375,7 @@ module _ (ja jb jd : Judged) (a b d : Walk) (p : Agrees ja a) (q : Agrees jb b) 
   rest_from : (scope : Scope) (t : Ty) (vector c : Cored) → updated b d scope t vector ≡ Some c → Rest scope t vector c
   rest_from scope t vector c h =
       let k = given-inv (vector_parts t) (λ parts. given (b.own scope) (λ place. when (is_number_type place.0)
-          (given (d.against scope parts.1) (λ new_item. Some (update_core parts.0 vector place.1 new_item))))) c h in
+      (given (d.against scope parts.1) (λ new_item. Some (update_core parts.0 vector place.1 new_item))))) c h in
       let l = given-inv (b.own scope) (λ place. when (is_number_type place.0) (given (d.against scope k.0.1) (λ new_item. Some (update_core k.0.0 vector place.1 new_item)))) c k.2 in
       let m = when-inv (is_number_type l.0.0) (given (d.against scope k.0.1) (λ new_item. Some (update_core k.0.0 vector l.0.1 new_item))) c l.2 in
       let n = given-inv (d.against scope k.0.1) (λ new_item. Some (update_core k.0.0 vector l.0.1 new_item)) c m.1 in

@@ -1,9 +1,8 @@
 -- The core of an expression has its type, if no literal in it is out of range: form by form.
-use Rattle.std.proofs.Common.{◌≡◌, ℕ, List, [], ◌∷◌, ◌++◌, map, length, replicate, slice_get, Option, Some, None, refl, ap, sym, subst, ◌∙◌, Bool, true, false, ◌||◌}
+use Rattle.std.proofs.Common.{◌≡◌, ℕ, List, [], ◌∷◌, ◌++◌, length, replicate, slice_get, Some, refl, ap, sym, subst, ◌∙◌, Bool, true, false, ◌||◌}
 use Rattle.std.proofs.lemmas.Bool.{or_parts}
 use Rattle.std.proofs.lemmas.List.{map-append}
 use Rattle.hume_base.specs.declared.types.Ty.{Ty, Bool as BoolTy, Vector as VectorTy}
-use Rattle.hume_base.specs.declared.types.SumDef.{SumDef}
 use Rattle.hume_base.specs.declared.types.Types.{Types}
 use Rattle.hume_ast.specs.declared.tree.BinOp.{BinOp}
 use Rattle.hume_ast.specs.declared.tree.BinOp.TheVariants as sign
@@ -12,17 +11,16 @@ use Rattle.hume_model.specs.declared.core_tree.Op.{Op}
 use Rattle.hume_model.specs.declared.core_tree.Op.TheVariants as op
 use Rattle.hume_model.specs.declared.core_tree.ExnDef.{ExnDef}
 use Rattle.hume_model.specs.declared.core_tree.Core.{Core}
-use Rattle.hume_model.specs.declared.core_tree.Expr.{Expr}
 use Rattle.hume_model.specs.Typing.{is_arithmetic, HasType, HaveTypes, ArmsHaveType, IsPattern}
 use Rattle.hume_typing.specs.Signatures.{Scope, exn_named}
 use Rattle.hume_typing.specs.Patterns.{literal_word, word_of_truth}
 use Rattle.hume_typing.specs.Cores.{Cored, CoredArm, cores, some_too_wide, arm_cores, some_arm_too_wide, letter_core, truth_core, literal_core, variable_core, let_core, if_core, and_core, or_core, operation_core, neg_core, not_core, convert_core, index_core, update_core, case_core, raise_core, raise_with_core, call_core, con_core, tuple_core, vector_core}
-use Rattle.hume_typing.specs.Typing.{Judged, Arm, closed, opened, AllHave, AllChecked, EachChecked, literal_typing, letter_typing, truth_typing, Binding, let_typing, Branches, if_typing, ArmsChecked, Alternatives, case_typing, RaisedAlone, RaisedWith, raise_typing, raise_with_typing, Arithmetic, arithmetic_typing, comparison_typing, logic_typing, not_typing, Negation, neg_typing, index_typing, Updated, update_typing, cast_typing, app_typing, con_typing, tuple_typing, Elements, vector_typing, star_typing, binary_typing}
-use Rattle.hume_typing.specs.CoreSignatures.{scope_types, HasSignatures, HasFunction, IsOfSignature}
+use Rattle.hume_typing.specs.Typing.{Judged, Arm, closed, opened, AllHave, AllChecked, EachChecked, literal_typing, letter_typing, truth_typing, Binding, let_typing, Branches, if_typing, ArmsChecked, Alternatives, case_typing, raise_typing, raise_with_typing, Arithmetic, arithmetic_typing, comparison_typing, logic_typing, not_typing, Negation, neg_typing, index_typing, Updated, update_typing, cast_typing, app_typing, con_typing, tuple_typing, Elements, vector_typing, star_typing, binary_typing}
+use Rattle.hume_typing.specs.CoreSignatures.{scope_types, HasSignatures}
 use Rattle.hume_typing.specs.declared.signatures.Signature.{Signature}
 use Rattle.hume_typing.specs.declared.signatures.Signatures.{Signatures}
 use Rattle.hume_typing.proofs.LiteralTypes.{literal-value, letter-value, truth-value}
-use Rattle.hume_typing.proofs.NamesFound.{ConstructorIs, first_stands, con_stands, variable_stands}
+use Rattle.hume_typing.proofs.NamesFound.{first_stands, con_stands, variable_stands}
 use Rattle.hume_typing.proofs.PatternsTyped.{pattern_typed}
 
 -- one variable more
@@ -215,7 +213,7 @@ module _ (s : Signatures) (core : Core) (of : HasSignatures s core) where
         let is = con_stands name s.types.sums h.0 h.2 in
         shown scope t _ c (con_core h.0.place h.1) h.3 h.5 (λ off.
         HasType.con h.0.sum h.0.place is.sum (ap (λ (types : Types). slice_get types.sums h.0.sum) of.types ∙ is.there) is.within
-            (subst (HaveTypes core (scope_types scope) (cores h.1)) (sym is.fields) (all_checked js g scope h.0.fields h.1 h.4 off))))
+        (subst (HaveTypes core (scope_types scope) (cores h.1)) (sym is.fields) (all_checked js g scope h.0.fields h.1 h.4 off))))
 
     pub sound_tuple : IsSound (tuple_typing js)
     sound_tuple = record {
@@ -242,7 +240,7 @@ module _ (s : Signatures) (core : Core) (of : HasSignatures s core) where
       let flags = or_parts (c.0.1 || c.1.1) (some_arm_too_wide cs) off in
       let two = or_parts c.0.1 c.1.1 flags.0 in
       let p : IsPattern core.types u c.0.0 (scope_types h.0) =
-          subst (λ types. IsPattern types u c.0.0 (scope_types h.0)) (sym of.types) (pattern_typed s arm.pat u (h.0, c.0) h.1 two.0) in
+      subst (λ types. IsPattern types u c.0.0 (scope_types h.0)) (sym of.types) (pattern_typed s arm.pat u (h.0, c.0) h.1 two.0) in
       let body = subst (λ vars. HasType core vars c.1.0 t) (map-append (λ (v : List ℕ × Ty). v.1) scope h.0) (g.0.checked (scope ++ h.0) t c.1 h.2 two.1) in
       ArmsHaveType.one_arm p body (arms_typed scope u t arms g.1 cs h.3 flags.1)
   arms_typed scope u t (arm ∷ arms) g [] h off = absurd h

@@ -1,19 +1,20 @@
-mod ArmsAgree
-mod DeclarationsAgree
-mod DeclarationsTyped
-mod ExpressionsTyped
-mod FormsAgree
-mod FormsTyped
-mod LiteralTypes
-mod Maybe
-mod NamesFound
-mod OpenIsInt32
-mod PartsAgree
-mod PatternsTyped
-mod ResultLevels
-mod ResultsAgree
-mod ResultsTyped
-mod ResultWalkAgrees
-mod SameTypes
-mod TypingLevels
-mod WalkAgrees
+pub mod ArmsAgree
+pub mod DeclarationsAgree
+pub mod DeclarationsTyped
+pub mod ExpressionsTyped
+pub mod FormsAgree
+pub mod FormsTyped
+pub mod LiteralTypes
+pub mod Maybe
+pub mod NamesFound
+pub mod OpenIsInt32
+pub mod PartsAgree
+pub mod PatternsTyped
+pub mod ResultLevels
+pub mod ResultsAgree
+pub mod ResultsTyped
+pub mod ResultWalkAgrees
+pub mod SameTypes
+pub mod TypingLevels
+pub mod WalkAgrees
+pub mod WalkLevels

@@ -7,7 +7,7 @@ use Rattle.hume_base.specs.declared.types.Ty.{Ty, out-Ty, roll-Ty, roll-out-Ty, 
 use Rattle.hume_base.specs.declared.types.Ty.TheVariants.{rolls-Char}
 use Rattle.hume_base.specs.declared.types.Ty.TheOpen.{Ty-F}
 use Rattle.hume_base.specs.declared.types.Types.{Types}
-use Rattle.hume_base.specs.declared.types.Value.{Value, out-Value}
+use Rattle.hume_base.specs.declared.types.Value.{Value}
 use Rattle.hume_base.specs.declared.types.Value.TheVariants as value
 use Rattle.hume_base.specs.Words.{int_of, word_of}
 use Rattle.hume_base.specs.Values.{is_value, is_value_with, value_step, is_named_value, is_word_of, is_int_word, is_int_of, is_char_word}

@@ -1,6 +1,5 @@
 -- What follows of something that may be missing and is there.
 use Rattle.std.proofs.Common.{◌≡◌, ℕ, List, Option, Some, None, refl, ap, sym, ◌∙◌, Bool, true, false}
-use Rattle.std.proofs.lemmas.Bool.{false≢true}
 use Rattle.hume_base.specs.declared.types.Ty.{Ty, out-Ty, roll-Ty, roll-out-Ty, Tuple, Vector}
 use Rattle.hume_base.specs.declared.types.Ty.TheOpen.{Ty-F}
 use Rattle.hume_base.specs.declared.types.Ty.TheVariants.{rolls-Tuple, outs-Tuple, rolls-Vector, outs-Vector}

@@ -1,5 +1,5 @@
 -- What is found by its name stands under its number.
-use Rattle.std.proofs.Common.{◌≡◌, ℕ, zero, suc, ◌+◌, ◌<◌, List, [], ◌∷◌, ◌++◌, map, length, slice_get, Option, Some, None, refl, ap, sym, subst, ◌∙◌, Bool, true, false, if◌then◌else◌, bytes_eq, add-one}
+use Rattle.std.proofs.Common.{◌≡◌, ℕ, ◌+◌, ◌<◌, List, [], ◌∷◌, length, slice_get, Option, Some, None, refl, ap, subst, ◌∙◌, Bool, true, false, if◌then◌else◌, bytes_eq, add-one}
 use Rattle.std.proofs.lemmas.Option.{slice_get_within}
 use Rattle.hume_base.specs.declared.types.Ty.{Ty}
 use Rattle.hume_base.specs.declared.types.ConDef.{ConDef}
@@ -35,17 +35,18 @@ con_stands name (sum ∷ sums) con h = by (first_named of_name name sum.cons) (f
   where
     of_name : ConDef → List ℕ
     of_name con = con.name
+
     by : (o : Option (ℕ × ConDef)) → ((j : ℕ) (z : ConDef) → o ≡ Some (j, z) → slice_get sum.cons j ≡ Some z) → (further : Option Constructor)
         → ((c : Constructor) → further ≡ Some c → ConstructorIs sums c) → first_or_further o further ≡ Some con → ConstructorIs (sum ∷ sums) con
     by (Some found) here further rest h =
         let there = here found.0 found.1 refl in
         subst (ConstructorIs (sum ∷ sums)) (some-same (record { sum = 0; place = found.0; fields = found.1.fields }) con h)
-            (record { sum = sum; there = refl; within = slice_get_within sum.cons found.0 found.1 there; fields = ap fields_of there })
+        (record { sum = sum; there = refl; within = slice_get_within sum.cons found.0 found.1 there; fields = ap fields_of there })
     by None here None rest h = cc
     by None here (Some c) rest h =
         let is = rest c refl in
         subst (ConstructorIs (sum ∷ sums)) (some-same (record { sum = c.sum + 1; place = c.place; fields = c.fields }) con h)
-            (record { sum = is.sum; there = ap (slice_get (sum ∷ sums)) (add-one c.sum) ∙ is.there; within = is.within; fields = is.fields })
+        (record { sum = is.sum; there = ap (slice_get (sum ∷ sums)) (add-one c.sum) ∙ is.there; within = is.within; fields = is.fields })
 
 pub variable_stands : (name : List ℕ) (scope : Scope) (i : ℕ) (t : Ty) → variable_named name scope ≡ Some (i, t) → slice_get (scope_types scope) i ≡ Some t
 variable_stands name [] i t h = cc
@@ -53,9 +54,11 @@ variable_stands name (v ∷ vs) i t h = by (variable_named name vs) (variable_st
   where
     this : Option (ℕ × Ty)
     this = Some (0, v.1)
+
     here : (same : Bool) → (if same then this else None) ≡ Some (i, t) → slice_get (v.1 ∷ scope_types vs) i ≡ Some t
     here true h = let e : (0, v.1) ≡ (i, t) = some-same _ _ h in subst (λ r. slice_get (v.1 ∷ scope_types vs) r.0 ≡ Some r.1) e refl
     here false h = cc
+
     by : (o : Option (ℕ × Ty)) → ((j : ℕ) (u : Ty) → o ≡ Some (j, u) → slice_get (scope_types vs) j ≡ Some u) → inner_or_this name v o ≡ Some (i, t)
         → slice_get (v.1 ∷ scope_types vs) i ≡ Some t
     by (Some found) rest h =

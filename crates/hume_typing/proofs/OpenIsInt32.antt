@@ -1,17 +1,15 @@
 -- An open expression, where no type is expected, is checked against int 32.
-use Rattle.std.proofs.Common.{◌≡◌, ◌↔◌, ℕ, List, [], ◌∷◌, ◌++◌, map, Some, None, refl, sym, ap, subst, ◌∙◌, Bool, true, false, ◌&&◌}
+use Rattle.std.proofs.Common.{◌≡◌, ◌↔◌, ℕ, List, [], ◌∷◌, ◌++◌, map, Some, None, refl, sym, subst, ◌∙◌, Bool, true, false, ◌&&◌}
 use Rattle.std.proofs.lemmas.Bool.{false≢true, and_parts}
 use Rattle.hume_base.specs.declared.types.Ty.{Ty}
-use Rattle.hume_ast.specs.declared.tree.Pat.{Pat}
 use Rattle.hume_ast.specs.declared.tree.BinOp.{BinOp}
 use Rattle.hume_ast.specs.declared.tree.BinOp.TheVariants as sign
 use Rattle.hume_ast.specs.declared.tree.Exp.{Exp, roll-Exp, ind-Exp, map-Exp}
 use Rattle.hume_ast.specs.declared.tree.Exp.TheOpen.{Exp-F}
-use Rattle.hume_model.specs.declared.core_tree.Op.{Op}
 use Rattle.hume_model.specs.declared.core_tree.Op.TheVariants as op
 use Rattle.hume_typing.specs.Signatures.{Scope}
 use Rattle.hume_typing.specs.Cores.{Cored}
-use Rattle.hume_typing.specs.Typing.{Judged, Arm, FirstType, either_type, FirstArmType, ArmHas, all_arms_open, Alternatives, case_typing, Branches, Arithmetic, Negation, opened, int32, let_typing, if_typing, arithmetic_typing, neg_typing, binary_typing, arm_with, typing, typing_step, HasByItself, IsCheckedAgainst}
+use Rattle.hume_typing.specs.Typing.{Judged, Arm, FirstType, either_type, FirstArmType, ArmHas, all_arms_open, Alternatives, case_typing, Branches, Arithmetic, Negation, opened, int32, let_typing, neg_typing, binary_typing, arm_with, typing, typing_step, HasByItself, IsCheckedAgainst}
 use Rattle.hume_typing.specs.declared.signatures.Signatures.{Signatures}
 use Rattle.hume_typing.proofs.TypingLevels.{typing_roll}
 

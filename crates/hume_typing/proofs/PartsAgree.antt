@@ -1,5 +1,5 @@
 -- The walk finds exactly what is said of calls, constructors, tuples and vectors.
-use Rattle.std.proofs.Common.{◌≡◌, ℕ, suc, ◌==◌, List, [], ◌∷◌, length, Option, Some, None, refl, ap, sym, subst, ◌∙◌, Bool, true, false, if◌then◌else◌}
+use Rattle.std.proofs.Common.{◌≡◌, ℕ, suc, ◌==◌, List, [], ◌∷◌, length, Option, Some, refl, ap, sym, subst, ◌∙◌, Bool, true, false, if◌then◌else◌}
 use Rattle.std.proofs.lemmas.Bool.{eqb-true, eq-eqb}
 use Rattle.hume_base.specs.declared.types.Ty.{Ty, Tuple as TupleTy, Vector as VectorTy, Named as NamedTy}
 use Rattle.hume_typing.specs.Partial.{given, when}
@@ -76,16 +76,16 @@ pub agrees_app : (s : Signatures) (name : List ℕ) (js : List Judged) (ws : Lis
 agrees_app s name [] [] g = agrees_closed _ _
     (λ scope t c h. given-at _ _ (h.0, t) h.1 ∙ (λ i. Some (t, sym h.2 i)))
     (λ scope t c h.
-        let k = given-inv (variable_named name scope) (λ found. Some (found.1, variable_core found.0)) (t, c) h in
-        let e : (k.0.1, variable_core k.0.0) ≡ (t, c) = some-same _ _ k.2 in
-        (k.0.0, k.1 ∙ (λ i. Some (k.0.0, (e i).0)), sym (ap (λ r. r.1) e)))
+    let k = given-inv (variable_named name scope) (λ found. Some (found.1, variable_core found.0)) (t, c) h in
+    let e : (k.0.1, variable_core k.0.0) ≡ (t, c) = some-same _ _ k.2 in
+    (k.0.0, k.1 ∙ (λ i. Some (k.0.0, (e i).0)), sym (ap (λ r. r.1) e)))
 agrees_app s name (j ∷ js) (w ∷ ws) g = agrees_closed _ _
     (λ scope t c h. given-at _ _ (h.0, h.1) h.3 ∙ given-at _ _ h.2 (all_to (j ∷ js) (w ∷ ws) g scope h.1.params h.2 h.5) ∙ (λ i. Some (sym h.4 i, sym h.6 i)))
     (λ scope t c h.
-        let k = given-inv (fun_named name s) (λ (found : ℕ × Signature). given (all_against scope (w ∷ ws) found.1.params) (λ cs. Some (found.1.gives, call_core found.0 cs))) (t, c) h in
-        let m = given-inv (all_against scope (w ∷ ws) k.0.1.params) (λ cs. Some (k.0.1.gives, call_core k.0.0 cs)) (t, c) k.2 in
-        let e : (k.0.1.gives, call_core k.0.0 m.0) ≡ (t, c) = some-same _ _ m.2 in
-        (k.0.0, k.0.1, m.0, k.1, sym (ap (λ r. r.0) e), all_from (j ∷ js) (w ∷ ws) g scope k.0.1.params m.0 m.1, sym (ap (λ r. r.1) e)))
+    let k = given-inv (fun_named name s) (λ (found : ℕ × Signature). given (all_against scope (w ∷ ws) found.1.params) (λ cs. Some (found.1.gives, call_core found.0 cs))) (t, c) h in
+    let m = given-inv (all_against scope (w ∷ ws) k.0.1.params) (λ cs. Some (k.0.1.gives, call_core k.0.0 cs)) (t, c) k.2 in
+    let e : (k.0.1.gives, call_core k.0.0 m.0) ≡ (t, c) = some-same _ _ m.2 in
+    (k.0.0, k.0.1, m.0, k.1, sym (ap (λ r. r.0) e), all_from (j ∷ js) (w ∷ ws) g scope k.0.1.params m.0 m.1, sym (ap (λ r. r.1) e)))
 agrees_app s name [] (w ∷ ws) g = absurd g
 agrees_app s name (j ∷ js) [] g = absurd g
 
@@ -94,10 +94,10 @@ module _ (js : List Judged) (ws : List Walk) (g : AllAgree js ws) where
   agrees_con s name = agrees_closed _ _
       (λ scope t c h. given-at _ _ h.0 h.2 ∙ given-at _ _ h.1 (all_to js ws g scope h.0.fields h.1 h.4) ∙ (λ i. Some (sym h.3 i, sym h.5 i)))
       (λ scope t c h.
-          let k = given-inv (con_named name s) (λ (con : Constructor). given (all_against scope ws con.fields) (λ cs. Some (NamedTy con.sum, con_core con.place cs))) (t, c) h in
-          let m = given-inv (all_against scope ws k.0.fields) (λ cs. Some (NamedTy k.0.sum, con_core k.0.place cs)) (t, c) k.2 in
-          let e : (NamedTy k.0.sum, con_core k.0.place m.0) ≡ (t, c) = some-same _ _ m.2 in
-          (k.0, m.0, k.1, sym (ap (λ r. r.0) e), all_from js ws g scope k.0.fields m.0 m.1, sym (ap (λ r. r.1) e)))
+      let k = given-inv (con_named name s) (λ (con : Constructor). given (all_against scope ws con.fields) (λ cs. Some (NamedTy con.sum, con_core con.place cs))) (t, c) h in
+      let m = given-inv (all_against scope ws k.0.fields) (λ cs. Some (NamedTy k.0.sum, con_core k.0.place cs)) (t, c) k.2 in
+      let e : (NamedTy k.0.sum, con_core k.0.place m.0) ≡ (t, c) = some-same _ _ m.2 in
+      (k.0, m.0, k.1, sym (ap (λ r. r.0) e), all_from js ws g scope k.0.fields m.0 m.1, sym (ap (λ r. r.1) e)))
 
   pub agrees_tuple : Agrees (tuple_typing js) (tuple_walk ws)
   agrees_tuple = record {
@@ -117,6 +117,7 @@ module _ (js : List Judged) (ws : List Walk) (g : AllAgree js ws) where
           let k = given-inv (all_own scope ws) (λ p. Some (TupleTy p.0, tuple_core p.1)) (t, c) h in
           let e : (TupleTy k.0.0, tuple_core k.0.1) ≡ (t, c) = some-same _ _ k.2 in
           (k.0.0, k.0.1, sym (ap (λ r. r.0) e), have_from js ws g scope k.0 k.1, sym (ap (λ r. r.1) e))
+
       to : (scope : Scope) (t : Ty) (c : Cored) → (tuple_typing js).checked scope t c → (tuple_walk ws).against scope t ≡ Some c
       to scope t c h = given-at _ _ h.0 (tuple_parts-at t h.0 h.2) ∙ given-at _ _ h.1 (all_to js ws g scope h.0 h.1 h.3) ∙ ap Some (sym h.4)
 
@@ -182,9 +183,10 @@ module _ (scope : Scope) where
       by false rest h =
           let k = given-inv (w.own scope) (λ first. given (each_against scope ws first.0) (λ others. Some (first.0, first.1 ∷ others))) r h in
           let m = given-inv (each_against scope ws k.0.0) (λ others. Some (k.0.0, k.0.1 ∷ others)) r k.2 in
-          subst (λ r. ((d : Cored) × j.has scope r.0 d) × EachChecked scope (j ∷ js) r.0 r.1) (some-same (k.0.0, k.0.1 ∷ m.0) r m.2)
-              ((k.0.1, g.0.own_has scope k.0.0 k.0.1 k.1),
-               (g.0.against_checked scope k.0.0 k.0.1 (g.0.own_against scope k.0.0 k.0.1 k.1), each_from js ws g.1 scope k.0.0 m.0 m.1))
+          subst (λ r. ((d : Cored) × j.has scope r.0 d) × EachChecked scope (j ∷ js) r.0 r.1) (some-same (k.0.0, k.0.1 ∷ m.0) r m.2) (
+            (k.0.1, g.0.own_has scope k.0.0 k.0.1 k.1),
+            (g.0.against_checked scope k.0.0 k.0.1 (g.0.own_against scope k.0.0 k.0.1 k.1), each_from js ws g.1 scope k.0.0 m.0 m.1),
+          )
   each_own_from [] (w ∷ ws) g r h = absurd g
   each_own_from (j ∷ js) [] g r h = absurd g
 
@@ -218,6 +220,7 @@ module _ (js : List Judged) (ws : List Walk) (g : AllAgree js ws) where
           let e : (VectorTy (length ws) k.0.0, vector_core k.0.1) ≡ (t, c) = some-same _ _ k.2 in
           let f = each_own_from scope js ws g k.0 k.1 in
           (k.0.0, f.0, (k.0.1, sym (ap (λ r. r.0) e) ∙ ap (λ n. VectorTy n k.0.0) (sym (same_length js ws g)), f.1, sym (ap (λ r. r.1) e)))
+
       to : (scope : Scope) (t : Ty) (c : Cored) → (vector_typing js).checked scope t c → (vector_walk ws).against scope t ≡ Some c
       to scope t c h =
           given-at _ _ (length js, h.0) (vector_parts-at t (length js) h.0 h.1.1) ∙ when-at _ _ (eq-eqb (length ws) (length js) (sym (same_length js ws g)))

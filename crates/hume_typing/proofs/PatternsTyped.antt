@@ -1,12 +1,10 @@
 -- The core of a pattern is one for values of the type, if no literal in it is out of range.
-use Rattle.std.proofs.Common.{◌≡◌, ℕ, List, [], ◌∷◌, ◌++◌, map, Option, Some, None, refl, ap, sym, subst, ◌∙◌, Bool, true, false, ◌||◌}
-use Rattle.std.specs.List.{list_any}
+use Rattle.std.proofs.Common.{◌≡◌, ℕ, List, [], ◌∷◌, ◌++◌, map, Option, Some, None, refl, ap, sym, subst, ◌∙◌, false}
 use Rattle.std.proofs.lemmas.Bool.{or_parts}
 use Rattle.std.proofs.lemmas.List.{map-append}
 use Rattle.hume_base.specs.declared.types.Ty.{Ty, out-Ty, roll-Ty, roll-out-Ty, Named as NamedTy, Tuple as TupleTy, Char as CharTy, Bool as BoolTy}
 use Rattle.hume_base.specs.declared.types.Ty.TheOpen.{Ty-F}
 use Rattle.hume_base.specs.declared.types.Ty.TheVariants.{rolls-Named, rolls-Tuple, rolls-Char, rolls-Bool}
-use Rattle.hume_base.specs.declared.types.Types.{Types}
 use Rattle.hume_ast.specs.declared.tree.Pat.{Pat, out-Pat, roll-Pat, map-Pat, fold-roll-Pat, ind-Pat}
 use Rattle.hume_ast.specs.declared.tree.Pat.TheOpen.{Pat-F}
 use Rattle.hume_model.specs.declared.core_tree.PatC.{Var, Any, Word, Con, Tuple}
@@ -14,7 +12,7 @@ use Rattle.hume_model.specs.declared.core_tree.InPat.{InPat}
 use Rattle.hume_model.specs.declared.core_tree.InPat.TheVariants as in_pat
 use Rattle.hume_model.specs.Typing.{is_number_type, IsPattern, ArePatterns}
 use Rattle.hume_model.specs.BoxTyping.{PositionsHave}
-use Rattle.hume_typing.specs.Partial.{given, when}
+use Rattle.hume_typing.specs.Partial.{given}
 use Rattle.hume_typing.specs.Signatures.{Scope, Constructor, con_named}
 use Rattle.hume_typing.specs.Patterns.{literal_word, is_too_wide, is_no_char, word_of_truth, is_bool, is_char, is_named, CoredPat, pat_cores, some_pat_too_wide, Bound, all_bound, tuple_bound, con_bound, pattern_step, pattern, patterns, CoredPosition, built, position_step, position, positions}
 use Rattle.hume_typing.specs.CoreSignatures.{scope_types}
@@ -50,7 +48,7 @@ module _ (s : Signatures) where
       let first = g.0 t k.0 k.1 flags.0 in
       let others = all_typed ps g.1 ts m.0 m.1 flags.1 in
       subst (λ r. ArePatterns s.types (t ∷ ts) (pat_cores r.1) (scope_types r.0)) e
-          (subst (ArePatterns s.types (t ∷ ts) (k.0.1.0 ∷ pat_cores m.0.1)) (sym (map-append (λ (v : List ℕ × Ty). v.1) k.0.0 m.0.0)) (ArePatterns.one first others))
+      (subst (ArePatterns s.types (t ∷ ts) (k.0.1.0 ∷ pat_cores m.0.1)) (sym (map-append (λ (v : List ℕ × Ty). v.1) k.0.0 m.0.0)) (ArePatterns.one first others))
 
   con_typed : (o : Option Constructor) → ((con : Constructor) → o ≡ Some con → ConstructorIs s.types.sums con) → (ps : List (Ty → Option Bound)) → AllTyped ps → Typed (con_bound o ps)
   con_typed None found ps g t b h off = cc
@@ -62,9 +60,9 @@ module _ (s : Signatures) where
       let c = found con refl in
       let parts = all_typed ps g con.fields m.0 m.1 (ap (λ r. r.1.1) e ∙ off) in
       subst (λ u. IsPattern s.types u b.1.0 (scope_types b.0)) is
-          (subst (λ r. IsPattern s.types (NamedTy con.sum) r.1.0 (scope_types r.0)) e
-              (IsPattern.con con.sum con.place c.sum c.there c.within
-                  (subst (λ ts. ArePatterns s.types ts (pat_cores m.0.1) (scope_types m.0.0)) (sym c.fields) parts)))
+      (subst (λ r. IsPattern s.types (NamedTy con.sum) r.1.0 (scope_types r.0)) e
+      (IsPattern.con con.sum con.place c.sum c.there c.within
+      (subst (λ ts. ArePatterns s.types ts (pat_cores m.0.1) (scope_types m.0.0)) (sym c.fields) parts)))
 
   tuple_typed : (ps : List (Ty → Option Bound)) → AllTyped ps → (layer : Ty-F Ty) (b : Bound) → tuple_bound ps layer ≡ Some b → b.1.1 ≡ false
       → IsPattern s.types (roll-Ty layer) b.1.0 (scope_types b.0)
@@ -72,7 +70,7 @@ module _ (s : Signatures) where
       let k = given-inv (all_bound ps ts) (λ all. Some (all.0, (Tuple (pat_cores all.1), some_pat_too_wide all.1))) b h in
       let e : (k.0.0, (Tuple (pat_cores k.0.1), some_pat_too_wide k.0.1)) ≡ b = some-same _ _ k.2 in
       subst (λ u. IsPattern s.types u b.1.0 (scope_types b.0)) (sym (rolls-Tuple ts))
-          (subst (λ r. IsPattern s.types (TupleTy ts) r.1.0 (scope_types r.0)) e (IsPattern.tuple (all_typed ps g ts k.0 k.1 (ap (λ r. r.1.1) e ∙ off))))
+      (subst (λ r. IsPattern s.types (TupleTy ts) r.1.0 (scope_types r.0)) e (IsPattern.tuple (all_typed ps g ts k.0 k.1 (ap (λ r. r.1.1) e ∙ off))))
   tuple_typed ps g _ b h off = cc
 
   abbrev Known : Type 0
@@ -90,19 +88,19 @@ module _ (s : Signatures) where
       let k = when-inv (is_number_type t) (Some ([], (Word (literal_word negative n), is_too_wide negative n t))) b h in
       let e : ([], (Word (literal_word negative n), is_too_wide negative n t)) ≡ b = some-same _ _ k.1 in
       subst (λ (r : Bound). IsPattern s.types t r.1.0 (scope_types r.0)) e
-          (IsPattern.word (literal_word negative n) (literal-value s.types t negative n k.0 (ap (λ (r : Bound). r.1.1) e ∙ off)))
+      (IsPattern.word (literal_word negative n) (literal-value s.types t negative n k.0 (ap (λ (r : Bound). r.1.1) e ∙ off)))
   level (Pat-F.Letter byte) t b h off =
       let k = when-inv (is_char (out-Ty t)) (Some ([], (Word byte, is_no_char byte))) b h in
       let e : ([], (Word byte, is_no_char byte)) ≡ b = some-same _ _ k.1 in
       let is : CharTy ≡ t = sym rolls-Char ∙ ap roll-Ty (char_true (out-Ty t) k.0) ∙ roll-out-Ty t in
       subst (λ (r : Bound). IsPattern s.types t r.1.0 (scope_types r.0)) e
-          (subst (λ u. IsPattern s.types u (Word byte) []) is (IsPattern.word byte (letter-value s.types byte (ap (λ (r : Bound). r.1.1) e ∙ off))))
+      (subst (λ u. IsPattern s.types u (Word byte) []) is (IsPattern.word byte (letter-value s.types byte (ap (λ (r : Bound). r.1.1) e ∙ off))))
   level (Pat-F.Truth truth) t b h off =
       let k = when-inv (is_bool (out-Ty t)) (Some ([], (Word (word_of_truth truth), false))) b h in
       let e : ([], (Word (word_of_truth truth), false)) ≡ b = some-same _ _ k.1 in
       let is : BoolTy ≡ t = sym rolls-Bool ∙ ap roll-Ty (bool_true (out-Ty t) k.0) ∙ roll-out-Ty t in
       subst (λ (r : Bound). IsPattern s.types t r.1.0 (scope_types r.0)) e
-          (subst (λ u. IsPattern s.types u (Word (word_of_truth truth)) []) is (IsPattern.word (word_of_truth truth) (truth-value s.types truth)))
+      (subst (λ u. IsPattern s.types u (Word (word_of_truth truth)) []) is (IsPattern.word (word_of_truth truth) (truth-value s.types truth)))
   level (Pat-F.Con name ps) t b h off = con_typed (con_named name s) (con_stands name s.types.sums) _ (all_known ps) t b h off
   level (Pat-F.Paren p) t b h off = p.1 t b h off
   level (Pat-F.Tuple ps) t b h off = subst (λ u. IsPattern s.types u b.1.0 (scope_types b.0)) (roll-out-Ty t) (tuple_typed _ (all_known ps) (out-Ty t) b h off)
@@ -130,11 +128,13 @@ module _ (s : Signatures) where
     where
       Goal : Scope × CoredPosition → Type 0
       Goal r = PositionsHave s.types (ty ∷ tys) (r.1.0 ∷ pats) (scope_types r.0 ++ vars)
+
       as_built : built bound ≡ Some r → Goal r
       as_built h =
           let k = given-inv bound (λ b. Some (b.0, (in_pat.Built b.1.0, b.1.1))) r h in
           let e : (k.0.0, (in_pat.Built k.0.1.0, k.0.1.1)) ≡ r = some-same _ _ k.2 in
           subst Goal e (PositionsHave.built (typed k.0 k.1 (ap (λ r. r.1.1) e ∙ off)) others)
+
       by : (layer : Pat-F Pat) → position_step bound layer ≡ Some r → Goal r
       by Pat-F.Star h = subst Goal (some-same ([], (in_pat.Star, false)) r h) (PositionsHave.star others)
       by Pat-F.AnyStar h = subst Goal (some-same ([], (in_pat.AnyStar, false)) r h) (PositionsHave.any_star others)
@@ -154,5 +154,5 @@ module _ (s : Signatures) where
       let others = positions_typed ps ts m.0 m.1 flags.1 in
       let pats : List InPat = map (λ (p : CoredPosition). p.0) m.0.1 in
       subst (λ (r : Scope × List CoredPosition). PositionsHave s.types (t ∷ ts) (map (λ (p : CoredPosition). p.0) r.1) (scope_types r.0)) e
-          (subst (PositionsHave s.types (t ∷ ts) (k.0.1.0 ∷ pats)) (sym (map-append (λ (v : List ℕ × Ty). v.1) k.0.0 m.0.0))
-              (before t ts (scope_types m.0.0) pats (pattern s p t) (pattern_typed p t) (out-Pat p) k.0 k.1 flags.0 others))
+      (subst (PositionsHave s.types (t ∷ ts) (k.0.1.0 ∷ pats)) (sym (map-append (λ (v : List ℕ × Ty). v.1) k.0.0 m.0.0))
+      (before t ts (scope_types m.0.0) pats (pattern s p t) (pattern_typed p t) (out-Pat p) k.0 k.1 flags.0 others))

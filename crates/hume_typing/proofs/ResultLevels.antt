@@ -4,7 +4,7 @@ use Rattle.hume_ast.specs.declared.tree.Pat.{Pat}
 use Rattle.hume_ast.specs.declared.tree.Exp.{Exp, roll-Exp, rec-roll-Exp, map-Exp}
 use Rattle.hume_ast.specs.declared.tree.Exp.TheOpen.{Exp-F}
 use Rattle.hume_typing.specs.Typing.{Judged, typing, typing_step}
-use Rattle.hume_typing.specs.Results.{AsResult, ResultArm, result_arm_with, result_step, result_level, as_result, case_result, tuple_result}
+use Rattle.hume_typing.specs.Results.{AsResult, result_arm_with, result_step, result_level, as_result, case_result, tuple_result}
 use Rattle.hume_typing.specs.declared.signatures.Signatures.{Signatures}
 use Rattle.hume_typing.proofs.TypingLevels.{map-map, natural as typing_natural}
 

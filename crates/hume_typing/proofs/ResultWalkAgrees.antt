@@ -1,12 +1,12 @@
 -- The walk over a result finds exactly what is said of it.
-use Rattle.std.proofs.Common.{◌≡◌, ℕ, List, [], ◌∷◌, map, Option, Some, None, refl, ap, sym, subst, ◌∙◌}
+use Rattle.std.proofs.Common.{◌≡◌, List, [], ◌∷◌, map, Some, None, refl, ap, sym, subst, ◌∙◌}
 use Rattle.hume_base.specs.declared.types.Ty.{Ty}
 use Rattle.hume_ast.specs.declared.tree.Pat.{Pat}
 use Rattle.hume_ast.specs.declared.tree.Exp.{Exp, roll-Exp, fold-roll-Exp, ind-Exp, map-Exp}
 use Rattle.hume_ast.specs.declared.tree.Exp.TheOpen.{Exp-F}
 use Rattle.hume_typing.specs.Signatures.{Scope}
 use Rattle.hume_typing.specs.Typing.{Judged, typing, typing_step}
-use Rattle.hume_typing.specs.Results.{CoredRes, AsResult, as_result, result_step, result_level, result_arm_with, IsResult}
+use Rattle.hume_typing.specs.Results.{CoredRes, as_result, result_step, result_level, result_arm_with, IsResult}
 use Rattle.hume_typing.specs.inner.Walk.{Walk, walk, walk_step}
 use Rattle.hume_typing.specs.inner.ResultWalk.{ResultWalk, result_walk, result_walk_step, result_walk_form}
 use Rattle.hume_typing.specs.declared.signatures.Signatures.{Signatures}
@@ -75,7 +75,7 @@ module _ (s : Signatures) where
   form w _ = refl
 
   -- the walk that goes along, one level down
-  walk_level : (x : Exp-F Exp) → (result_walk s (roll-Exp x)).walk ≡ walk_step s (walks x)
+  pub walk_level : (x : Exp-F Exp) → (result_walk s (roll-Exp x)).walk ≡ walk_step s (walks x)
   walk_level x = ap (λ (r : ResultWalk). r.walk) (fold-roll-Exp ResultWalk (result_walk_step s) x) ∙ form (walk_step s (walks x)) (map-Exp Exp ResultWalk (result_walk s) x)
 
   pub goes : (e : Exp) → Goes e

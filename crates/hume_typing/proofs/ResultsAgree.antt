@@ -1,13 +1,12 @@
 -- The walk over a result finds exactly what is said of it, form by form.
-use Rattle.std.proofs.Common.{◌≡◌, ℕ, List, [], ◌∷◌, ◌++◌, Option, Some, None, refl, ap, sym, subst, ◌∙◌}
+use Rattle.std.proofs.Common.{◌≡◌, ℕ, List, [], ◌∷◌, ◌++◌, Option, Some, refl, ap, sym, subst, ◌∙◌}
 use Rattle.hume_base.specs.declared.types.Ty.{Ty, Bool as BoolTy}
 use Rattle.hume_ast.specs.declared.tree.Pat.{Pat}
 use Rattle.hume_typing.specs.Partial.{given}
 use Rattle.hume_typing.specs.Signatures.{Scope, exn_named}
 use Rattle.hume_typing.specs.Patterns.{pattern}
-use Rattle.hume_typing.specs.Cores.{Cored}
 use Rattle.hume_typing.specs.Typing.{Judged}
-use Rattle.hume_typing.specs.Results.{CoredRes, CoredOut, CoredResArm, AsResult, ResultArm, absent_out, value_out, outs_core, let_result_core, if_result_core, case_result_core, raise_result_core, raise_with_result_core, AllOutputs, OutputsOf, leaf, Valued, NoOutputs, star_result, tuple_result, plain_result, followed, raise_result, raise_with_result, let_result, if_result, ArmsResult, case_result}
+use Rattle.hume_typing.specs.Results.{CoredRes, CoredOut, CoredResArm, AsResult, ResultArm, value_out, outs_core, let_result_core, if_result_core, case_result_core, raise_result_core, raise_with_result_core, AllOutputs, OutputsOf, leaf, Valued, NoOutputs, star_result, tuple_result, plain_result, followed, raise_result, raise_with_result, let_result, if_result, ArmsResult, case_result}
 use Rattle.hume_typing.specs.inner.Walk.{Walk, raised_alone, raised_with}
 use Rattle.hume_typing.specs.inner.ResultWalk.{ResultWalk, outputs_of, leaf_walk, valued, no_outputs, all_outputs, followed_walk, star_result_walk, tuple_result_walk, plain_result_walk, paren_result_walk, raise_result_walk, raise_with_result_walk, let_result_walk, if_result_walk, arms_result, case_result_walk}
 use Rattle.hume_typing.specs.declared.signatures.Signatures.{Signatures}
@@ -110,7 +109,7 @@ module _ (s : Signatures) (scope : Scope) (u : Ty) (tys : List Ty) where
       let m = given-inv (w.1.result (scope ++ k.0.0) tys) (λ c. given (arms_result s scope u ws tys) (λ cs. Some ((k.0.1, c) ∷ cs))) cs k.2 in
       let n = given-inv (arms_result s scope u ws tys) (λ cs. Some ((k.0.1, m.0) ∷ cs)) cs m.2 in
       subst (ArmsResult s scope u (arm ∷ arms) tys) (some-same _ _ n.2)
-          (k.0.0, ap (λ p. pattern s p u) g.0 ∙ k.1, g.1.result_from _ tys m.0 m.1, arms_from arms ws g.2 n.0 n.1)
+      (k.0.0, ap (λ p. pattern s p u) g.0 ∙ k.1, g.1.result_from _ tys m.0 m.1, arms_from arms ws g.2 n.0 n.1)
   arms_from [] (w ∷ ws) g cs h = absurd g
   arms_from (arm ∷ arms) [] g cs h = absurd g
 
@@ -156,39 +155,39 @@ module _ (j : Judged) (w : Walk) (whole : Agrees j w) where
   agrees_raise_result s name = agrees_followed _ _
       (λ scope tys c h. given-at _ _ h.0 (raised_alone-to s name h.0 h.1) ∙ ap Some (sym h.2))
       (λ scope tys c h.
-          let k = given-inv (raised_alone (exn_named name s)) (λ number. Some (raise_result_core number)) c h in (k.0, raised_alone-from s name k.0 k.1, sym (some-same _ _ k.2)))
+      let k = given-inv (raised_alone (exn_named name s)) (λ number. Some (raise_result_core number)) c h in (k.0, raised_alone-from s name k.0 k.1, sym (some-same _ _ k.2)))
 
   module _ (ja : Judged) (a : Walk) (p : Agrees ja a) where
     pub agrees_raise_with_result : (s : Signatures) (name : List ℕ) → ResultAgrees (raise_with_result s name j ja) (raise_with_result_walk s name w a)
     agrees_raise_with_result s name = agrees_followed _ _
         (λ scope tys c h. given-at _ _ (h.0, h.1) (raised_with-to s name ja a p scope h.0 h.1 h.2) ∙ ap Some (sym h.3))
         (λ scope tys c h.
-            let k = given-inv (raised_with (exn_named name s) a scope) (λ raised. Some (raise_with_result_core raised.0 raised.1)) c h in
-            (k.0.0, k.0.1, raised_with-from s name ja a p scope k.0.0 k.0.1 k.1, sym (some-same _ _ k.2)))
+        let k = given-inv (raised_with (exn_named name s) a scope) (λ raised. Some (raise_with_result_core raised.0 raised.1)) c h in
+        (k.0.0, k.0.1, raised_with-from s name ja a p scope k.0.0 k.0.1 k.1, sym (some-same _ _ k.2)))
 
     pub agrees_let_result : (x : List ℕ) (r : AsResult) (b : ResultWalk) → ResultAgrees r b → ResultAgrees (let_result j x ja r) (let_result_walk w x a b)
     agrees_let_result x r b q = agrees_followed _ _
         (λ scope tys c h. given-at _ _ (h.0, h.1) (p.has_own scope h.0 h.1 h.3) ∙ given-at _ _ h.2 (q.result_to _ tys h.2 h.4) ∙ ap Some (sym h.5))
         (λ scope tys c h.
-            let k = given-inv (a.own scope) (λ p. given (b.result (scope ++ (x, p.0) ∷ []) tys) (λ r. Some (let_result_core p.1 r))) c h in
-            let m = given-inv (b.result (scope ++ (x, k.0.0) ∷ []) tys) (λ r. Some (let_result_core k.0.1 r)) c k.2 in
-            (k.0.0, k.0.1, m.0, p.own_has scope k.0.0 k.0.1 k.1, q.result_from _ tys m.0 m.1, sym (some-same _ _ m.2)))
+        let k = given-inv (a.own scope) (λ p. given (b.result (scope ++ (x, p.0) ∷ []) tys) (λ r. Some (let_result_core p.1 r))) c h in
+        let m = given-inv (b.result (scope ++ (x, k.0.0) ∷ []) tys) (λ r. Some (let_result_core k.0.1 r)) c k.2 in
+        (k.0.0, k.0.1, m.0, p.own_has scope k.0.0 k.0.1 k.1, q.result_from _ tys m.0 m.1, sym (some-same _ _ m.2)))
 
     pub agrees_if_result : (r q : AsResult) (b d : ResultWalk) → ResultAgrees r b → ResultAgrees q d → ResultAgrees (if_result j ja r q) (if_result_walk w a b d)
     agrees_if_result r q b d rb qd = agrees_followed _ _
         (λ scope tys c h.
-            given-at _ _ h.0 (p.checked_against scope BoolTy h.0 h.3) ∙ given-at _ _ h.1 (rb.result_to scope tys h.1 h.4) ∙ given-at _ _ h.2 (qd.result_to scope tys h.2 h.5) ∙ ap Some (sym h.6))
+        given-at _ _ h.0 (p.checked_against scope BoolTy h.0 h.3) ∙ given-at _ _ h.1 (rb.result_to scope tys h.1 h.4) ∙ given-at _ _ h.2 (qd.result_to scope tys h.2 h.5) ∙ ap Some (sym h.6))
         (λ scope tys c h.
-            let k = given-inv (a.against scope BoolTy) (λ t. given (b.result scope tys) (λ yes. given (d.result scope tys) (λ no. Some (if_result_core t yes no)))) c h in
-            let m = given-inv (b.result scope tys) (λ yes. given (d.result scope tys) (λ no. Some (if_result_core k.0 yes no))) c k.2 in
-            let n = given-inv (d.result scope tys) (λ no. Some (if_result_core k.0 m.0 no)) c m.2 in
-            (k.0, m.0, n.0, p.against_checked scope BoolTy k.0 k.1, rb.result_from scope tys m.0 m.1, qd.result_from scope tys n.0 n.1, sym (some-same _ _ n.2)))
+        let k = given-inv (a.against scope BoolTy) (λ t. given (b.result scope tys) (λ yes. given (d.result scope tys) (λ no. Some (if_result_core t yes no)))) c h in
+        let m = given-inv (b.result scope tys) (λ yes. given (d.result scope tys) (λ no. Some (if_result_core k.0 yes no))) c k.2 in
+        let n = given-inv (d.result scope tys) (λ no. Some (if_result_core k.0 m.0 no)) c m.2 in
+        (k.0, m.0, n.0, p.against_checked scope BoolTy k.0 k.1, rb.result_from scope tys m.0 m.1, qd.result_from scope tys n.0 n.1, sym (some-same _ _ n.2)))
 
     pub agrees_case_result : (s : Signatures) (arms : List ResultArm) (ws : List (Pat × ResultWalk)) → AllResultArmsAgree arms ws
         → ResultAgrees (case_result s j ja arms) (case_result_walk s w a ws)
     agrees_case_result s arms ws g = agrees_followed _ _
         (λ scope tys c h. given-at _ _ (h.0, h.1) (p.has_own scope h.0 h.1 h.3) ∙ given-at _ _ h.2 (arms_to s scope h.0 tys arms ws g h.2 h.4) ∙ ap Some (sym h.5))
         (λ scope tys c h.
-            let k = given-inv (a.own scope) (λ p. given (arms_result s scope p.0 ws tys) (λ all. Some (case_result_core p.0 p.1 all))) c h in
-            let m = given-inv (arms_result s scope k.0.0 ws tys) (λ all. Some (case_result_core k.0.0 k.0.1 all)) c k.2 in
-            (k.0.0, k.0.1, m.0, p.own_has scope k.0.0 k.0.1 k.1, arms_from s scope k.0.0 tys arms ws g m.0 m.1, sym (some-same _ _ m.2)))
+        let k = given-inv (a.own scope) (λ p. given (arms_result s scope p.0 ws tys) (λ all. Some (case_result_core p.0 p.1 all))) c h in
+        let m = given-inv (arms_result s scope k.0.0 ws tys) (λ all. Some (case_result_core k.0.0 k.0.1 all)) c k.2 in
+        (k.0.0, k.0.1, m.0, p.own_has scope k.0.0 k.0.1 k.1, arms_from s scope k.0.0 tys arms ws g m.0 m.1, sym (some-same _ _ m.2)))

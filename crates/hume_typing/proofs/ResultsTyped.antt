@@ -1,5 +1,5 @@
 -- The core of a result gives outputs of their types, if no literal in it is out of range.
-use Rattle.std.proofs.Common.{◌≡◌, ℕ, List, [], ◌∷◌, ◌++◌, map, Option, Some, None, refl, ap, sym, subst, ◌∙◌, Bool, true, false, ◌||◌}
+use Rattle.std.proofs.Common.{◌≡◌, ℕ, List, [], ◌∷◌, ◌++◌, map, Option, Some, None, ap, sym, subst, ◌∙◌, Bool, false, ◌||◌}
 use Rattle.std.specs.List.{list_any}
 use Rattle.std.proofs.lemmas.Bool.{or_parts}
 use Rattle.std.proofs.lemmas.List.{map-append}
@@ -9,12 +9,11 @@ use Rattle.hume_ast.specs.declared.tree.Exp.{Exp, roll-Exp, ind-Exp, map-Exp}
 use Rattle.hume_ast.specs.declared.tree.Exp.TheOpen.{Exp-F}
 use Rattle.hume_model.specs.declared.core_tree.Core.{Core}
 use Rattle.hume_model.specs.declared.core_tree.Expr.{Expr}
-use Rattle.hume_model.specs.declared.core_tree.Res.{Res}
-use Rattle.hume_model.specs.Typing.{HasType, IsPattern}
+use Rattle.hume_model.specs.Typing.{IsPattern}
 use Rattle.hume_model.specs.ResultTyping.{OutsHave, GivesOutputs, ArmsGiveOutputs}
 use Rattle.hume_typing.specs.Signatures.{Scope}
-use Rattle.hume_typing.specs.Typing.{Judged, typing, typing_step}
-use Rattle.hume_typing.specs.Results.{CoredRes, CoredOut, CoredResArm, AsResult, ResultArm, value_out, outs_core, let_result_core, if_result_core, case_result_core, raise_result_core, raise_with_result_core, result_arm_cores, AllOutputs, OutputsOf, leaf, Valued, NoOutputs, star_result, tuple_result, plain_result, followed, raise_result, raise_with_result, let_result, if_result, ArmsResult, case_result, result_arm_with, result_step, result_level, as_result}
+use Rattle.hume_typing.specs.Typing.{Judged, typing}
+use Rattle.hume_typing.specs.Results.{CoredRes, CoredOut, CoredResArm, AsResult, ResultArm, outs_core, let_result_core, if_result_core, case_result_core, raise_result_core, raise_with_result_core, result_arm_cores, AllOutputs, OutputsOf, leaf, Valued, NoOutputs, star_result, tuple_result, plain_result, followed, raise_result, raise_with_result, let_result, if_result, ArmsResult, case_result, result_arm_with, result_step, as_result}
 use Rattle.hume_typing.specs.CoreSignatures.{scope_types, HasSignatures}
 use Rattle.hume_typing.specs.declared.signatures.Signatures.{Signatures}
 use Rattle.hume_typing.proofs.TypingLevels.{typing_roll}
@@ -103,7 +102,7 @@ module _ (s : Signatures) (core : Core) (of : HasSignatures s core) where
       let flags = or_parts (c.0.1 || c.1.1) (some_arm_wide cs) off in
       let two = or_parts c.0.1 c.1.1 flags.0 in
       let p : IsPattern core.types u c.0.0 (scope_types h.0) =
-          subst (λ types. IsPattern types u c.0.0 (scope_types h.0)) (sym of.types) (pattern_typed s arm.pat u (h.0, c.0) h.1 two.0) in
+      subst (λ types. IsPattern types u c.0.0 (scope_types h.0)) (sym of.types) (pattern_typed s arm.pat u (h.0, c.0) h.1 two.0) in
       let body = subst (λ vars. GivesOutputs core tys vars c.1.0) (map-append (λ (v : List ℕ × Ty). v.1) scope h.0) (g.0.result (scope ++ h.0) tys c.1 h.2 two.1) in
       ArmsGiveOutputs.one_arm p body (arms_give scope u tys arms g.1 cs h.3 flags.1)
   arms_give scope u tys (arm ∷ arms) g [] h off = absurd h
@@ -112,7 +111,7 @@ module _ (s : Signatures) (core : Core) (of : HasSignatures s core) where
     value_leads : AllLead (Valued j)
     value_leads scope t out h off outs tys others =
         subst (λ (o : CoredOut). OutsHave core (scope_types scope) (o.0 ∷ outs) (t ∷ tys)) (sym h.2)
-            (OutsHave.value (w.checked scope t h.0 h.1 (ap (λ (o : CoredOut). o.1) (sym h.2) ∙ off)) others)
+        (OutsHave.value (w.checked scope t h.0 h.1 (ap (λ (o : CoredOut). o.1) (sym h.2) ∙ off)) others)
 
     sound_plain : IsSoundResult (plain_result j)
     sound_plain = sound_leaf (Valued j) NoOutputs value_leads no_outs
@@ -136,7 +135,7 @@ module _ (s : Signatures) (core : Core) (of : HasSignatures s core) where
       sound_let name r q = sound_followed _ (λ scope tys c h. shown scope tys c (let_result_core h.1 h.2) h.5 (λ off.
           let flags = or_parts h.1.1 h.2.1 off in
           GivesOutputs.binding h.0 (p.has scope h.0 h.1 h.3 flags.0)
-              (subst (λ vars. GivesOutputs core tys vars h.2.0) (one_more scope name h.0) (q.result (scope ++ (name, h.0) ∷ []) tys h.2 h.4 flags.1))))
+          (subst (λ vars. GivesOutputs core tys vars h.2.0) (one_more scope name h.0) (q.result (scope ++ (name, h.0) ∷ []) tys h.2 h.4 flags.1))))
 
       sound_if : (r q : AsResult) → IsSoundResult r → IsSoundResult q → IsSoundResult (if_result j a r q)
       sound_if r q rs qs = sound_followed _ (λ scope tys c h. shown scope tys c (if_result_core h.0 h.1 h.2) h.6 (λ off.

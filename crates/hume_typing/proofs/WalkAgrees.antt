@@ -1,12 +1,12 @@
 -- The walk finds exactly what is said of an expression.
-use Rattle.std.proofs.Common.{◌≡◌, ℕ, List, [], ◌∷◌, map, Option, Some, None, refl, ap, sym, subst, ◌∙◌}
+use Rattle.std.proofs.Common.{◌≡◌, List, [], ◌∷◌, map, Some, None, refl, ap, sym, subst, ◌∙◌}
 use Rattle.hume_base.specs.declared.types.Ty.{Ty}
 use Rattle.hume_ast.specs.declared.tree.Pat.{Pat}
 use Rattle.hume_ast.specs.declared.tree.Exp.{Exp, roll-Exp, fold-roll-Exp, ind-Exp, map-Exp}
 use Rattle.hume_ast.specs.declared.tree.Exp.TheOpen.{Exp-F}
 use Rattle.hume_typing.specs.Signatures.{Scope}
 use Rattle.hume_typing.specs.Cores.{Cored}
-use Rattle.hume_typing.specs.Typing.{Judged, arm_with, typing, typing_step, HasByItself, IsCheckedAgainst}
+use Rattle.hume_typing.specs.Typing.{arm_with, typing, typing_step, HasByItself, IsCheckedAgainst}
 use Rattle.hume_typing.specs.inner.Walk.{Walk, walk, walk_step}
 use Rattle.hume_typing.specs.declared.signatures.Signatures.{Signatures}
 use Rattle.hume_typing.proofs.Maybe.{some-same}

@@ -1,5 +1,5 @@
 -- When a core is one of signatures.
-use Rattle.std.specs.Prelude.{◌≡◌, ℕ, List, map, Option, Some, slice_get}
+use Rattle.std.specs.Prelude.{◌≡◌, ℕ, List, map, Some, slice_get}
 use Rattle.hume_base.specs.declared.types.Ty.{Ty}
 use Rattle.hume_model.specs.declared.core_tree.FunC.{FunC}
 use Rattle.hume_model.specs.declared.core_tree.Core.{Core}

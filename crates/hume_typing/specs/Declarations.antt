@@ -33,9 +33,11 @@ InPlaces Belongs _ _ = ⊥
 abbrev pub CoredEquation : Type 0
 CoredEquation = EqC × Bool
 
+-- the same of a rule
 abbrev pub CoredRule : Type 0
 CoredRule = RuleC × Bool
 
+-- the same of a handler
 abbrev pub CoredHandler : Type 0
 CoredHandler = HandC × Bool
 
@@ -43,15 +45,20 @@ CoredHandler = HandC × Bool
 abbrev pub some_so : {A : Type 0} → List (A × Bool) → Bool
 some_so cs = list_any (λ c. c.1) cs
 
--- an equation as it is written: its name, its patterns and its body
-abbrev pub Equation : Type 0
-Equation = List ℕ × List Pat × Exp
+-- the cores alone
+abbrev pub cores_alone : {A : Type 0} → List (A × Bool) → List A
+cores_alone cs = map (λ c. c.0) cs
 
+-- an equation as it is written: its name, its patterns and its body
+abbrev pub WrittenEquation : Type 0
+WrittenEquation = List ℕ × List Pat × Exp
+
+-- the core of an equation
 abbrev pub equation_core : List CoredPat → Cored → CoredEquation
 equation_core pats body = (record { pats = pat_cores pats; body = body.0 }, some_pat_too_wide pats || body.1)
 
 -- the equation has patterns for the parameters, and its body is checked against what the function gives
-pub record IsEquation (signatures : Signatures) (signature : Signature) (equation : Equation) (c : CoredEquation) : Type 0 where
+pub record IsEquation (signatures : Signatures) (signature : Signature) (equation : WrittenEquation) (c : CoredEquation) : Type 0 where
   pub vars : Scope
   pub pats : List CoredPat
   pub body : Cored
@@ -60,14 +67,15 @@ pub record IsEquation (signatures : Signatures) (signature : Signature) (equatio
   pub is : c ≡ equation_core pats body
 
 -- a rule as it is written: what stands at its positions, and its result
-abbrev pub Rule : Type 0
-Rule = List Pat × Exp
+abbrev pub WrittenRule : Type 0
+WrittenRule = List Pat × Exp
 
+-- the core of a rule
 abbrev pub rule_core : List CoredPosition → CoredRes → CoredRule
-rule_core pats result = (record { pats = map (λ (position : CoredPosition). position.0) pats; result = result.0 }, some_so pats || result.1)
+rule_core pats result = (record { pats = cores_alone pats; result = result.0 }, some_so pats || result.1)
 
 -- the rule has positions for the inputs, and its result is one for the outputs
-pub record IsRule (signatures : Signatures) (ins outs : List Ty) (rule : Rule) (c : CoredRule) : Type 0 where
+pub record IsRule (signatures : Signatures) (ins outs : List Ty) (rule : WrittenRule) (c : CoredRule) : Type 0 where
   pub vars : Scope
   pub pats : List CoredPosition
   pub result : CoredRes
@@ -76,8 +84,8 @@ pub record IsRule (signatures : Signatures) (ins outs : List Ty) (rule : Rule) (
   pub is : c ≡ rule_core pats result
 
 -- a handler as it is written: its exception, what it says of what the exception carries, and its result
-abbrev pub Handler : Type 0
-Handler = List ℕ × Option Pat × Exp
+abbrev pub WrittenHandler : Type 0
+WrittenHandler = List ℕ × Option Pat × Exp
 
 -- a name binds what is carried, and `_` doesn't
 abbrev pub carried_layer : Ty → Pat-F Pat → Option (Scope × Bool)
@@ -92,11 +100,12 @@ carried_vars None (Some pat) = None
 carried_vars (Some carried) None = None
 carried_vars (Some carried) (Some pat) = carried_layer carried (out-Pat pat)
 
+-- the core of a handler for the exception of the number
 abbrev pub handler_core : ℕ → Bool → CoredRes → CoredHandler
 handler_core number bound result = (record { exn = number; bound = bound; result = result.0 }, result.1)
 
 -- the handler is for an exception that there is, and its result is one for the outputs
-pub record IsHandler (signatures : Signatures) (outs : List Ty) (handler : Handler) (c : CoredHandler) : Type 0 where
+pub record IsHandler (signatures : Signatures) (outs : List Ty) (handler : WrittenHandler) (c : CoredHandler) : Type 0 where
   pub number : ℕ
   pub exn : ExnDef
   pub vars : Scope
@@ -115,21 +124,23 @@ parted (ty ∷ next ∷ tys) = given (parted (next ∷ tys)) (λ others. Some (t
 
 -- the signature that is written
 abbrev pub signature_written : Types → List ℕ → List TyExp → Option Signature
-signature_written types name tys = given (all_written types tys) (λ all. given (parted all) (λ p. Some (record { name = name; params = p.0; gives = p.1 })))
+signature_written types name tys =
+    given (all_written types tys) (λ all. given (parted all) (λ p. Some (record { name = name; params = p.0; gives = p.1 })))
 
 -- the types of inputs or outputs that are written
 abbrev pub ports_written : Types → List (List ℕ × TyExp) → Option (List Ty)
 ports_written types ports = all_there (map (λ (port : List ℕ × TyExp). written types port.1) ports)
 
 -- the function has the cores in the places of its equations
-pub record IsFunction (signatures : Signatures) (name : List ℕ) (tys : List TyExp) (equations : List Equation) (cs : List CoredEquation) : Type 0 where
+pub record IsFunction (signatures : Signatures) (name : List ℕ) (tys : List TyExp) (equations : List WrittenEquation)
+    (cs : List CoredEquation) : Type 0 where
   pub signature : Signature
   pub is_written : signature_written signatures.types name tys ≡ Some signature
   pub have : InPlaces (IsEquation signatures signature) equations cs
 
 -- the box has the cores in the places of its rules and of its handlers
-pub record IsBox (signatures : Signatures) (inputs outputs : List (List ℕ × TyExp)) (rules : List Rule) (handlers : List Handler) (rs : List CoredRule)
-    (hs : List CoredHandler) : Type 0 where
+pub record IsBox (signatures : Signatures) (inputs outputs : List (List ℕ × TyExp)) (rules : List WrittenRule) (handlers : List WrittenHandler)
+    (rs : List CoredRule) (hs : List CoredHandler) : Type 0 where
   pub ins : List Ty
   pub outs : List Ty
   pub inputs_are : ports_written signatures.types inputs ≡ Some ins

@@ -1,5 +1,5 @@
 -- Patterns against the types of what they match.
-use Rattle.std.specs.Prelude.{ℕ, ◌^◌, ◌==◌, ◌&&◌, ◌||◌, nat_lt, nat_le, not, Bool, true, false, ℤ, pos, neg_ℤ, List, [], ◌∷◌, ◌++◌, map, Option, Some, None, if◌then◌else◌}
+use Rattle.std.specs.Prelude.{ℕ, ◌^◌, ◌==◌, ◌&&◌, not, Bool, true, false, ℤ, pos, neg_ℤ, List, [], ◌∷◌, ◌++◌, map, Option, Some, None, if◌then◌else◌}
 use Rattle.std.specs.Int.RustNames.{int_le, int_lt}
 use Rattle.std.specs.List.{list_any}
 use Rattle.hume_base.specs.declared.types.Ty.{Ty, out-Ty}
@@ -38,17 +38,21 @@ is_too_wide negative amount ty = not (is_number_of (literal_number negative amou
 abbrev pub is_no_char : ℕ → Bool
 is_no_char byte = not (is_char_word byte)
 
+-- the word of `true` or `false`
 abbrev pub word_of_truth : Bool → ℕ
 word_of_truth truth = if truth then 1 else 0
 
+-- the type is `bool`
 abbrev pub is_bool : Ty-F Ty → Bool
 is_bool Ty-F.Bool = true
 is_bool _ = false
 
+-- the type is `char`
 abbrev pub is_char : Ty-F Ty → Bool
 is_char Ty-F.Char = true
 is_char _ = false
 
+-- the type is the data type of the number
 abbrev pub is_named : ℕ → Ty-F Ty → Bool
 is_named number (Ty-F.Named other) = number == other
 is_named number _ = false
@@ -57,9 +61,11 @@ is_named number _ = false
 abbrev pub CoredPat : Type 0
 CoredPat = PatC × Bool
 
+-- the cores alone
 abbrev pub pat_cores : List CoredPat → List PatC
 pat_cores cores = map (λ c. c.0) cores
 
+-- a literal in one of them is out of range
 abbrev pub some_pat_too_wide : List CoredPat → Bool
 some_pat_too_wide cores = list_any (λ c. c.1) cores
 
@@ -74,14 +80,17 @@ all_bound [] (ty ∷ tys) = None
 all_bound (pat ∷ pats) [] = None
 all_bound (pat ∷ pats) (ty ∷ tys) = given (pat ty) (λ first. given (all_bound pats tys) (λ others. Some (first.0 ++ others.0, first.1 ∷ others.1)))
 
+-- patterns against the parts of a tuple
 abbrev pub tuple_bound : List (Ty → Option Bound) → Ty-F Ty → Option Bound
 tuple_bound pats (Ty-F.Tuple tys) = given (all_bound pats tys) (λ all. Some (all.0, (Tuple (pat_cores all.1), some_pat_too_wide all.1)))
 tuple_bound pats _ = None
 
+-- patterns against the fields of a constructor, if the type is its data type
 abbrev pub con_bound : Option Constructor → List (Ty → Option Bound) → Ty → Option Bound
 con_bound None pats ty = None
 con_bound (Some con) pats ty =
-    when (is_named con.sum (out-Ty ty)) (given (all_bound pats con.fields) (λ all. Some (all.0, (Con con.place (pat_cores all.1), some_pat_too_wide all.1))))
+    when (is_named con.sum (out-Ty ty)) (given (all_bound pats con.fields) (λ all.
+    Some (all.0, (Con con.place (pat_cores all.1), some_pat_too_wide all.1))))
 
 -- one level of a pattern, against the type of what it matches
 abbrev pub pattern_step : Signatures → Pat-F (Ty → Option Bound) → Ty → Option Bound
@@ -109,6 +118,7 @@ patterns signatures pats tys = all_bound (map (pattern signatures) pats) tys
 abbrev pub CoredPosition : Type 0
 CoredPosition = InPat × Bool
 
+-- a pattern at a position
 abbrev pub built : Option Bound → Option (Scope × CoredPosition)
 built bound = given bound (λ b. Some (b.0, (in_pat.Built b.1.0, b.1.1)))
 

@@ -1,5 +1,5 @@
 -- Which results of rules and handlers have which core, by the types of the outputs.
-use Rattle.std.specs.Prelude.{◌≡◌, ℕ, ◌||◌, Bool, true, false, List, [], ◌∷◌, ◌++◌, map, Option, Some, None}
+use Rattle.std.specs.Prelude.{◌≡◌, ℕ, ◌||◌, Bool, false, List, [], ◌∷◌, ◌++◌, map, Option, Some, None}
 use Rattle.std.specs.List.{list_any}
 use Rattle.hume_base.specs.declared.types.Ty.{Ty, Bool as BoolTy}
 use Rattle.hume_ast.specs.declared.tree.Pat.{Pat}
@@ -26,30 +26,39 @@ CoredOut = Option Expr × Bool
 abbrev pub CoredResArm : Type 0
 CoredResArm = CoredPat × CoredRes
 
+-- `*`
 abbrev pub absent_out : CoredOut
 absent_out = (None, false)
 
+-- an output that is there
 abbrev pub value_out : Cored → CoredOut
 value_out c = (Some c.0, c.1)
 
+-- the outputs of a leaf
 abbrev pub outs_core : List CoredOut → CoredRes
 outs_core outs = (Outs (map (λ out. out.0) outs), list_any (λ out. out.1) outs)
 
+-- `let`
 abbrev pub let_result_core : Cored → CoredRes → CoredRes
 let_result_core part body = (Let part.0 body.0, part.1 || body.1)
 
+-- `if`
 abbrev pub if_result_core : Cored → CoredRes → CoredRes → CoredRes
 if_result_core test when_true when_false = (If test.0 when_true.0 when_false.0, test.1 || (when_true.1 || when_false.1))
 
+-- the alternatives alone
 abbrev pub result_arm_cores : List CoredResArm → List (PatC × Res)
 result_arm_cores arms = map (λ arm. (arm.0.0, arm.1.0)) arms
 
+-- `case`, with the type of what is matched
 abbrev pub case_result_core : Ty → Cored → List CoredResArm → CoredRes
 case_result_core ty part arms = (Case part.0 ty (result_arm_cores arms), part.1 || list_any (λ arm. arm.0.1 || arm.1.1) arms)
 
+-- an exception by its number
 abbrev pub raise_result_core : ℕ → CoredRes
 raise_result_core exn = (Raise exn None, false)
 
+-- an exception with what it carries
 abbrev pub raise_with_result_core : ℕ → Cored → CoredRes
 raise_with_result_core exn part = (Raise exn (Some part.0), part.1)
 
@@ -88,15 +97,19 @@ leaf Output Outputs = record {
 abbrev pub Valued : Judged → Scope → Ty → CoredOut → Type 0
 Valued j scope ty out = (c : Cored) × j.checked scope ty c × (out ≡ value_out c)
 
+-- an expression without parts that are outputs
 abbrev pub NoOutputs : Scope → List Ty → List CoredOut → Type 0
 NoOutputs scope tys outs = ⊥
 
+-- `*` is an output of any type
 abbrev pub star_result : AsResult
 star_result = leaf (λ scope ty out. out ≡ absent_out) NoOutputs
 
+-- a tuple is one output, or its parts are the outputs
 abbrev pub tuple_result : Judged → List AsResult → AsResult
 tuple_result j parts = leaf (Valued j) (λ scope tys outs. AllOutputs scope parts tys outs)
 
+-- any other leaf is one output
 abbrev pub plain_result : Judged → AsResult
 plain_result j = leaf (Valued j) NoOutputs
 
@@ -104,33 +117,42 @@ plain_result j = leaf (Valued j) NoOutputs
 abbrev pub followed : Judged → (Scope → List Ty → CoredRes → Type 0) → AsResult
 followed j result = record { result = result; output = Valued j; outputs = NoOutputs }
 
+-- a `raise` is a result for any outputs
 abbrev pub raise_result : Signatures → List ℕ → Judged → AsResult
 raise_result signatures name j = followed j (λ scope tys c. (number : ℕ) × RaisedAlone signatures name number × (c ≡ raise_result_core number))
 
+-- so is one with what the exception carries
 abbrev pub raise_with_result : Signatures → List ℕ → Judged → Judged → AsResult
 raise_with_result signatures name j a = followed j (λ scope tys c.
     (number : ℕ) × (part : Cored) × RaisedWith signatures name a scope number part × (c ≡ raise_with_result_core number part))
 
+-- `let name = a in b`, of which b is the result
 abbrev pub let_result : Judged → List ℕ → Judged → AsResult → AsResult
 let_result j name a b = followed j (λ scope tys c.
-    (of : Ty) × (part : Cored) × (body : CoredRes) × a.has scope of part × b.result (scope ++ (name, of) ∷ []) tys body × (c ≡ let_result_core part body))
+    (of : Ty) × (part : Cored) × (body : CoredRes) × a.has scope of part × b.result (scope ++ (name, of) ∷ []) tys body
+    × (c ≡ let_result_core part body))
 
+-- `if`, of which both branches are results
 abbrev pub if_result : Judged → Judged → AsResult → AsResult → AsResult
 if_result j test a b = followed j (λ scope tys c.
-    (t : Cored) × (when_true : CoredRes) × (when_false : CoredRes) × test.checked scope BoolTy t × a.result scope tys when_true × b.result scope tys when_false
-    × (c ≡ if_result_core t when_true when_false))
+    (t : Cored) × (when_true : CoredRes) × (when_false : CoredRes) × test.checked scope BoolTy t × a.result scope tys when_true
+    × b.result scope tys when_false × (c ≡ if_result_core t when_true when_false))
 
 -- the alternatives' patterns are checked against the type of what they match, and their bodies are results
 abbrev pub ArmsResult : Signatures → Scope → Ty → List ResultArm → List Ty → List CoredResArm → Type 0
 ArmsResult signatures scope of [] tys [] = Unit {0}
 ArmsResult signatures scope of (arm ∷ arms) tys (c ∷ cs) =
-    (vars : Scope) × (pattern signatures arm.pat of ≡ Some (vars, c.0)) × arm.body.result (scope ++ vars) tys c.1 × ArmsResult signatures scope of arms tys cs
+    (vars : Scope) × (pattern signatures arm.pat of ≡ Some (vars, c.0)) × arm.body.result (scope ++ vars) tys c.1
+    × ArmsResult signatures scope of arms tys cs
 ArmsResult signatures scope of _ tys _ = ⊥
 
+-- `case`, of which the bodies of all alternatives are results
 abbrev pub case_result : Signatures → Judged → Judged → List ResultArm → AsResult
 case_result signatures j a arms = followed j (λ scope tys c.
-    (of : Ty) × (part : Cored) × (cs : List CoredResArm) × a.has scope of part × ArmsResult signatures scope of arms tys cs × (c ≡ case_result_core of part cs))
+    (of : Ty) × (part : Cored) × (cs : List CoredResArm) × a.has scope of part × ArmsResult signatures scope of arms tys cs
+    × (c ≡ case_result_core of part cs))
 
+-- an alternative, by what is said of its body
 abbrev pub result_arm_with : (X : Type 0) → (X → AsResult) → Pat × X → ResultArm
 result_arm_with X k arm = record { pat = arm.0; body = k arm.1 }
 
@@ -146,6 +168,7 @@ result_step signatures X v k j (Exp-F.Tuple parts) = tuple_result j (map k parts
 result_step signatures X v k j Exp-F.Star = star_result
 result_step signatures X v k j _ = plain_result j
 
+-- one level of an expression
 abbrev pub result_level : Signatures → (X : Type 0) → (X → Exp) → (X → AsResult) → Exp-F X → AsResult
 result_level signatures X v k x = result_step signatures X v k (typing_step signatures X v (λ part. typing signatures (v part)) x) x
 

@@ -42,6 +42,7 @@ first_or_further (Some found) further = Some (record { sum = 0; place = found.0;
 first_or_further None None = None
 first_or_further None (Some con) = Some (record { sum = con.sum + 1; place = con.place; fields = con.fields })
 
+-- the constructor of the first data type that has one of the name
 abbrev pub con_among : List ℕ → List SumDef → Option Constructor
 con_among name [] = None
 con_among name (sum ∷ sums) = first_or_further (first_named (λ (con : ConDef). con.name) name sum.cons) (con_among name sums)
@@ -54,6 +55,7 @@ con_named name signatures = con_among name signatures.types.sums
 abbrev pub Scope : Type 0
 Scope = List (List ℕ × Ty)
 
+-- a variable further inside, or this one if it has the name
 abbrev pub inner_or_this : {A : Type 0} → List ℕ → List ℕ × A → Option (ℕ × A) → Option (ℕ × A)
 inner_or_this name variable (Some found) = Some (found.0 + 1, found.1)
 inner_or_this name variable None = if bytes_eq variable.0 name then Some (0, variable.1) else None

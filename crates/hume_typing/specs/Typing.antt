@@ -1,5 +1,5 @@
 -- Which types an expression has, and with which core: a row for each form.
-use Rattle.std.specs.Prelude.{◌≡◌, ℕ, ◌&&◌, Bool, true, false, List, [], ◌∷◌, ◌++◌, length, map, Option, Some, None}
+use Rattle.std.specs.Prelude.{◌≡◌, ℕ, ◌&&◌, Bool, true, false, List, [], ◌∷◌, ◌++◌, length, map, Some, None}
 use Rattle.hume_base.specs.declared.types.Ty.{Ty, Bool as BoolTy, Char as CharTy, Int, Tuple as TupleTy, Vector as VectorTy, Named as NamedTy}
 use Rattle.hume_ast.specs.declared.tree.BinOp.{BinOp}
 use Rattle.hume_ast.specs.declared.tree.BinOp.TheVariants as sign
@@ -59,6 +59,7 @@ EachChecked scope [] ty [] = Unit {0}
 EachChecked scope (part ∷ parts) ty (c ∷ cs) = part.checked scope ty c × EachChecked scope parts ty cs
 EachChecked scope _ ty _ = ⊥
 
+-- the first statement or the second one
 abbrev pub either_type : Bool → Type 0 → Type 0 → Type 0
 either_type true A B = A
 either_type false A B = B
@@ -68,27 +69,34 @@ abbrev pub FirstType : List Judged → Scope → Ty → Type 0
 FirstType [] scope ty = ty ≡ int32
 FirstType (part ∷ parts) scope ty = either_type part.is_open (FirstType parts scope ty) ((c : Cored) × part.has scope ty c)
 
+-- a number literal is of any `int` or `nat`
 abbrev pub literal_typing : Bool → ℕ → Judged
 literal_typing negative amount = opened (λ scope ty c. (is_number_type ty ≡ true) × (c ≡ literal_core negative amount ty))
 
+-- a letter is a `char`
 abbrev pub letter_typing : ℕ → Judged
 letter_typing byte = closed (λ scope ty c. (ty ≡ CharTy) × (c ≡ letter_core byte))
 
+-- `true` and `false` are `bool`
 abbrev pub truth_typing : Bool → Judged
 truth_typing truth = closed (λ scope ty c. (ty ≡ BoolTy) × (c ≡ truth_core truth))
 
+-- the first part has a type by itself, and the body is said of it
 abbrev pub Binding : List ℕ → Judged → (Scope → Ty → Cored → Type 0) → Scope → Ty → Cored → Type 0
-Binding name a Body scope ty c = (of : Ty) × (part : Cored) × (body : Cored) × a.has scope of part × Body (scope ++ (name, of) ∷ []) ty body × (c ≡ let_core part body)
+Binding name a Body scope ty c =
+    (of : Ty) × (part : Cored) × (body : Cored) × a.has scope of part × Body (scope ++ (name, of) ∷ []) ty body × (c ≡ let_core part body)
 
 -- `let name = a in b`: the variable has the type that a has by itself
 abbrev pub let_typing : List ℕ → Judged → Judged → Judged
 let_typing name a b = record { is_open = b.is_open; has = Binding name a b.has; checked = Binding name a b.checked }
 
+-- the test is checked against `bool`, and both branches against the type
 abbrev pub Branches : Judged → Judged → Judged → Scope → Ty → Cored → Type 0
 Branches test a b scope ty c =
-    (t : Cored) × (when_true : Cored) × (when_false : Cored) × test.checked scope BoolTy t × a.checked scope ty when_true × b.checked scope ty when_false
-    × (c ≡ if_core t when_true when_false)
+    (t : Cored) × (when_true : Cored) × (when_false : Cored) × test.checked scope BoolTy t × a.checked scope ty when_true
+    × b.checked scope ty when_false × (c ≡ if_core t when_true when_false)
 
+-- `if test then a else b`
 abbrev pub if_typing : Judged → Judged → Judged → Judged
 if_typing test a b = record {
   is_open = a.is_open && b.is_open;
@@ -100,7 +108,8 @@ if_typing test a b = record {
 abbrev pub ArmsChecked : Signatures → Scope → Ty → List Arm → Ty → List CoredArm → Type 0
 ArmsChecked signatures scope of [] ty [] = Unit {0}
 ArmsChecked signatures scope of (arm ∷ arms) ty (c ∷ cs) =
-    (vars : Scope) × (pattern signatures arm.pat of ≡ Some (vars, c.0)) × arm.body.checked (scope ++ vars) ty c.1 × ArmsChecked signatures scope of arms ty cs
+    (vars : Scope) × (pattern signatures arm.pat of ≡ Some (vars, c.0)) × arm.body.checked (scope ++ vars) ty c.1
+    × ArmsChecked signatures scope of arms ty cs
 ArmsChecked signatures scope of _ ty _ = ⊥
 
 -- the body of the alternative has the type by itself
@@ -114,15 +123,17 @@ FirstArmType signatures scope of [] ty = ty ≡ int32
 FirstArmType signatures scope of (arm ∷ arms) ty =
     either_type arm.body.is_open (FirstArmType signatures scope of arms ty) (ArmHas signatures scope of arm ty)
 
+-- the bodies of all alternatives are open
 abbrev pub all_arms_open : List Arm → Bool
 all_arms_open [] = true
 all_arms_open (arm ∷ arms) = arm.body.is_open && all_arms_open arms
 
+-- what is matched has its type by itself, and the alternatives are checked against both types
 abbrev pub Alternatives : Signatures → Judged → List Arm → Scope → Ty → Ty → Cored → Type 0
 Alternatives signatures a arms scope of ty c =
     (part : Cored) × (cs : List CoredArm) × a.has scope of part × ArmsChecked signatures scope of arms ty cs × (c ≡ case_core of part cs)
 
--- what is matched has its type by itself
+-- `case`: what is matched has its type by itself
 abbrev pub case_typing : Signatures → Judged → List Arm → Judged
 case_typing signatures a arms = record {
   is_open = all_arms_open arms;
@@ -134,6 +145,7 @@ case_typing signatures a arms = record {
 abbrev pub RaisedAlone : Signatures → List ℕ → ℕ → Type 0
 RaisedAlone signatures name number = (exn : ExnDef) × (exn_named name signatures ≡ Some (number, exn)) × (exn.carries ≡ None)
 
+-- `raise name`
 abbrev pub raise_typing : Signatures → List ℕ → Judged
 raise_typing signatures name = opened (λ scope ty c. (number : ℕ) × RaisedAlone signatures name number × (c ≡ raise_core number))
 
@@ -142,15 +154,18 @@ abbrev pub RaisedWith : Signatures → List ℕ → Judged → Scope → ℕ →
 RaisedWith signatures name a scope number part =
     (exn : ExnDef) × (carried : Ty) × (exn_named name signatures ≡ Some (number, exn)) × (exn.carries ≡ Some carried) × a.checked scope carried part
 
+-- `raise name a`
 abbrev pub raise_with_typing : Signatures → List ℕ → Judged → Judged
 raise_with_typing signatures name a =
     opened (λ scope ty c. (number : ℕ) × (part : Cored) × RaisedWith signatures name a scope number part × (c ≡ raise_with_core number part))
 
+-- both operands are checked against the type, which is one of numbers
 abbrev pub Arithmetic : Op → Judged → Judged → Scope → Ty → Cored → Type 0
 Arithmetic operation a b scope ty c =
     (left : Cored) × (right : Cored) × (is_number_type ty ≡ true) × a.checked scope ty left × b.checked scope ty right
     × (c ≡ operation_core operation ty left right)
 
+-- `+`, `-`, `*`, `div` and `mod`
 abbrev pub arithmetic_typing : Op → Judged → Judged → Judged
 arithmetic_typing operation a b = record {
   is_open = a.is_open && b.is_open;
@@ -158,6 +173,7 @@ arithmetic_typing operation a b = record {
   checked = Arithmetic operation a b;
 }
 
+-- the operands are checked against the type of the first one that isn't open
 abbrev pub comparison_typing : Op → Judged → Judged → Judged
 comparison_typing operation a b = closed (λ scope ty c.
     (of : Ty) × (left : Cored) × (right : Cored) × (ty ≡ BoolTy) × FirstType (a ∷ b ∷ []) scope of × (is_comparison operation of ≡ true)
@@ -168,12 +184,15 @@ abbrev pub logic_typing : (Cored → Cored → Cored) → Judged → Judged → 
 logic_typing core a b = closed (λ scope ty c.
     (left : Cored) × (right : Cored) × (ty ≡ BoolTy) × a.checked scope BoolTy left × b.checked scope BoolTy right × (c ≡ core left right))
 
+-- `not a`
 abbrev pub not_typing : Judged → Judged
 not_typing a = closed (λ scope ty c. (part : Cored) × (ty ≡ BoolTy) × a.checked scope BoolTy part × (c ≡ not_core part))
 
+-- the operand is of the type, which is one of numbers
 abbrev pub Negation : (Scope → Ty → Cored → Type 0) → Scope → Ty → Cored → Type 0
 Negation Part scope ty c = (part : Cored) × (is_number_type ty ≡ true) × Part scope ty part × (c ≡ neg_core ty part)
 
+-- `- a`
 abbrev pub neg_typing : Judged → Judged
 neg_typing a = record { is_open = a.is_open; has = Negation a.has; checked = Negation a.checked }
 
@@ -183,10 +202,12 @@ index_typing a b = closed (λ scope ty c.
     (count : ℕ) × (of : Ty) × (vector : Cored) × (place : Cored) × a.has scope (VectorTy count ty) vector × b.has scope of place
     × (is_number_type of ≡ true) × (c ≡ index_core count vector place))
 
+-- the vector is of the type, the place is a number, and the new element is checked against the type of the elements
 abbrev pub Updated : (Scope → Ty → Cored → Type 0) → Judged → Judged → Scope → Ty → Cored → Type 0
 Updated Vector b d scope ty c =
-    (count : ℕ) × (item : Ty) × (of : Ty) × (vector : Cored) × (place : Cored) × (new_item : Cored) × (ty ≡ VectorTy count item) × Vector scope ty vector
-    × b.has scope of place × (is_number_type of ≡ true) × d.checked scope item new_item × (c ≡ update_core count vector place new_item)
+    (count : ℕ) × (item : Ty) × (of : Ty) × (vector : Cored) × (place : Cored) × (new_item : Cored) × (ty ≡ VectorTy count item)
+    × Vector scope ty vector × b.has scope of place × (is_number_type of ≡ true) × d.checked scope item new_item
+    × (c ≡ update_core count vector place new_item)
 
 -- `update a b d`
 abbrev pub update_typing : Judged → Judged → Judged → Judged
@@ -195,8 +216,8 @@ update_typing a b d = record { is_open = false; has = Updated a.has b d; checked
 -- `(a as type)`
 abbrev pub cast_typing : Signatures → Judged → TyExp → Judged
 cast_typing signatures a type = closed (λ scope ty c.
-    (of : Ty) × (part : Cored) × (written signatures.types type ≡ Some ty) × (is_number_type ty ≡ true) × a.has scope of part × (is_number_type of ≡ true)
-    × (c ≡ convert_core ty part))
+    (of : Ty) × (part : Cored) × (written signatures.types type ≡ Some ty) × (is_number_type ty ≡ true) × a.has scope of part
+    × (is_number_type of ≡ true) × (c ≡ convert_core ty part))
 
 -- a small name: a variable where it stands alone, else a function
 abbrev pub app_typing : Signatures → List ℕ → List Judged → Judged
@@ -205,11 +226,13 @@ app_typing signatures name (part ∷ parts) = closed (λ scope ty c.
     (number : ℕ) × (function : Signature) × (cs : List Cored) × (fun_named name signatures ≡ Some (number, function)) × (ty ≡ function.gives)
     × AllChecked scope (part ∷ parts) function.params cs × (c ≡ call_core number cs))
 
+-- a constructor, of which the fields are checked against their types
 abbrev pub con_typing : Signatures → List ℕ → List Judged → Judged
 con_typing signatures name parts = closed (λ scope ty c.
     (con : Constructor) × (cs : List Cored) × (con_named name signatures ≡ Some con) × (ty ≡ NamedTy con.sum) × AllChecked scope parts con.fields cs
     × (c ≡ con_core con.place cs))
 
+-- a tuple: its parts by themselves, or against the parts of the type
 abbrev pub tuple_typing : List Judged → Judged
 tuple_typing parts = record {
   is_open = false;
@@ -217,9 +240,11 @@ tuple_typing parts = record {
   checked = λ scope ty c. (tys : List Ty) × (cs : List Cored) × (ty ≡ TupleTy tys) × AllChecked scope parts tys cs × (c ≡ tuple_core cs);
 }
 
+-- the elements are checked against one type, and there are as many as the type says
 abbrev pub Elements : List Judged → Scope → Ty → Ty → Cored → Type 0
 Elements parts scope item ty c = (cs : List Cored) × (ty ≡ VectorTy (length parts) item) × EachChecked scope parts item cs × (c ≡ vector_core cs)
 
+-- a vector
 abbrev pub vector_typing : List Judged → Judged
 vector_typing parts = record {
   is_open = false;
@@ -231,6 +256,7 @@ vector_typing parts = record {
 abbrev pub star_typing : Judged
 star_typing = closed (λ scope ty c. ⊥)
 
+-- the operators between two parts
 abbrev pub binary_typing : BinOp → Judged → Judged → Judged
 binary_typing sign.Or a b = logic_typing or_core a b
 binary_typing sign.And a b = logic_typing and_core a b
@@ -247,6 +273,7 @@ binary_typing sign.Div a b = arithmetic_typing op.Div a b
 binary_typing sign.Mod a b = arithmetic_typing op.Mod a b
 binary_typing sign.At a b = index_typing a b
 
+-- an alternative, by what is said of its body
 abbrev pub arm_with : (X : Type 0) → (X → Judged) → Pat × X → Arm
 arm_with X k arm = record { pat = arm.0; body = k arm.1 }
 

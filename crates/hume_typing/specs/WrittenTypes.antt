@@ -1,5 +1,5 @@
 -- The types that are written.
-use Rattle.std.specs.Prelude.{ℕ, ◌&&◌, nat_le, Bool, List, [], ◌∷◌, map, Option, Some, None}
+use Rattle.std.specs.Prelude.{ℕ, ◌&&◌, nat_le, Bool, List, [], ◌∷◌, map, Option, Some}
 use Rattle.hume_base.specs.declared.limits.TheConstants.{MAX_WIDTH, MAX_LENGTH}
 use Rattle.hume_base.specs.declared.types.Ty.{Ty, Bool as BoolTy, Char as CharTy, Int, Nat, Vector, Named, Tuple}
 use Rattle.hume_base.specs.declared.types.Types.{Types}
@@ -13,9 +13,11 @@ abbrev pub all_there : {A : Type 0} → List (Option A) → Option (List A)
 all_there [] = Some []
 all_there (x ∷ xs) = given x (λ first. given (all_there xs) (λ others. Some (first ∷ others)))
 
+-- so many bits a number may have
 abbrev pub is_width : ℕ → Bool
 is_width bits = nat_le 1 bits && nat_le bits MAX_WIDTH
 
+-- so many elements a vector may have
 abbrev pub is_length : ℕ → Bool
 is_length count = nat_le 1 count && nat_le count MAX_LENGTH
 

@@ -4,13 +4,17 @@
 //! `Declarations.antt` say the same of patterns, of the results of rules and handlers, and of whole declarations.
 //!
 //! Nothing runs here: the functions are laws. `typing_is_unique` says that nothing has two types or two cores, and
-//! `walk_is_typing` that the walk of `specs/inner`, which code can follow, gives just that.
+//! `cores_are_typed` and `parts_are_typed` that cores have their types as `hume_model` says it. `walk_is_typing` says that the
+//! walks of `specs/inner`, which code can follow, find just these types and cores.
 //!
-//! This crate knows trees, types and the core. It doesn't know memory, names of boxes and streams, or how a type is found.
+//! This crate knows trees, types and the core. It doesn't know memory, names of boxes and streams, or how code finds a type.
 #![tactic(auto)]
 
 mod laws;
 mod signatures;
 
-pub use laws::{declaration_walk_is_typing, open_is_int32, typing_is_unique, walk_is_typing};
+pub use laws::{
+    cores_are_typed, declaration_walk_is_typing, open_is_int32, own_type_is_accepted,
+    parts_are_typed, typing_is_unique, walk_is_typing,
+};
 pub use signatures::{Signature, Signatures};

@@ -42,7 +42,8 @@ abbrev pub all_outputs : Scope → List ResultWalk → List Ty → Option (List 
 all_outputs scope [] [] = Some []
 all_outputs scope [] (ty ∷ tys) = None
 all_outputs scope (part ∷ parts) [] = None
-all_outputs scope (part ∷ parts) (ty ∷ tys) = given (part.output scope ty) (λ first. given (all_outputs scope parts tys) (λ others. Some (first ∷ others)))
+all_outputs scope (part ∷ parts) (ty ∷ tys) =
+    given (part.output scope ty) (λ first. given (all_outputs scope parts tys) (λ others. Some (first ∷ others)))
 
 abbrev pub followed_walk : Walk → (Scope → List Ty → Option CoredRes) → ResultWalk
 followed_walk w result = record { walk = w; result = result; output = valued w; outputs = no_outputs }
@@ -60,7 +61,8 @@ abbrev pub paren_result_walk : Walk → ResultWalk → ResultWalk
 paren_result_walk w a = record { walk = w; result = a.result; output = a.output; outputs = a.outputs }
 
 abbrev pub raise_result_walk : Signatures → List ℕ → Walk → ResultWalk
-raise_result_walk signatures name w = followed_walk w (λ scope tys. given (raised_alone (exn_named name signatures)) (λ number. Some (raise_result_core number)))
+raise_result_walk signatures name w = followed_walk w (λ scope tys.
+    given (raised_alone (exn_named name signatures)) (λ number. Some (raise_result_core number)))
 
 abbrev pub raise_with_result_walk : Signatures → List ℕ → Walk → Walk → ResultWalk
 raise_with_result_walk signatures name w a = followed_walk w (λ scope tys.

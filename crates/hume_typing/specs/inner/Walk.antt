@@ -1,6 +1,6 @@
 -- A walk over an expression that finds its type and its core, each part once. It is proved to give what `Typing.antt` says, and
 -- serves only code that does as it does: nobody needs to believe it.
-use Rattle.std.specs.Prelude.{ℕ, ◌&&◌, ◌==◌, Bool, true, false, List, [], ◌∷◌, ◌++◌, length, map, Option, Some, None, if◌then◌else◌}
+use Rattle.std.specs.Prelude.{ℕ, ◌&&◌, ◌==◌, Bool, true, false, List, [], ◌∷◌, ◌++◌, length, Option, Some, None, if◌then◌else◌}
 use Rattle.hume_base.specs.declared.types.Ty.{Ty, out-Ty, Bool as BoolTy, Char as CharTy, Tuple as TupleTy, Vector as VectorTy, Named as NamedTy}
 use Rattle.hume_base.specs.declared.types.Ty.TheOpen.{Ty-F}
 use Rattle.hume_ast.specs.declared.tree.BinOp.{BinOp}
@@ -108,9 +108,9 @@ arms_own signatures scope of [] = Some (int32, [])
 arms_own signatures scope of (arm ∷ arms) =
     if arm.1.is_open
     then given (arms_own signatures scope of arms) (λ others. given (pattern signatures arm.0 of) (λ bound.
-        given (arm.1.against (scope ++ bound.0) others.0) (λ body. Some (others.0, (bound.1, body) ∷ others.1))))
+    given (arm.1.against (scope ++ bound.0) others.0) (λ body. Some (others.0, (bound.1, body) ∷ others.1))))
     else given (pattern signatures arm.0 of) (λ bound. given (arm.1.own (scope ++ bound.0)) (λ body.
-        given (arms_against signatures scope of arms body.0) (λ others. Some (body.0, (bound.1, body.1) ∷ others))))
+    given (arms_against signatures scope of arms body.0) (λ others. Some (body.0, (bound.1, body.1) ∷ others))))
 
 abbrev pub arm_walks_open : List (Pat × Walk) → Bool
 arm_walks_open [] = true
@@ -120,7 +120,8 @@ abbrev pub case_walk : Signatures → Walk → List (Pat × Walk) → Walk
 case_walk signatures a arms = record {
   is_open = arm_walks_open arms;
   own = λ scope. given (a.own scope) (λ part. given (arms_own signatures scope part.0 arms) (λ all. Some (all.0, case_core part.0 part.1 all.1)));
-  against = λ scope ty. given (a.own scope) (λ part. given (arms_against signatures scope part.0 arms ty) (λ all. Some (case_core part.0 part.1 all)));
+  against = λ scope ty. given (a.own scope) (λ part.
+      given (arms_against signatures scope part.0 arms ty) (λ all. Some (case_core part.0 part.1 all)));
 }
 
 abbrev pub carries_none : ℕ → Option Ty → Option ℕ
@@ -145,7 +146,8 @@ raise_with_walk signatures name a =
 abbrev pub arithmetic_walk : Op → Walk → Walk → Walk
 arithmetic_walk operation a b = record {
   is_open = a.is_open && b.is_open;
-  own = λ scope. given (two_own a.is_open b.is_open a b scope) (λ two. when (is_number_type two.0) (Some (two.0, operation_core operation two.0 two.1 two.2)));
+  own = λ scope. given (two_own a.is_open b.is_open a b scope) (λ two.
+      when (is_number_type two.0) (Some (two.0, operation_core operation two.0 two.1 two.2)));
   against = λ scope ty. when (is_number_type ty) (given (two_against a b scope ty) (λ two. Some (operation_core operation ty two.0 two.1)));
 }
 
@@ -183,15 +185,16 @@ update_walk a b d = record {
 }
 
 abbrev pub cast_walk : Signatures → Walk → TyExp → Walk
-cast_walk signatures a type = closed_walk (λ scope. given (written signatures.types type) (λ ty. when (is_number_type ty) (given (a.own scope) (λ part.
-    when (is_number_type part.0) (Some (ty, convert_core ty part.1))))))
+cast_walk signatures a type = closed_walk (λ scope. given (written signatures.types type) (λ ty. when (is_number_type ty)
+    (given (a.own scope) (λ part. when (is_number_type part.0) (Some (ty, convert_core ty part.1))))))
 
 -- parts against the types in their places
 abbrev pub all_against : Scope → List Walk → List Ty → Option (List Cored)
 all_against scope [] [] = Some []
 all_against scope [] (ty ∷ tys) = None
 all_against scope (part ∷ parts) [] = None
-all_against scope (part ∷ parts) (ty ∷ tys) = given (part.against scope ty) (λ first. given (all_against scope parts tys) (λ others. Some (first ∷ others)))
+all_against scope (part ∷ parts) (ty ∷ tys) =
+    given (part.against scope ty) (λ first. given (all_against scope parts tys) (λ others. Some (first ∷ others)))
 
 -- parts by themselves
 abbrev pub all_own : Scope → List Walk → Option (List Ty × List Cored)
@@ -231,7 +234,8 @@ abbrev pub vector_walk : List Walk → Walk
 vector_walk parts = record {
   is_open = false;
   own = λ scope. given (each_own scope parts) (λ all. Some (VectorTy (length parts) all.0, vector_core all.1));
-  against = λ scope ty. given (vector_parts ty) (λ of. when (length parts == of.0) (given (each_against scope parts of.1) (λ cs. Some (vector_core cs))));
+  against = λ scope ty. given (vector_parts ty) (λ of.
+      when (length parts == of.0) (given (each_against scope parts of.1) (λ cs. Some (vector_core cs))));
 }
 
 abbrev pub star_walk : Walk

@@ -1,8 +1,10 @@
-use Rattle.hume_typing.specs.Declarations.{IsEquation, IsRule, IsHandler, IsTyped}
-use Rattle.hume_typing.specs.inner.DeclarationWalk.{equation_walk, rule_walk, handler_walk, declaration_walk}
+use Rattle.std.proofs.Common.{◌≡◌, ◌∙◌, ap, sym}
+use Rattle.hume_typing.proofs.Maybe.{some-same}
+use Rattle.hume_typing.specs.Declarations.{IsEquation, IsRule, IsHandler, IsFunction, IsTyped}
+use Rattle.hume_typing.specs.inner.DeclarationWalk.{equation_walk, rule_walk, handler_walk, function_walk, declaration_walk}
 use Rattle.hume_typing.proofs.WalkAgrees.{one_type, one_core}
 use Rattle.hume_typing.proofs.ResultWalkAgrees.{one_result}
-use Rattle.hume_typing.proofs.DeclarationsAgree.{only_one, finds_equation, finds_rule, finds_handler, finds_declaration}
+use Rattle.hume_typing.proofs.DeclarationsAgree.{only_one, finds_equation, finds_rule, finds_handler, finds_function, box_to, finds_declaration}
 use Rattle.hume_typing.proofs.laws.typing_is_unique.Goals as goal
 
 pub returns-clause-by_itself : goal.returns-clause-by_itself
@@ -22,6 +24,14 @@ returns-clause-rule c s ins outs = only_one (IsRule s ins outs) (rule_walk s ins
 
 pub returns-clause-handler : goal.returns-clause-handler
 returns-clause-handler c s outs = only_one (IsHandler s outs) (handler_walk s outs) (finds_handler s outs)
+
+pub returns-clause-function : goal.returns-clause-function
+returns-clause-function c s name tys = only_one (IsFunction s name tys) (function_walk s name tys) (finds_function s name tys)
+
+pub returns-clause-boxes : goal.returns-clause-boxes
+returns-clause-boxes c s ins outs rs hs cs ds es fs h k =
+    let same : (cs, es) ≡ (ds, fs) = some-same _ _ (sym (box_to s ins outs rs hs cs es h) ∙ box_to s ins outs rs hs ds fs k) in
+    (ap (λ r. r.0) same, ap (λ r. r.1) same)
 
 pub returns-clause-declaration : goal.returns-clause-declaration
 returns-clause-declaration c s = only_one (IsTyped s) (declaration_walk s) (finds_declaration s)
