@@ -42,6 +42,9 @@ pub const MAX_FUNCTIONS: usize = 256;
 /// Exceptions of a program, with the three that every program has.
 pub const MAX_EXCEPTIONS: usize = 64;
 
+/// Exceptions that a program declares.
+pub const MAX_DECLARED_EXCEPTIONS: usize = 61;
+
 /// Boxes and streams of a program.
 pub const MAX_NODES: usize = 256;
 

@@ -56,11 +56,11 @@ abbrev pub Scope : Type 0
 Scope = List (List ℕ × Ty)
 
 -- a variable further inside, or this one if it has the name
-abbrev pub inner_or_this : List ℕ → List ℕ × Ty → Option (ℕ × Ty) → Option (ℕ × Ty)
+abbrev pub inner_or_this : {A : Type 0} → List ℕ → List ℕ × A → Option (ℕ × A) → Option (ℕ × A)
 inner_or_this name variable (Some found) = Some (found.0 + 1, found.1)
 inner_or_this name variable None = if bytes_eq variable.0 name then Some (0, variable.1) else None
 
--- the innermost variable of a name: its number and its type
-abbrev pub variable_named : List ℕ → Scope → Option (ℕ × Ty)
+-- the innermost variable of a name: its number, and its type or whatever else stands beside it
+abbrev pub variable_named : {A : Type 0} → List ℕ → List (List ℕ × A) → Option (ℕ × A)
 variable_named name [] = None
 variable_named name (variable ∷ variables) = inner_or_this name variable (variable_named name variables)

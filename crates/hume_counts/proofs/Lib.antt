@@ -1,0 +1,3 @@
+mod CountSteps
+mod Searching
+mod Tallying

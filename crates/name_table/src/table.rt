@@ -1,0 +1,49 @@
+ghost use Rattle.std.specs.Prelude.{◌≡◌, [], IsTrue, ◌↔◌, IfOk, OnOk, None};
+ghost use Rattle.name_table.specs.Names.{number_of, with_name};
+
+use indexmap::IndexMap;
+use std::alloc::{AllocError, Global};
+use std::marker::Model;
+
+/// Names in the order in which they were added, each with a number.
+#[derive(Drop)]
+pub struct NameTable<'a> {
+    entries: IndexMap<&'a [u8], usize>,
+}
+
+impl<'a> Model for NameTable<'a> {
+    ghost use Rattle.std.specs.Prelude.{List, ℕ, map};
+
+    ghost Value = { List (List ℕ × ℕ) };
+
+    ghost view = { λ table. map (λ entry. (entry.0.now, entry.1)) table.entries.entries };
+}
+
+impl<'a> NameTable<'a> {
+    pub fn new(alloc: Global) -> NameTable<'a>
+        ensures { result ≡ [] }
+    {
+        NameTable {
+            entries: IndexMap::new(alloc),
+        }
+    }
+
+    /// The number of a name.
+    pub fn find(&self, name: &[u8]) -> Option<usize>
+        ensures { result ≡ number_of name.now self.now }
+    {
+        self.entries.get(name).copied()
+    }
+
+    /// Adds a name that isn't there, and says whether it was added.
+    pub fn add(&mut self, name: &'a [u8], number: usize) -> Result<bool, AllocError>
+        ensures new { IfOk result (λ new. IsTrue new ↔ (number_of name.now self.old ≡ None)) }
+        ensures added { OnOk result (self.new ≡ with_name self.old name.now number) }
+    {
+        if self.entries.contains_key(name) {
+            return Ok(false);
+        }
+        self.entries.insert(name, number)?;
+        Ok(true)
+    }
+}
