@@ -1,0 +1,4 @@
+pub mod Lookup
+pub mod Repeats
+pub mod Spaces
+pub mod Search

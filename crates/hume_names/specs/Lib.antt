@@ -1,0 +1,5 @@
+pub mod Names
+pub mod Tables
+pub mod DeclaredNames
+pub mod Repeated
+pub mod inner
