@@ -2,4 +2,5 @@ pub mod Names
 pub mod Tables
 pub mod DeclaredNames
 pub mod Repeated
+pub mod Mentions
 pub mod inner

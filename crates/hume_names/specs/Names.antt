@@ -17,3 +17,8 @@ pub record OfDecl (decls : List (ℕ × Decl)) (i : ℕ) (P : Decl → Type 0) :
   pub decl : ℕ × Decl
   pub at : slice_get decls i ≡ Some decl
   pub holds : P decl.1
+
+-- the elements of all lists, one list after the other
+abbrev pub joined : {X : Type 0} → List (List X) → List X
+joined [] = []
+joined (xs ∷ xss) = xs ++ joined xss
