@@ -1,0 +1,3 @@
+pub mod Progress
+pub mod Search
+pub mod Reversed

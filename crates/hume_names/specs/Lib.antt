@@ -1,0 +1,10 @@
+pub mod Names
+pub mod Tables
+pub mod DeclaredNames
+pub mod Repeated
+pub mod Mentions
+pub mod Unknown
+pub mod Leading
+pub mod Twice
+pub mod Misnamed
+pub mod inner
