@@ -1,3 +1,2 @@
 mod CountSteps
-mod Searching
 mod Tallying

@@ -1,5 +1,5 @@
 -- When a declaration breaks the rule on counts, and when that on `*`.
-use Rattle.std.specs.Prelude.{◌≡◌, ℕ, ◌==◌, ◌||◌, not, Bool, true, false, List, length, Option, Some, None, slice_get}
+use Rattle.std.specs.Prelude.{ℕ, ◌==◌, ◌||◌, not, Bool, false, List, length, Option, Some, None, IsTrue}
 use Rattle.std.specs.List.{list_any}
 use Rattle.hume_base.specs.declared.limits.TheConstants.{MAX_WIRE_DEPTH}
 use Rattle.hume_ast.specs.declared.tree.TyExp.{TyExp}
@@ -7,6 +7,7 @@ use Rattle.hume_ast.specs.declared.tree.Pat.{Pat}
 use Rattle.hume_ast.specs.declared.tree.Exp.{Exp}
 use Rattle.hume_ast.specs.declared.tree.Decl.{Decl}
 use Rattle.hume_ast.specs.declared.tree.Decl.TheVariants.{Sum, Exn, Fun, BoxD, Stream, Wire}
+use Rattle.hume_names.specs.Names.{OfDecl}
 use Rattle.hume_counts.specs.declared.counts.Counts.{Counts}
 use Rattle.hume_counts.specs.Counted.{Decls, counted, is_other, parameters}
 use Rattle.hume_counts.specs.Miscounts.{is_outside, type_miscounts, pattern_miscounts, miscounts, result_miscounts}
@@ -61,15 +62,9 @@ declaration_miscounts counts (BoxD name ins outs fair rules handlers) =
 declaration_miscounts counts (Stream name from port) = false
 declaration_miscounts counts (Wire from to depth initial) = depth_is_outside depth || initial_miscounts counts initial
 
--- the declaration of the number is such
-pub record OfDeclaration (decls : Decls) (holds : Decl → Bool) (number : ℕ) : Type 0 where
-  pub decl : ℕ × Decl
-  pub there : slice_get decls number ≡ Some decl
-  pub is : holds decl.1 ≡ true
-
--- it has too many or too few of something
+-- the declaration of the number has too many or too few of something
 abbrev pub Miscounts : Decls → ℕ → Type 0
-Miscounts decls = OfDeclaration decls (declaration_miscounts (counted decls))
+Miscounts decls number = OfDecl decls number (λ decl. IsTrue (declaration_miscounts (counted decls) decl))
 
 abbrev pub star_if_there : Option Exp → Bool
 star_if_there None = false
@@ -86,6 +81,6 @@ declaration_has_stray_star (BoxD name ins outs fair rules handlers) =
 declaration_has_stray_star (Stream name from port) = false
 declaration_has_stray_star (Wire from to depth initial) = star_if_there initial
 
--- a `*` in it is no output
+-- a `*` in the declaration of the number is no output
 abbrev pub HasStrayStar : Decls → ℕ → Type 0
-HasStrayStar decls = OfDeclaration decls declaration_has_stray_star
+HasStrayStar decls number = OfDecl decls number (λ decl. IsTrue (declaration_has_stray_star decl))

@@ -1,10 +1,11 @@
 -- When a declaration is one too many, or has too many parts.
-use Rattle.std.specs.Prelude.{◌≡◌, ℕ, ◌+◌, ◌||◌, nat_le, Bool, true, false, List, take, Some, slice_get}
+use Rattle.std.specs.Prelude.{ℕ, ◌+◌, ◌||◌, nat_le, Bool, true, false, IsTrue, List, take}
 use Rattle.std.specs.List.{count_by, list_any}
 use Rattle.hume_base.specs.declared.limits.TheConstants.{MAX_FUNCTIONS, MAX_DECLARED_EXCEPTIONS, MAX_NODES, MAX_WIRES, MAX_INPUTS, MAX_OUTPUTS, MAX_RULES, MAX_PARAMETERS, MAX_FIELDS}
 use Rattle.hume_ast.specs.declared.tree.TyExp.{TyExp}
 use Rattle.hume_ast.specs.declared.tree.Decl.{Decl}
 use Rattle.hume_ast.specs.declared.tree.Decl.TheVariants.{Sum, Exn, Fun, BoxD, Stream, Wire}
+use Rattle.hume_names.specs.Names.{OfDecl}
 use Rattle.hume_counts.specs.declared.tally.Tally.{Tally}
 use Rattle.hume_counts.specs.Counted.{Decls, parameters}
 use Rattle.hume_counts.specs.Miscounts.{has_many}
@@ -58,7 +59,5 @@ has_many_parts (Stream name from port) = false
 has_many_parts (Wire from to depth initial) = false
 
 -- the declaration of the number is one too many of its kind, or has too many parts
-pub record PassesLimits (decls : Decls) (number : ℕ) : Type 0 where
-  pub decl : ℕ × Decl
-  pub there : slice_get decls number ≡ Some decl
-  pub is : (is_full_for (tally_of (take number decls)) decl.1 || has_many_parts decl.1) ≡ true
+abbrev pub PassesLimits : Decls → ℕ → Type 0
+PassesLimits decls number = OfDecl decls number (λ decl. IsTrue (is_full_for (tally_of (take number decls)) decl || has_many_parts decl))

@@ -1,6 +1,7 @@
-ghost use Rattle.std.specs.Prelude.{◌<◌, ◌^◌, length, IfOk};
+ghost use Rattle.std.specs.Prelude.{◌<◌, ◌^◌, length, IsTrue, IfOk};
 ghost use Rattle.hume_base.specs.Least.{IsFirst};
-ghost use Rattle.hume_counts.specs.CountRules.{OfDeclaration, Miscounts, HasStrayStar, declaration_miscounts as miscounts_in};
+ghost use Rattle.hume_names.specs.Names.{OfDecl};
+ghost use Rattle.hume_counts.specs.CountRules.{Miscounts, HasStrayStar, declaration_miscounts as miscounts_in};
 
 use crate::counts::{Counts, counts_of};
 use crate::declarations::{declaration_has_stray_star, declaration_miscounts};
@@ -21,7 +22,7 @@ pub fn first_miscounted(alloc: Global, program: &Program) -> Result<Option<u32>,
 // The first declaration that has too many or too few of something, by what names have.
 fn first_by(counts: &Counts, decls: &[(u32, Decl)]) -> Option<u32>
     requires { length decls.now < 2 ^ 32 }
-    ensures { IsFirst (OfDeclaration decls.now (miscounts_in counts.now)) result }
+    ensures { IsFirst (λ i. OfDecl decls.now i (λ decl. IsTrue (miscounts_in counts.now decl))) result }
 {
     for (i, decl) in decls.iter().enumerate() {
         if declaration_miscounts(counts, &decl.1) {
