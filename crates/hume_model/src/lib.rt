@@ -16,10 +16,6 @@ mod exceptions;
 mod firing;
 mod laws;
 mod matching;
-#[cfg(test)]
-mod meaning_tests;
-#[cfg(test)]
-mod operation_tests;
 mod operations;
 mod outcome;
 mod patterns;

@@ -4,6 +4,7 @@ ghost use Rattle.hume_ast.specs.Places.{kinds};
 ghost use Rattle.hume_parse.specs.inner.Gives.{Gives};
 ghost use Rattle.hume_parse.specs.inner.Items.{seen_item, seen_expecting, wants};
 ghost use Rattle.hume_parse.specs.inner.Progress.{place_behind, with_equation, took, closed};
+ghost use Rattle.token_readers.specs.inner.Items.{Whole};
 ghost use Rattle.token_readers.specs.inner.Programs.{program as program_read};
 
 use crate::items::{Expecting, Item, cut_item};
@@ -91,14 +92,7 @@ fn take(alloc: Global, progress: Progress, place: u32, item: Item) -> Result<Pro
     ensures { IfOk result (λ after. after ≡ took place (seen_item item) progress) }
 {
     match item {
-        Item::Declared(decl) => {
-            let mut decls = close(progress)?;
-            decls.push((place, decl))?;
-            Ok(Progress {
-                decls,
-                function: None,
-            })
-        }
+        Item::Declared(decl) => take_declaration(progress, place, decl),
         Item::Signature(name, types) => {
             let decls = close(progress)?;
             let equations = List::new(alloc);
@@ -119,6 +113,17 @@ fn take(alloc: Global, progress: Progress, place: u32, item: Item) -> Result<Pro
             Ok(Progress { decls, function })
         }
     }
+}
+
+fn take_declaration(progress: Progress, place: u32, decl: Decl) -> Result<Progress, AllocError>
+    ensures { IfOk result (λ after. after ≡ took place (Whole decl) progress) }
+{
+    let mut decls = close(progress)?;
+    decls.push((place, decl))?;
+    Ok(Progress {
+        decls,
+        function: None,
+    })
 }
 
 fn take_equation(

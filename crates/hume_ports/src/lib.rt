@@ -22,6 +22,4 @@ pub use lookup::{find, find_bytes};
 pub use memory::{Fail, MemPort};
 pub use output::StdOut;
 pub use port::{Failed, Port};
-
-#[cfg(test)]
-mod tests;
+pub use transfer::{read_once, write_whole};

@@ -6,8 +6,8 @@ ghost use Rattle.hume_ports.specs.Port.{WriteAppends};
 use crate::Failed;
 use std::io::{ErrorKind, Read, Write};
 
-// Reads again where a signal came in between.
-pub(crate) fn read_once<F: Read>(file: &mut F, buf: &mut [u8]) -> Result<usize, Failed>
+/// Reads again where a signal came in between.
+pub fn read_once<F: Read>(file: &mut F, buf: &mut [u8]) -> Result<usize, Failed>
     ensures bound { ReadsAtMost result buf.new }
     ensures bytes { ReadConsumes (F.remaining file.old) (F.remaining file.new) result buf.new }
 {
@@ -21,8 +21,9 @@ pub(crate) fn read_once<F: Read>(file: &mut F, buf: &mut [u8]) -> Result<usize, 
     Err(Failed)
 }
 
-// Writes all of the bytes, in as many writes as that takes. A write that takes none is a fault.
-pub(crate) fn write_whole<F: Write>(file: &mut F, bytes: &[u8]) -> Result<(), Failed>
+/// Writes all of the bytes, in as many writes as that takes, and again where a signal came in between. A write that takes
+/// none fails.
+pub fn write_whole<F: Write>(file: &mut F, bytes: &[u8]) -> Result<(), Failed>
     ensures { WriteAppends (F.contents file.old) (F.contents file.new) result bytes.now }
 {
     let mut rest = bytes;

@@ -16,13 +16,26 @@ fn four_ports(
     source: &[u8],
     failing: &[Fail],
 ) -> Result<Vec<Box<dyn Port>>, AllocError> {
-    let none: [Fail; 0] = [];
+    let empty: &[u8] = b"";
+    let rows = [
+        ("p", source, 4_096),
+        ("i", b"1\n2\n".as_slice(), 2),
+        ("o", empty, 1),
+        ("std_out", empty, 1),
+    ];
     let mut ports: Vec<Box<dyn Port>> = Vec::new(alloc);
-    ports.push(Box::new(alloc, MemPort::make(alloc, "p", source, 4_096, 0, &none)?)?)?;
-    ports.push(Box::new(alloc, MemPort::make(alloc, "i", b"1\n2\n", 2, 0, &none)?)?)?;
-    ports.push(Box::new(alloc, MemPort::make(alloc, "o", b"", 1, 200, failing)?)?)?;
-    ports.push(Box::new(alloc, MemPort::make(alloc, "std_out", b"", 1, 200, &none)?)?)?;
+    for (name, bytes, piece) in rows {
+        let fails = if name == "o" { failing.len() } else { 0 };
+        let port = MemPort::make(alloc, name, bytes, piece, 200, &failing[..fails])?;
+        ports.push(Box::new(alloc, port)?)?;
+    }
     Ok(ports)
+}
+
+// How the call of these words, parted by blanks, ends.
+fn called(alloc: Global, words: &str, ports: &mut [Box<dyn Port>]) -> Result<Status, AllocError> {
+    let words = words_of(alloc, words)?;
+    Ok(hume(alloc, &words, ports))
 }
 
 fn is_written(ports: &[Box<dyn Port>], at: usize, bytes: &[u8]) -> bool {
@@ -43,33 +56,29 @@ fn bytes_left(ports: &mut [Box<dyn Port>], at: usize) -> Option<usize> {
 }
 
 #[test]
-fn each_number_comes_out_with_one_added_where_memory_is_ample(rt: HostRuntime) -> Result<(), Stop> {
+fn a_failing_write_leaves_a_front_of_its_bytes(rt: HostRuntime) -> Result<(), Stop> {
     let alloc = rt.alloc();
-    let words = words_of(alloc, "run 4 1 p i o")?;
-    let mut ports = four_ports(alloc, ADD_ONE, &[])?;
-    assert!(rt; hume(alloc, &words, &mut ports) == Status::Done);
-    assert!(rt; is_written(&ports, 2, b"2\n3\n"));
+    let mut ports = four_ports(alloc, ADD_ONE, &[Fail { call: 2, taken: 1 }])?;
+    let status = called(alloc, "run 4 1 p i o", &mut ports)?;
+    assert!(rt; status == Status::Fault && is_written(&ports, 2, b"2\n3"));
     Ok(())
 }
 
-#[test]
-fn a_failing_write_leaves_a_front_of_its_bytes(rt: HostRuntime) -> Result<(), Stop> {
-    let alloc = rt.alloc();
-    let words = words_of(alloc, "run 4 1 p i o")?;
-    let mut ports = four_ports(alloc, ADD_ONE, &[Fail { call: 2, taken: 1 }])?;
-    assert!(rt; hume(alloc, &words, &mut ports) == Status::Fault);
-    assert!(rt; is_written(&ports, 2, b"2\n3"));
-    Ok(())
+// Whether a check of the port `p` refuses it as too long, and leaves so many bytes to read.
+fn is_too_long(alloc: Global, source: &[u8], left: usize) -> Result<bool, AllocError> {
+    let mut ports = four_ports(alloc, source, &[])?;
+    let status = called(alloc, "check p", &mut ports)?;
+    Ok(
+        status == Status::Refused
+            && is_written(&ports, 3, b"refused 70 line 1\n")
+            && bytes_left(&mut ports, 0) == Some(left),
+    )
 }
 
 #[test]
 fn a_source_is_read_one_byte_past_its_limit_and_no_further(rt: HostRuntime) -> Result<(), Stop> {
     let alloc = rt.alloc();
-    let words = words_of(alloc, "check p")?;
     let source = vec![in alloc; b' '; MAX_SOURCE_BYTES + 8]?;
-    let mut ports = four_ports(alloc, &source, &[])?;
-    assert!(rt; hume(alloc, &words, &mut ports) == Status::Refused);
-    assert!(rt; is_written(&ports, 3, b"refused 70 line 1\n"));
-    assert!(rt; bytes_left(&mut ports, 0) == Some(7));
+    assert!(rt; is_too_long(alloc, &source, 7)?);
     Ok(())
 }

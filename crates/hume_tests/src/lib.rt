@@ -1,7 +1,6 @@
 //! Tests of the crates below: what no clause of a contract says, and what their definitions make of worked examples.
 //!
-//! They stand at the top of all that they cross, so that no crate is proved a second time for its tests. Only what needs private
-//! functions is tested in its own crate.
+//! They stand at the top of all that they cross, so that no crate is proved a second time for its tests.
 //! Knows: the public calls of each crate. Doesn't know: files; what the program does from outside, `.ci/run` tries.
 #![tactic(auto)]
 
@@ -12,11 +11,15 @@ mod last_call_tests;
 #[cfg(test)]
 mod lexing_tests;
 #[cfg(test)]
+mod meaning_tests;
+#[cfg(test)]
 mod net_tests;
 #[cfg(test)]
 mod noting_port;
 #[cfg(test)]
 mod parsing_tests;
+#[cfg(test)]
+mod port_tests;
 #[cfg(test)]
 mod sample_cores;
 #[cfg(test)]

@@ -9,7 +9,7 @@ use Rattle.hume_base.specs.Sizes.{HaveTheirSizes}
 use Rattle.hume_base.specs.Values.{is_named_value}
 use Rattle.hume_model.specs.Reading.{AreWordsOf, HaveReadableSizes}
 use Rattle.hume_model.proofs.Layers.{out-word, bool-value}
-use Rattle.hume_model.proofs.meaning_tests.a_word_is_read_as_a_bool.Goals as goal
+use Rattle.hume_tests.proofs.meaning_tests.a_word_is_read_as_a_bool.Goals as goal
 
 abbrev none : Types
 none = record { sums = [] }
