@@ -16,3 +16,4 @@ pub mod ResultTypes
 pub mod WellFormedCores
 pub mod Widths
 pub mod WordReading
+pub mod DeclaredLines
