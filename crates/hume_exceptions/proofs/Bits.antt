@@ -1,5 +1,5 @@
 -- Bits as the members of a set.
-use Rattle.std.proofs.Common.{◌≡◌, ℕ, zero, suc, ◌*◌, ◌^◌, ◌%◌, ◌<◌, ◌==◌, ◌&&◌, ◌||◌, max, Bool, true, false, refl, ap, sym, ◌∙◌, arith, inl, inr, bit_or}
+use Rattle.std.proofs.Common.{◌≡◌, ℕ, zero, suc, ◌*◌, ◌^◌, ◌%◌, ◌<◌, ◌==◌, ◌&&◌, ◌||◌, max, Bool, true, false, refl, ap, ◌∙◌, arith, inl, inr, bit_or}
 use Rattle.std.specs.Int.{bit_at}
 use Rattle.std.proofs.lemmas.Bool.{cases_eq, eq-eqb, ne_eqb}
 use Rattle.std.proofs.lemmas.Nat.{one_shl}

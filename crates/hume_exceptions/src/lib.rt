@@ -14,8 +14,12 @@ mod exn_set;
 mod expressions;
 mod function_sets;
 mod functions;
+mod handlers;
 mod patterns;
+mod results;
 
 pub use exn_set::ExnSet;
 pub use function_sets::Raises;
 pub use functions::raises;
+pub use handlers::check_handlers;
+pub use results::{may_raise, result_may_raise};

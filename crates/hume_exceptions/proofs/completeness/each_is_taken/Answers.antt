@@ -1,4 +1,4 @@
-use Rattle.std.proofs.Common.{◌≡◌, ◌∙◌, sym}
+use Rattle.std.proofs.Common.{◌∙◌, sym}
 use Rattle.hume_exceptions.proofs.Lasts.{below_fails}
 use Rattle.hume_exceptions.proofs.completeness.each_is_taken.Goals as goal
 

@@ -1,4 +1,4 @@
-use Rattle.std.proofs.Common.{◌≡◌, ◌∙◌, ℕ, ◌<◌, ◌==◌, ◌&&◌, ◌||◌, not, Bool, List, Some, refl, sym, ap}
+use Rattle.std.proofs.Common.{◌∙◌, ◌==◌, ◌&&◌, not, Bool, List, Some, sym, ap}
 use Rattle.std.specs.List.{list_any, filter_map}
 use Rattle.hume_model.specs.declared.core_tree.PatC.{PatC}
 use Rattle.hume_model.specs.declared.core_tree.Expr.{Expr}

@@ -1,4 +1,4 @@
-use Rattle.std.proofs.Common.{◌≡◌, ◌∙◌, ◌==◌, ◌&&◌, Bool, true, false, refl, sym, ap}
+use Rattle.std.proofs.Common.{◌∙◌, ◌==◌, ◌&&◌, sym, ap}
 use Rattle.hume_exceptions.proofs.Bits.{bits_one, and_true}
 use Rattle.hume_exceptions.proofs.exn_set.ExnSet.only_if.Goals as goal
 
