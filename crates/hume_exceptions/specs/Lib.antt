@@ -1,2 +1,3 @@
+pub mod Matched
 pub mod Sets
 pub mod inner

@@ -15,6 +15,7 @@ mod expressions;
 mod function_sets;
 mod functions;
 mod handlers;
+mod laws;
 mod patterns;
 mod results;
 
@@ -22,4 +23,5 @@ pub use exn_set::ExnSet;
 pub use function_sets::Raises;
 pub use functions::raises;
 pub use handlers::check_handlers;
+pub use laws::{complete_patterns_match, fine_handlers_handle_all, raised_is_expected};
 pub use results::{may_raise, result_may_raise};
