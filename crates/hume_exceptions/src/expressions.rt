@@ -1,23 +1,17 @@
 //! Which exceptions expressions may raise.
-ghost use Rattle.std.specs.Prelude.{◌≡◌, ◌==◌, ◌&&◌, ◌||◌, ◌<◌, ℕ, IfOk, length, map, not, slice_get, Some};
+ghost use Rattle.std.specs.Prelude.{◌≡◌, ◌==◌, ◌||◌, ◌<◌, Some};
 ghost use Rattle.std.specs.List.{list_any};
-ghost use Rattle.hume_base.specs.declared.limits.TheConstants.{MAX_EXCEPTIONS};
-ghost use Rattle.hume_model.specs.declared.core_tree.EqC.{EqC as Equation};
 ghost use Rattle.hume_model.specs.declared.core_tree.Expr.{Expr as Expression};
 ghost use Rattle.hume_model.specs.declared.core_tree.PatC.{PatC as Pattern};
 ghost use Rattle.hume_model.specs.declared.exceptions.TheConstants.{DIV_ZERO, RANGE, NO_CASE};
-ghost use Rattle.hume_model.specs.Completeness.{are_complete_equations as leave_none_out, last_passes, is_irrefutable_equation};
-ghost use Rattle.hume_model.specs.Raising.{raises_with, function_raises, may_be_outside};
-ghost use Rattle.hume_exceptions.specs.Sets.{has, IsSetOf, called_by, in_set, IsRaisesOf};
+ghost use Rattle.hume_model.specs.Raising.{raises_with, may_be_outside};
+ghost use Rattle.hume_exceptions.specs.Sets.{IsSetOf, called_by};
 ghost use Rattle.hume_exceptions.specs.inner.Seen.{literal_of, divisor_may_be_zero as divides_by_zero};
 
 use crate::completeness::are_complete;
 use crate::exn_set::ExnSet;
-use crate::function_sets::Raises;
-use crate::patterns::are_irrefutable;
-use hume_base::{List, Ty, Types};
-use hume_model::{Core, DIV_ZERO, EqC, Expr, FunC, NO_CASE, Op, PatC, RANGE};
-use std::alloc::{AllocError, Global};
+use hume_base::Types;
+use hume_model::{DIV_ZERO, Expr, NO_CASE, Op, PatC, RANGE};
 
 /// What the expression may raise, by what functions may.
 #[cycle(expression)]

@@ -1,15 +1,11 @@
 //! Which exceptions functions may raise.
-ghost use Rattle.std.specs.Prelude.{◌≡◌, ◌==◌, ◌&&◌, ◌||◌, ◌<◌, ℕ, IfOk, length, map, not, slice_get, Some};
+ghost use Rattle.std.specs.Prelude.{◌≡◌, ◌==◌, ◌&&◌, ◌||◌, ◌<◌, IfOk, Some};
 ghost use Rattle.std.specs.List.{list_any};
-ghost use Rattle.hume_base.specs.declared.limits.TheConstants.{MAX_EXCEPTIONS};
 ghost use Rattle.hume_model.specs.declared.core_tree.EqC.{EqC as Equation};
-ghost use Rattle.hume_model.specs.declared.core_tree.Expr.{Expr as Expression};
-ghost use Rattle.hume_model.specs.declared.core_tree.PatC.{PatC as Pattern};
-ghost use Rattle.hume_model.specs.declared.exceptions.TheConstants.{DIV_ZERO, RANGE, NO_CASE};
+ghost use Rattle.hume_model.specs.declared.exceptions.TheConstants.{NO_CASE};
 ghost use Rattle.hume_model.specs.Completeness.{are_complete_equations as leave_none_out, last_passes, is_irrefutable_equation};
-ghost use Rattle.hume_model.specs.Raising.{raises_with, function_raises, may_be_outside};
-ghost use Rattle.hume_exceptions.specs.Sets.{has, IsSetOf, called_by, in_set, IsRaisesOf};
-ghost use Rattle.hume_exceptions.specs.inner.Seen.{literal_of, divisor_may_be_zero as divides_by_zero};
+ghost use Rattle.hume_model.specs.Raising.{raises_with, function_raises};
+ghost use Rattle.hume_exceptions.specs.Sets.{IsSetOf, called_by, IsRaisesOf};
 
 use crate::completeness::are_complete;
 use crate::exn_set::ExnSet;
@@ -17,7 +13,7 @@ use crate::expressions::expression_set;
 use crate::function_sets::Raises;
 use crate::patterns::are_irrefutable;
 use hume_base::{List, Ty, Types};
-use hume_model::{Core, DIV_ZERO, EqC, Expr, FunC, NO_CASE, Op, PatC, RANGE};
+use hume_model::{Core, EqC, FunC, NO_CASE};
 use std::alloc::{AllocError, Global};
 
 /// The exceptions that each function of the core may raise, computed once for each in the order of their numbers.

@@ -1,5 +1,5 @@
 //! The check of a core's handlers.
-ghost use Rattle.std.specs.Prelude.{◌≡◌, ◌↔◌, ◌≤◌, ◌==◌, IsTrue, IfErr, OnOk, None, Some, length, if◌then◌else◌};
+ghost use Rattle.std.specs.Prelude.{◌≡◌, ◌↔◌, ◌≤◌, IsTrue, IfErr, OnOk, None, Some, if◌then◌else◌};
 ghost use Rattle.hume_base.specs.declared.rule.Rule.TheVariants.{C60, C61};
 ghost use Rattle.hume_base.specs.declared.limits.TheConstants.{MAX_EXCEPTIONS};
 ghost use Rattle.hume_base.specs.Least.{IsLeast, OfRule, earlier_of, finding_of};

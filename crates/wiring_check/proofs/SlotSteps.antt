@@ -34,9 +34,6 @@ module _ (rows : Rows) (n i w : ℕ) (has : HasSlot rows n i) where
   row_is : slice_index_or rows n [] ≡ has.row
   row_is = get_or_from_slice_get rows n has.row [] has.there
 
-  new_row : List (Option ℕ)
-  new_row = slice_set has.row i (Some w)
-
   there_now : slice_get (with_wire rows n i w) n ≡ Some (slice_set has.row i (Some w))
   there_now = rw row_is (get_set_same rows n (slice_set has.row i (Some w)) (slice_get_within rows n has.row has.there))
 

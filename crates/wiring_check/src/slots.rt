@@ -1,5 +1,5 @@
 //! A slot for each port of each node.
-ghost use Rattle.std.specs.Prelude.{◌≡◌, IfOk, replicate, Option, ℕ, None, length, ◌<◌};
+ghost use Rattle.std.specs.Prelude.{◌≡◌, IfOk, replicate, Option, ℕ, None, ◌<◌};
 ghost use Rattle.wiring_check.specs.inner.Slots.{slot, with_wire, with_first, empty_rows, HasSlot};
 
 use crate::side::Side;

@@ -3,7 +3,7 @@ ghost use Rattle.std.specs.Prelude.{◌≡◌, Some};
 ghost use Rattle.hume_model.specs.declared.core_tree.Core.{Core};
 ghost use Rattle.hume_model.specs.Wiring.{IsTheWire, leads_to, comes_from};
 ghost use Rattle.wiring_check.specs.Wires.{HasPosition, IsWiringOf, wire_at};
-ghost use Rattle.wiring_check.specs.inner.Slots.{slot, known_rows};
+ghost use Rattle.wiring_check.specs.inner.Slots.{known_rows};
 
 use crate::slots::Slots;
 use std::marker::Model;
