@@ -16,15 +16,15 @@ use Rattle.hume_model.proofs.PatternTypes.{patterns_typed}
 use Rattle.hume_model.proofs.ExpressionTypes.{matched_arm, typed}
 
 module _ (core : Core) (sound : HasSoundParts core) where
-  raised : AreRaised core
+  pub raised : AreRaised core
   raised = own_raised core sound.exceptions
 
   -- what a table of calls gives is of the functions' types
-  abbrev AreTyped : Calls → Type 0
+  abbrev pub AreTyped : Calls → Type 0
   AreTyped call = (f : ℕ) (function : FunC) → slice_get core.funs f ≡ Some function → (args : List Value)
       → AreOf core.types function.params args → is_outcome core function.gives (call f args) ≡ true
 
-  equations_typed : (call : Calls) → AreTyped call → (function : FunC) (equations : List EqC) → EquationsHave core function equations
+  pub equations_typed : (call : Calls) → AreTyped call → (function : FunC) (equations : List EqC) → EquationsHave core function equations
       → (args : List Value) → AreOf core.types function.params args → is_outcome core function.gives (first_equation (eval_with call) equations args) ≡ true
   equations_typed call called function [] have args is = raised.no_case
   equations_typed call called function (equation ∷ equations) (EquationsHave.one vars pats body rest) args is =
@@ -32,7 +32,7 @@ module _ (core : Core) (sound : HasSoundParts core) where
       (λ env found. typed core raised sound.holds call called body env (patterns_typed core.types sound.holds pats args env is found))
       (equations_typed call called function equations rest args is)
 
-  calls_typed : (bound : ℕ) → AreTyped (call_below core bound)
+  pub calls_typed : (bound : ℕ) → AreTyped (call_below core bound)
   unfolding call_below
   calls_typed zero f function found args is = raised.no_case
   calls_typed (suc bound) f function found args is = elim (cases_eq f bound) [

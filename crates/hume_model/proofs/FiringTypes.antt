@@ -36,7 +36,7 @@ matched_values types down t p vars None some is = cc
 matched_values types down t p vars (Some vs) some is = is vs refl
 
 -- a rule's variables have values of their types
-bound_typed : (types : Types) → HoldSmaller types → {ts vars : List Ty} {pats : List InPat} → PositionsHave types ts pats vars → (ins : List (Option Value))
+pub bound_typed : (types : Types) → HoldSmaller types → {ts vars : List Ty} {pats : List InPat} → PositionsHave types ts pats vars → (ins : List (Option Value))
     → are_outputs types ts ins ≡ true → fits pats ins ≡ true → AreOf types vars (bound pats ins)
 bound_typed types down PositionsHave.none ins is fit = refl
 bound_typed types down (PositionsHave.star rest) [] is fit = cc
@@ -85,7 +85,7 @@ module _ (core : Core) (sound : HasSoundParts core) (b : BoxC) (typed : BoxIsTyp
       let same : known.exn ≡ exn = same_Some known.exn exn (sym known.known ∙ found) in
       subst (λ (x : ExnDef). AreOf core.types (carried_types x.carries) (option_to_list carried)) (sym same) (carried_values core.types exn.carries carried is)
 
-  env_typed : (handler : HandC) (known : HandlerIsKnown core handler) (carried : Option Value) → is_raised core.types (slice_get core.exns handler.exn) carried ≡ true
+  pub env_typed : (handler : HandC) (known : HandlerIsKnown core handler) (carried : Option Value) → is_raised core.types (slice_get core.exns handler.exn) carried ≡ true
       → (bound : Bool) → AreOf core.types (if bound then carried_types known.exn.carries else []) (if bound then option_to_list carried else [])
   env_typed handler known carried is true = bound_env handler known (slice_get core.exns handler.exn) carried refl is
   env_typed handler known carried is false = refl

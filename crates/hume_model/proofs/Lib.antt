@@ -4,6 +4,7 @@ pub mod CallTypes
 pub mod Evaluation
 pub mod ExpressionTypes
 pub mod Fields
+pub mod Findings
 pub mod FiringTypes
 pub mod FrontReading
 pub mod Layers
@@ -16,3 +17,4 @@ pub mod ResultTypes
 pub mod WellFormedCores
 pub mod Widths
 pub mod WordReading
+pub mod DeclaredLines

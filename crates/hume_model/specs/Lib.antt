@@ -15,6 +15,11 @@ pub mod OwnExceptions
 pub mod WireEnds
 pub mod WellFormed
 pub mod Wiring
+pub mod Declarations
+pub mod WireRules
+pub mod Completeness
+pub mod Raising
+pub mod HandlerRules
 pub mod TypeLimits
 pub mod PartLimits
 pub mod Limits

@@ -11,6 +11,7 @@
 
 mod arithmetic;
 mod core_tree;
+mod declarations;
 mod evaluate;
 mod exceptions;
 mod firing;
@@ -26,6 +27,7 @@ pub use core_tree::{
     BoxC, Core, EqC, ExnDef, Expr, FunC, HandC, InPat, NodeC, Op, PatC, PortC, Res, RuleC, StreamC,
     WireC,
 };
+pub use declarations::declared_line;
 pub use evaluate::eval_plain;
 pub use exceptions::{DIV_ZERO, NO_CASE, RANGE, own_exceptions};
 pub use firing::first_firing;

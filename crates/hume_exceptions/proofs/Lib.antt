@@ -1,0 +1,13 @@
+pub mod Bits
+pub mod BoxFindings
+pub mod CallsCover
+pub mod Completes
+pub mod Covering
+pub mod Forms
+pub mod FunctionSets
+pub mod Handles
+pub mod Lasts
+pub mod PatternForms
+pub mod ResultForms
+pub mod ResultsCover
+pub mod SetSteps

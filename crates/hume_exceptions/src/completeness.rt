@@ -1,0 +1,144 @@
+//! Whether patterns leave no value of a type out.
+ghost use Rattle.std.specs.Prelude.{◌≡◌, MatchOption, None, Some, length};
+ghost use Rattle.std.specs.List.{filter_map, list_any};
+ghost use Rattle.hume_base.specs.declared.types.Ty.{out-Ty};
+ghost use Rattle.hume_model.specs.declared.core_tree.PatC.{PatC as Pattern, out-PatC};
+ghost use Rattle.hume_model.specs.Completeness.{are_complete as leave_none_out, are_all as are_all_there, are_constructors as are_the_constructors, are_truths as are_the_truths, all_below, last_passes, is_irrefutable as has_no_refusal, takes_con as is_of_con, takes_word as is_of_word};
+
+use crate::patterns::{is_irrefutable, takes_con, takes_word};
+use hume_base::{Ty, Types};
+use hume_model::{EqC, Expr, PatC, Res};
+
+/// What has a pattern.
+pub trait Alternative {
+    ghost use Rattle.std.specs.Prelude.{Option};
+    ghost use Rattle.hume_model.specs.declared.core_tree.PatC.{PatC};
+
+    ghost pattern: { Self → Option PatC };
+
+    fn pattern(&self) -> Option<&PatC>
+        ensures { MatchOption result (pattern self.now ≡ None) (λ p. pattern self.now ≡ Some p.now) };
+}
+
+impl Alternative for (PatC, Expr) {
+    ghost pattern = { λ arm. Some arm.0 };
+
+    fn pattern(&self) -> Option<&PatC> {
+        Some(&self.0)
+    }
+}
+
+impl Alternative for (PatC, Res) {
+    ghost pattern = { λ arm. Some arm.0 };
+
+    fn pattern(&self) -> Option<&PatC> {
+        Some(&self.0)
+    }
+}
+
+/// The pattern of an equation is its first.
+impl Alternative for EqC {
+    ghost use Rattle.std.specs.Prelude.{slice_get};
+
+    ghost pattern = { λ equation. slice_get equation.pats 0 };
+
+    fn pattern(&self) -> Option<&PatC> {
+        self.pats.get(0)
+    }
+}
+
+/// Whether the patterns leave no value of the type out.
+pub fn are_complete<A: Alternative>(types: &Types, ty: &Ty, items: &[A]) -> bool
+    ensures { result ≡ leave_none_out types.now ty.now (filter_map A.pattern items.now) }
+{
+    last_is_irrefutable(items) || are_all(types, ty, items)
+}
+
+#[tactic(auto, using(crate::proofs::Lasts::last_steps))]
+fn last_is_irrefutable<A: Alternative>(items: &[A]) -> bool
+    ensures { result ≡ last_passes has_no_refusal (filter_map A.pattern items.now) }
+{
+    let mut last = false;
+    for item in items {
+        if let Some(pattern) = item.pattern() {
+            last = is_irrefutable(pattern);
+        }
+    }
+    last
+}
+
+#[tactic(auto, using(crate::proofs::PatternForms::pattern_forms))]
+fn are_all<A: Alternative>(types: &Types, ty: &Ty, items: &[A]) -> bool
+    ensures { result ≡ are_all_there types.now (out-Ty ty.now) (filter_map A.pattern items.now) }
+{
+    match ty {
+        Ty::Bool => are_truths(items),
+        Ty::Named(number) => match types.sums.get(*number as usize) {
+            None => false,
+            Some(sum) => are_constructors(sum.cons.len(), items),
+        },
+        _ => false,
+    }
+}
+
+fn are_truths<A: Alternative>(items: &[A]) -> bool
+    ensures { result ≡ are_the_truths (filter_map A.pattern items.now) }
+{
+    count(items) == 2 && some_takes_word(items, 0) && some_takes_word(items, 1)
+}
+
+// It takes time for each constructor and each pattern.
+fn are_constructors<A: Alternative>(constructors: usize, items: &[A]) -> bool
+    ensures { result ≡ are_the_constructors constructors (filter_map A.pattern items.now) }
+{
+    count(items) == constructors && each_is_taken(constructors, items)
+}
+
+fn each_is_taken<A: Alternative>(constructors: usize, items: &[A]) -> bool
+    ensures { result ≡ all_below constructors (λ place. list_any (λ (p : Pattern). is_of_con place (out-PatC p)) (filter_map A.pattern items.now)) }
+{
+    for place in 0..constructors {
+        if !some_takes_con(items, place) {
+            return false;
+        }
+    }
+    true
+}
+
+fn count<A: Alternative>(items: &[A]) -> usize
+    ensures { result ≡ length (filter_map A.pattern items.now) }
+{
+    let mut count = 0;
+    for item in items {
+        if item.pattern().is_some() {
+            count += 1;
+        }
+    }
+    count
+}
+
+fn some_takes_con<A: Alternative>(items: &[A], place: usize) -> bool
+    ensures { result ≡ list_any (λ (p : Pattern). is_of_con place (out-PatC p)) (filter_map A.pattern items.now) }
+{
+    for item in items {
+        if let Some(pattern) = item.pattern() {
+            if takes_con(pattern, place) {
+                return true;
+            }
+        }
+    }
+    false
+}
+
+fn some_takes_word<A: Alternative>(items: &[A], word: u64) -> bool
+    ensures { result ≡ list_any (λ (p : Pattern). is_of_word word (out-PatC p)) (filter_map A.pattern items.now) }
+{
+    for item in items {
+        if let Some(pattern) = item.pattern() {
+            if takes_word(pattern, word) {
+                return true;
+            }
+        }
+    }
+    false
+}

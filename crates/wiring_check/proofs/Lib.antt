@@ -1,0 +1,5 @@
+pub mod Broken
+pub mod FirstWires
+pub mod SameTypes
+pub mod SlotSteps
+pub mod TheWires
