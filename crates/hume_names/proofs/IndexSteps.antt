@@ -5,11 +5,11 @@ use Rattle.std.proofs.lemmas.List.{append-nil, take_more}
 use Rattle.std.proofs.lemmas.Option.{slice_get_within, get_or_from_slice_get}
 use Rattle.std.proofs.lemmas.Slice.Eq.{bytes_eq-Decides}
 use Rattle.std.specs.Str.{bytes_eq}
-use Rattle.hume_names.specs.Names.{among}
-use Rattle.hume_names.specs.Tables.{number_of, with_name, names_of}
+use Rattle.name_table.specs.Names.{among}
+use Rattle.name_table.specs.Names.{number_of, with_name, names_of}
 use Rattle.hume_names.specs.Leading.{numbers_of}
 use Rattle.hume_names.specs.inner.Indexed.{listed, IsIndex}
-use Rattle.hume_names.proofs.Lookup.{is_some-number_of}
+use Rattle.name_table.proofs.Lookup.{is_some-number_of}
 
 numbers_of-push : (name : List ℕ) (es : List (List ℕ × ℕ)) (o : List ℕ × ℕ) → numbers_of name (es ++ o ∷ []) ≡ numbers_of name es ++ (if bytes_eq name o.0 then o.1 ∷ [] else [])
 numbers_of-push name [] o = refl

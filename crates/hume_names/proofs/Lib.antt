@@ -1,4 +1,3 @@
-pub mod Lookup
 pub mod Repeats
 pub mod Spaces
 pub mod Search

@@ -5,10 +5,11 @@ use Rattle.std.proofs.lemmas.List.Folds.{list_any-append}
 use Rattle.std.proofs.lemmas.Slice.Eq.{bytes_eq-Decides}
 use Rattle.std.proofs.Common.{append_assoc}
 use Rattle.std.specs.Str.{bytes_eq}
-use Rattle.hume_names.specs.Names.{among, repeats}
-use Rattle.hume_names.specs.Tables.{number_of, with_name, names_of}
+use Rattle.name_table.specs.Names.{among}
+use Rattle.hume_names.specs.Names.{repeats}
+use Rattle.name_table.specs.Names.{number_of, with_name, names_of}
 use Rattle.hume_names.specs.inner.Spaces.{SameNames}
-use Rattle.hume_names.proofs.Lookup.{is_some-number_of}
+use Rattle.name_table.proofs.Lookup.{is_some-number_of}
 
 pub among-append : (name : List ℕ) (xs ys : List (List ℕ)) → among name (xs ++ ys) ≡ (among name xs || among name ys)
 among-append name xs ys = list_any-append (λ other. bytes_eq name other) xs ys

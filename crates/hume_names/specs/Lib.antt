@@ -1,5 +1,4 @@
 pub mod Names
-pub mod Tables
 pub mod DeclaredNames
 pub mod Repeated
 pub mod Mentions

@@ -10,7 +10,8 @@ use Rattle.hume_ast.specs.declared.tree.Decl.{Decl}
 use Rattle.hume_ast.specs.declared.tree.Decl.TheVariants.{Sum, Exn, Fun, BoxD, Stream, Wire}
 use Rattle.hume_names.specs.declared.mention_list.NameKind.{NameKind}
 use Rattle.hume_names.specs.declared.mention_list.NameKind.TheVariants.{DataType, Constructor, Exception, Function, Unbound}
-use Rattle.hume_names.specs.Names.{among, joined}
+use Rattle.name_table.specs.Names.{among}
+use Rattle.hume_names.specs.Names.{joined}
 
 -- what a name stands for, and the name
 abbrev pub Mention : Type 0

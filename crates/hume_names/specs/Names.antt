@@ -1,11 +1,7 @@
 -- Names, and declarations by their numbers.
 use Rattle.std.specs.Prelude.{◌≡◌, ℕ, List, [], ◌∷◌, ◌++◌, Bool, false, ◌||◌, Some, slice_get}
-use Rattle.std.specs.List.{list_any}
-use Rattle.std.specs.Str.{bytes_eq}
+use Rattle.name_table.specs.Names.{among}
 use Rattle.hume_ast.specs.declared.tree.Decl.{Decl}
-
-abbrev pub among : List ℕ → List (List ℕ) → Bool
-among name names = list_any (λ other. bytes_eq name other) names
 
 -- one of the names is among the earlier ones, or among those before it
 abbrev pub repeats : List (List ℕ) → List (List ℕ) → Bool

@@ -6,7 +6,8 @@ use Rattle.hume_ast.specs.declared.tree.Decl.{Decl}
 use Rattle.hume_ast.specs.declared.tree.Decl.TheVariants.{Fun, BoxD, Stream, Wire}
 use Rattle.hume_names.specs.declared.mention_list.NameKind.{NameKind}
 use Rattle.hume_names.specs.declared.mention_list.NameKind.TheVariants.{DataType, Constructor, Exception, Function, Unbound}
-use Rattle.hume_names.specs.Names.{among, OfDecl}
+use Rattle.name_table.specs.Names.{among}
+use Rattle.hume_names.specs.Names.{OfDecl}
 use Rattle.hume_names.specs.DeclaredNames.{types_of, constructors_of, exceptions_of, functions_of, given_exceptions}
 use Rattle.hume_names.specs.Mentions.{Mention, mentions_of}
 

@@ -2,10 +2,11 @@ ghost use Rattle.std.specs.Prelude.{◌≡◌, [], IfOk, OnOk};
 ghost use Rattle.hume_names.specs.Unknown.{known_in, is_unknown, mentions_unknown};
 ghost use Rattle.hume_names.specs.inner.KnownTables.{SameKnown, known_of, known_with};
 
+use crate::adding::add_all;
 use crate::declared::{constructors_of, exceptions_of, functions_of, types_of};
 use crate::mention_list::{MentionList, NameKind};
-use crate::table::{NameTable, add_all};
 use hume_ast::Decl;
+use name_table::NameTable;
 use std::alloc::{AllocError, Global};
 
 /// The names that are declared.

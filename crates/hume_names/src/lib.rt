@@ -5,10 +5,11 @@
 //! also has a call of its own. `name_graph` gives the graphs by which functions and data types are numbered.
 //! Meaning: `specs/Misnamed.antt`, over `Repeated.antt`, `Unknown.antt`, `Leading.antt` and `Mentions.antt`, which has the
 //! names that a declaration mentions; and `specs/Twice.antt`.
-//! Knows: trees of declarations. `NameTable` finds a name by its hash.
+//! Knows: trees of declarations.
 //! Doesn't know: types, numbers of arguments, places in the source, and what is told of a broken rule.
 #![tactic(auto)]
 
+mod adding;
 mod declared;
 mod ends;
 mod known;
@@ -22,7 +23,6 @@ mod name_list;
 mod owner_index;
 mod owners;
 mod repeated;
-mod table;
 mod twice;
 mod twice_exps;
 mod unknown;
@@ -31,6 +31,5 @@ pub use leading::{first_in_call_cycle, first_self_holding, name_graph};
 pub use mention_list::NameKind;
 pub use misnamed::first_misnamed;
 pub use repeated::first_repeated;
-pub use table::NameTable;
 pub use twice::first_bound_twice;
 pub use unknown::first_unknown;

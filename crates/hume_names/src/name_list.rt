@@ -1,5 +1,5 @@
 ghost use Rattle.std.specs.Prelude.{◌≡◌, ◌<◌, ◌∷◌, [], ◌++◌, take, map, length, slice_index_or, OnOk, IfOk};
-ghost use Rattle.hume_names.specs.Names.{among};
+ghost use Rattle.name_table.specs.Names.{among};
 
 use std::alloc::{AllocError, Global};
 use std::marker::Model;

@@ -4,9 +4,9 @@ ghost use Rattle.hume_names.specs.inner.Indexed.{IsIndexed, IsIndex, listed};
 
 use crate::mention_list::NameKind;
 use crate::owners::{Owners, owners_of};
-use crate::table::NameTable;
 use hume_ast::Decl;
 use hume_base::List;
+use name_table::NameTable;
 use std::alloc::{AllocError, Global};
 
 /// Names with the numbers of their declarations, and a table of them. Where a name is there again the table isn't asked.
@@ -53,7 +53,7 @@ fn add_owners<'a>(table: &mut NameTable<'a>, owners: &Owners<'a>) -> Result<bool
     let mut distinct = true;
     for at in 0..owners.len() {
         let (name, number) = owners.get(at);
-        let is_new = table.add(name, number)?;
+        let is_new = table.add(name, number as usize)?;
         distinct = distinct & is_new;
     }
     Ok(distinct)
@@ -72,11 +72,15 @@ impl<'a> OwnerIndex<'a> {
     }
 }
 
-fn push_found(number: Option<u32>, row: &mut List<u32>) -> Result<(), AllocError>
+// A number in a table is that of a declaration, so it is never too large.
+fn push_found(number: Option<usize>, row: &mut List<u32>) -> Result<(), AllocError>
     ensures { OnOk result (row.new ≡ row.old ++ listed number) }
 {
     match number {
         None => Ok(()),
-        Some(number) => row.push(number),
+        Some(number) => match u32::try_from(number) {
+            Ok(number) => row.push(number),
+            Err(_) => Err(AllocError),
+        },
     }
 }

@@ -4,10 +4,11 @@ ghost use Rattle.hume_names.specs.Names.{repeats};
 ghost use Rattle.hume_names.specs.Repeated.{RepeatsName, spaces_in, repeats_shared, repeats_own};
 ghost use Rattle.hume_names.specs.inner.Spaces.{SameSpaces, spaces_of, with_declared};
 
+use crate::adding::add_all;
 use crate::declared::{capitals_of, functions_of, handled_of, nodes_of, ports_of, types_of};
 use crate::name_list::NameList;
-use crate::table::{NameTable, add_all};
 use hume_ast::{Decl, Program};
+use name_table::NameTable;
 use std::alloc::{AllocError, Global};
 
 // The names of the spaces that all declarations share.

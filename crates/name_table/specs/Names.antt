@@ -1,6 +1,14 @@
 -- Names with numbers.
-use Rattle.std.specs.Prelude.{ℕ, List, [], ◌∷◌, ◌++◌, Option, Some, None, if◌then◌else◌, is_some}
+use Rattle.std.specs.Prelude.{ℕ, List, [], ◌∷◌, ◌++◌, map, Bool, Option, Some, None, if◌then◌else◌, is_some}
+use Rattle.std.specs.List.{list_any}
 use Rattle.std.specs.Str.{bytes_eq}
+
+-- the name is one of the names
+abbrev pub among : List ℕ → List (List ℕ) → Bool
+among name names = list_any (λ other. bytes_eq name other) names
+
+abbrev pub names_of : List (List ℕ × ℕ) → List (List ℕ)
+names_of entries = map (λ entry. entry.0) entries
 
 -- the number beside a name, or none; the first where there are several
 abbrev pub number_of : List ℕ → List (List ℕ × ℕ) → Option ℕ

@@ -1,11 +1,11 @@
-ghost use Rattle.std.specs.Prelude.{◌≡◌, [], IsTrue, ◌↔◌, IfOk, OnOk, None};
-ghost use Rattle.name_table.specs.Names.{number_of, with_name};
+ghost use Rattle.std.specs.Prelude.{◌≡◌, [], not, IfOk, OnOk};
+ghost use Rattle.name_table.specs.Names.{among, names_of, number_of, with_name};
 
 use indexmap::IndexMap;
 use std::alloc::{AllocError, Global};
 use std::marker::Model;
 
-/// Names in the order in which they were added, each with a number.
+/// Names in the order in which they were added, each with a number. A name is found by its hash.
 #[derive(Drop)]
 pub struct NameTable<'a> {
     entries: IndexMap<&'a [u8], usize>,
@@ -35,12 +35,18 @@ impl<'a> NameTable<'a> {
         self.entries.get(name).copied()
     }
 
-    /// Adds a name that isn't there, and says whether it was added.
+    pub fn has(&self, name: &[u8]) -> bool
+        ensures { result ≡ among name.now (names_of self.now) }
+    {
+        self.entries.contains_key(name)
+    }
+
+    /// Adds a name, unless it is there, and says whether it is new.
     pub fn add(&mut self, name: &'a [u8], number: usize) -> Result<bool, AllocError>
-        ensures new { IfOk result (λ new. IsTrue new ↔ (number_of name.now self.old ≡ None)) }
+        ensures is_new { IfOk result (λ is_new. is_new ≡ not (among name.now (names_of self.old))) }
         ensures added { OnOk result (self.new ≡ with_name self.old name.now number) }
     {
-        if self.entries.contains_key(name) {
+        if self.has(name) {
             return Ok(false);
         }
         self.entries.insert(name, number)?;

@@ -1,7 +1,7 @@
 -- Tables that tell the numbers beside a name.
 use Rattle.std.specs.Prelude.{◌≡◌, ℕ, List, [], ◌∷◌, Option, Some, None, IsTrue}
 use Rattle.hume_names.specs.declared.owner_index.OwnerIndex.{OwnerIndex}
-use Rattle.hume_names.specs.Tables.{number_of}
+use Rattle.name_table.specs.Names.{number_of}
 use Rattle.hume_names.specs.Leading.{numbers_of}
 
 abbrev pub listed : Option ℕ → List ℕ

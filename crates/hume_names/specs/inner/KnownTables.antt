@@ -2,7 +2,7 @@
 use Rattle.std.specs.Prelude.{◌++◌}
 use Rattle.hume_ast.specs.declared.tree.Decl.{Decl}
 use Rattle.hume_names.specs.declared.known.KnownNames.{KnownNames}
-use Rattle.hume_names.specs.Tables.{names_of}
+use Rattle.name_table.specs.Names.{names_of}
 use Rattle.hume_names.specs.DeclaredNames.{types_of, constructors_of, exceptions_of, functions_of}
 use Rattle.hume_names.specs.Unknown.{Known}
 use Rattle.hume_names.specs.inner.Spaces.{SameNames}

@@ -2,8 +2,8 @@
 use Rattle.std.specs.Prelude.{◌≡◌, ℕ, List, ◌++◌}
 use Rattle.hume_ast.specs.declared.tree.Decl.{Decl}
 use Rattle.hume_names.specs.declared.repeated.Tables.{Tables}
-use Rattle.hume_names.specs.Names.{among}
-use Rattle.hume_names.specs.Tables.{names_of}
+use Rattle.name_table.specs.Names.{among}
+use Rattle.name_table.specs.Names.{names_of}
 use Rattle.hume_names.specs.DeclaredNames.{types_of, functions_of, nodes_of}
 use Rattle.hume_names.specs.Repeated.{Spaces, capitals_of}
 

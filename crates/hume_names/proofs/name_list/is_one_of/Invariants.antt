@@ -1,5 +1,5 @@
 use Rattle.std.proofs.Common.{◌≡◌, drop, map}
-use Rattle.hume_names.specs.Names.{among}
+use Rattle.name_table.specs.Names.{among}
 use Rattle.hume_names.proofs.name_list.is_one_of.Given as goal
 
 abbrev pub invariant-loop-other : goal.invariant-loop-other

@@ -1,7 +1,7 @@
 use Rattle.std.proofs.Common.{ap, ◌∙◌, is_some}
-use Rattle.hume_names.specs.Tables.{number_of}
-use Rattle.hume_names.proofs.Lookup.{lookup-number_of, is_some-number_of}
-use Rattle.hume_names.proofs.table.NameTable.has.Goals as goal
+use Rattle.name_table.specs.Names.{number_of}
+use Rattle.name_table.proofs.Lookup.{lookup-number_of, is_some-number_of}
+use Rattle.name_table.proofs.table.NameTable.has.Goals as goal
 
 pub returns : goal.returns
 returns c =

@@ -1,7 +1,7 @@
 use Rattle.std.proofs.Common.{◌≡◌, ◌+◌, ◌∷◌, [], ◌∙◌, ap, sym, drop, length, ◌<◌, arith}
 use Rattle.std.proofs.lemmas.List.{drop_more}
 use Rattle.hume_names.proofs.Repeats.{same_more, again_more}
-use Rattle.hume_names.proofs.table.add_all.Goals as goal
+use Rattle.hume_names.proofs.adding.add_all.Goals as goal
 
 pub loop-at-preserved : goal.loop-at-preserved
 loop-at-preserved c =

@@ -1,8 +1,8 @@
 use Rattle.std.proofs.Common.{◌≡◌, ◌++◌, ◌||◌, drop, take}
 use Rattle.hume_names.specs.Names.{repeats}
-use Rattle.hume_names.specs.Tables.{names_of}
+use Rattle.name_table.specs.Names.{names_of}
 use Rattle.hume_names.specs.inner.Spaces.{SameNames}
-use Rattle.hume_names.proofs.table.add_all.Given as goal
+use Rattle.hume_names.proofs.adding.add_all.Given as goal
 
 abbrev pub invariant-loop-at : goal.invariant-loop-at
 invariant-loop-at l = record {
