@@ -6,7 +6,7 @@ use Rattle.hume_model.specs.declared.core_tree.FunC.{FunC}
 use Rattle.hume_model.specs.declared.core_tree.Core.{Core}
 use Rattle.hume_model.specs.Raising.{raises_with, function_raises, raises_below}
 use Rattle.hume_exceptions.specs.declared.exn_set.ExnSet.{ExnSet}
-use Rattle.hume_exceptions.specs.Sets.{IsSetOf, in_set, called_by, IsRaisesOf}
+use Rattle.hume_exceptions.specs.Sets.{IsSetOf, in_set, called_by}
 
 -- the sets of the first so many functions
 pub record AreSetsBelow (core : Core) (count : ℕ) (sets : List ExnSet) : Type 0 where
@@ -58,9 +58,3 @@ module _ (core : Core) where
       long = long_one sets set ∙ ap suc below.long ∙ sym (add-one count);
       each = λ exn f low. rw add-one (one_more exn f low);
     }
-
-  pub all_sets : (count : ℕ) (sets : List ExnSet) → count ≡ length core.funs → AreSetsBelow core count sets → IsRaisesOf core sets
-  all_sets count sets all below = record {
-    count = below.long ∙ all;
-    each = λ exn f low. below.each exn f low ∙ ap (λ n. raises_below core n exn f) all;
-  }

@@ -3,7 +3,8 @@ ghost use Rattle.std.specs.Prelude.{◌≡◌, MatchOption, None, Some, length};
 ghost use Rattle.std.specs.List.{filter_map, list_any};
 ghost use Rattle.hume_base.specs.declared.types.Ty.{out-Ty};
 ghost use Rattle.hume_model.specs.declared.core_tree.PatC.{PatC as Pattern, out-PatC};
-ghost use Rattle.hume_model.specs.Completeness.{are_complete as leave_none_out, are_all as are_all_there, are_constructors as are_the_constructors, are_truths as are_the_truths, all_below, last_passes, is_irrefutable as has_no_refusal, takes_con as is_of_con, takes_word as is_of_word};
+ghost use Rattle.hume_model.specs.Completeness.{are_complete as leave_none_out, are_all as are_all_there, are_constructors as are_the_constructors, are_truths as are_the_truths};
+ghost use Rattle.hume_model.specs.Completeness.{all_below, last_passes, is_irrefutable as has_no_refusal, takes_con as is_of_con, takes_word as is_of_word};
 
 use crate::patterns::{is_irrefutable, takes_con, takes_word};
 use hume_base::{Ty, Types};

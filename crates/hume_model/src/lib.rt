@@ -2,7 +2,8 @@
 //!
 //! Main calls: `eval_plain` evaluates an expression, `first_firing` fires a box, and `value_of` reads a value.
 //! Definitions: `specs/Meaning.antt` says what an expression comes to, `Firing.antt` what a box does, and `Reading.antt`
-//! which words are those of a value. `WellFormed.antt` says which cores are checked programs.
+//! which words are those of a value. `WellFormed.antt` says which cores are checked programs. `WireRules.antt` and
+//! `HandlerRules.antt` say what wires and handlers may break, and `Raising.antt` and `Completeness.antt` what may be raised.
 //! Laws: evaluation, results and firing keep types; calls unfold; what a rule takes is there; a box that handles what it
 //! raises leaves no output out; and a well-formed core is what these laws ask for.
 //! Knows checked programs: types, expressions, rules, boxes and the wires between them.
