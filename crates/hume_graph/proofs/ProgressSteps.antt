@@ -8,7 +8,7 @@ use Rattle.hume_base.specs.Least.{IsFirst}
 use Rattle.hume_graph.specs.Cycles.{LeadsTo}
 use Rattle.hume_graph.specs.Orders.{IsNext, IsNumbering}
 use Rattle.hume_graph.specs.declared.numbering.Progress.{Progress}
-use Rattle.hume_graph.specs.inner.Progress.{Hit, FrontMarked, IsWait, IsFree, IsProgress}
+use Rattle.hume_graph.specs.inner.Progress.{AllHit, Hit, FrontMarked, IsWait, IsFree, IsProgress}
 
 numbering_more : (graph : List (List ℕ)) (order : List ℕ) (a : ℕ) → IsNumbering graph order → IsFirst (IsNext graph order) (Some a) → IsNumbering graph (order ++ a ∷ [])
 numbering_more graph order a n next k lt = elim (cases_eq k (length order)) [
@@ -61,7 +61,7 @@ module _ (graph : List (List ℕ)) (p : Progress) (is : IsProgress graph p) wher
     )
   ]
 
-  pub progress_more : (a : ℕ) → IsFirst (IsNext graph p.order) (Some a) → IsProgress graph (record { order = p.order ++ a ∷ []; marks = set p.marks a true; waits = set p.waits a (length graph); fronts = p.fronts })
+  pub progress_more : (a : ℕ) → IsFirst (IsNext graph p.order) (Some a) → IsProgress graph (record { order = p.order ++ a ∷ []; marks = set p.marks a true; waits = set p.waits a (length graph); fronts = p.fronts; passed = p.passed })
   progress_more a next =
       let lt = next.0.within in
       record {
@@ -76,6 +76,7 @@ module _ (graph : List (List ℕ)) (p : Progress) (is : IsProgress graph p) wher
           | inr o ↦ waiting_other graph (p.order ++ a ∷ []) (set p.marks a true) p.waits a h (length graph) o (waiting_more graph p.order p.marks p.waits a h (place_in_marks a lt) (is.waiting h within))
         ];
         fronts = λ h within k below inside count. hit_kept p.marks a (get_or (get_or graph h []) k 0) (place_in_marks a lt) (is.fronts h within k below inside count);
+        passed = λ h below. Contains-append_left p.order (a ∷ []) h (is.passed h below);
       }
 
   -- node a waits for what stands at place k of its row
@@ -90,7 +91,7 @@ module _ (graph : List (List ℕ)) (p : Progress) (is : IsProgress graph p) wher
       ]
     ]
 
-    pub progress_wait : IsProgress graph (record { order = p.order; marks = p.marks; waits = set p.waits a (get_or (get_or graph a []) k 0); fronts = set p.fronts a k })
+    pub progress_wait : IsProgress graph (record { order = p.order; marks = p.marks; waits = set p.waits a (get_or (get_or graph a []) k 0); fronts = set p.fronts a k; passed = p.passed })
     progress_wait =
         let row : List ℕ = get_or graph a [] in
         let wait = first.0.1 in
@@ -113,7 +114,21 @@ module _ (graph : List (List ℕ)) (p : Progress) (is : IsProgress graph p) wher
                 (subst (FrontMarked (length graph) p.marks row) (sym (get_or-set_same p.fronts a k 0 in_fronts)) front_longer)
             | inr o ↦ subst (FrontMarked (length graph) p.marks (get_or graph h [])) (sym (get_or-set_other p.fronts a h k 0 o)) (is.fronts h within)
           ];
+          passed = is.passed;
         }
+
+  pub progress_passed : (q : ℕ) → AllHit p.marks (length graph) p.passed q → IsProgress graph (record { order = p.order; marks = p.marks; waits = p.waits; fronts = p.fronts; passed = q })
+  progress_passed q hits = record {
+    numbering = is.numbering;
+    marks_long = is.marks_long;
+    waits_long = is.waits_long;
+    fronts_long = is.fronts_long;
+    marked = is.marked;
+    inside = is.inside;
+    waiting = is.waiting;
+    fronts = is.fronts;
+    passed = λ a lt. elim (cases_lt a p.passed) [ inl before ↦ is.passed a before | inr le ↦ (let h = hits a le lt in (is.marked a h.0).0 h.1) ];
+  }
 
   free_if_next : (j : ℕ) → IsNext graph p.order j → IsFree p.marks p.waits j
   free_if_next j n = record { within = (let e = is.waits_long in let lt = n.within in omega arith); marked = by (is.waiting j n.within) }

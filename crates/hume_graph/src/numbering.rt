@@ -2,20 +2,22 @@ ghost use Rattle.std.specs.Prelude.{◌≡◌, ℕ, ◌<◌, ◌≤◌, ◌^◌,
 ghost use Rattle.std.specs.List.{All};
 ghost use Rattle.hume_base.specs.Least.{IsFirst};
 ghost use Rattle.hume_graph.specs.Orders.{IsNext, IsOrder};
-ghost use Rattle.hume_graph.specs.inner.Progress.{IsProgress, IsFree, IsWait, unmarked};
+ghost use Rattle.hume_graph.specs.inner.Progress.{AllHit, IsProgress, IsFree, IsWait, unmarked};
 
 use crate::rows::row_of;
 use hume_base::List;
 use std::alloc::{AllocError, Global};
 
 // How far an order is found. Beside a mark for each node that has a number there are two more: of the last but one place,
-// which never has a mark and for which numbered nodes wait, and of the last, which always has one.
+// which never has a mark and for which numbered nodes wait, and of the last, which always has one. So many of the first nodes
+// as `passed` says have numbers.
 #[derive(Drop)]
 pub(crate) struct Progress {
     pub(crate) order: List<u32>,
     pub(crate) marks: List<bool>,
     pub(crate) waits: List<usize>,
     pub(crate) fronts: List<usize>,
+    pub(crate) passed: usize,
 }
 
 /// The nodes in the order of their numbers, as far as they get one. It takes a step for each edge, and for each number one
@@ -53,6 +55,7 @@ fn first_progress(alloc: Global, graph: &List<List<u32>>) -> Result<Progress, Al
         marks: List::from_vec(marks),
         waits: List::from_vec(waits),
         fronts: List::from_vec(fronts),
+        passed: 0,
     })
 }
 
@@ -68,6 +71,7 @@ fn number_next(graph: &List<List<u32>>, progress: &mut Progress) -> Result<bool,
         None => Ok(false),
         Some(a) => {
             number_node(graph, progress, a)?;
+            pass_numbered(graph, progress);
             Ok(true)
         }
     }
@@ -86,6 +90,29 @@ fn number_node(graph: &List<List<u32>>, progress: &mut Progress, a: usize) -> Re
     Ok(())
 }
 
+// Passes the first nodes that have a number, so that they aren't looked at again.
+fn pass_numbered(graph: &List<List<u32>>, progress: &mut Progress)
+    requires { IsProgress graph.now progress.old }
+    ensures progress { IsProgress graph.now progress.new }
+    ensures order { progress.new.order ≡ progress.old.order }
+    ensures marks { progress.new.marks ≡ progress.old.marks }
+{
+    progress.passed = first_unmarked(progress.marks.as_slice(), graph.len(), progress.passed);
+}
+
+// The first of so many places, from one on, that has no mark; or how many there are.
+fn first_unmarked(marks: &[bool], count: usize, from: usize) -> usize
+    requires { count ≤ length marks.now }
+    ensures { AllHit marks.now count from result }
+{
+    for a in from..count {
+        if !marks[a] {
+            return a;
+        }
+    }
+    count
+}
+
 // The first node that has no number and leads only to numbered ones.
 fn next_node(graph: &List<List<u32>>, progress: &mut Progress) -> Option<usize>
     requires few { length graph.now < 2 ^ 32 }
@@ -95,7 +122,7 @@ fn next_node(graph: &List<List<u32>>, progress: &mut Progress) -> Option<usize>
     ensures marks { progress.new.marks ≡ progress.old.marks }
     ensures next { IsFirst (IsNext graph.now progress.old.order) result }
 {
-    let mut from = 0;
+    let mut from = progress.passed;
     while let Some(a) = first_free(progress.marks.as_slice(), progress.waits.as_slice(), from) {
         if is_next(graph, progress, a) {
             return Some(a);

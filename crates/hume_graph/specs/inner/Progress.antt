@@ -1,5 +1,5 @@
 -- How far an order is found, and what is known of the nodes that have no number.
-use Rattle.std.specs.Prelude.{◌≡◌, ◌↔◌, ◌⊎◌, ℕ, ◌+◌, ◌<◌, Bool, true, false, List, [], length, slice_index_or, Contains, if◌then◌else◌}
+use Rattle.std.specs.Prelude.{◌≡◌, ◌↔◌, ◌⊎◌, ℕ, ◌+◌, ◌<◌, ◌≤◌, Bool, true, false, List, [], length, slice_index_or, Contains, if◌then◌else◌}
 use Rattle.std.specs.List.{All, sum_by}
 use Rattle.hume_graph.specs.Cycles.{LeadsTo}
 use Rattle.hume_graph.specs.Orders.{IsNumbering}
@@ -8,6 +8,10 @@ use Rattle.hume_graph.specs.declared.numbering.Progress.{Progress}
 -- the place has a mark
 abbrev pub Hit : List Bool → ℕ → Type 0
 Hit marks c = slice_index_or marks c false ≡ true
+
+-- the places from one on and below another are among the first `count` and have marks
+abbrev pub AllHit : List Bool → ℕ → ℕ → ℕ → Type 0
+AllHit marks count from end = (k : ℕ) → from ≤ k → k < end → (k < count) × Hit marks k
 
 -- how many places have none
 abbrev pub unmarked : List Bool → ℕ
@@ -38,3 +42,4 @@ pub record IsProgress (graph : List (List ℕ)) (p : Progress) : Type 0 where
   pub inside : All (λ b. b < length graph + 2) p.waits
   pub waiting : (a : ℕ) → a < length graph → Contains p.order a ⊎ (Hit p.marks (slice_index_or p.waits a 0) ⊎ LeadsTo graph a (slice_index_or p.waits a 0))
   pub fronts : (a : ℕ) → a < length graph → FrontMarked (length graph) p.marks (slice_index_or graph a []) (slice_index_or p.fronts a 0)
+  pub passed : (a : ℕ) → a < p.passed → Contains p.order a
