@@ -1,0 +1,6 @@
+pub mod Names
+pub mod Tables
+pub mod DeclaredNames
+pub mod Repeated
+pub mod Mentions
+pub mod inner
