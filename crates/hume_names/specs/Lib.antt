@@ -1,3 +1,4 @@
+pub mod Leading
 pub mod Names
 pub mod Tables
 pub mod DeclaredNames

@@ -1,0 +1,4 @@
+pub mod Constants
+pub mod CoreOf
+pub mod Declared
+pub mod SignaturesOf
