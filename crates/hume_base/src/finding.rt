@@ -17,13 +17,7 @@ pub fn earlier(left: Option<Finding>, right: Option<Finding>) -> Option<Finding>
     match (left, right) {
         (None, right) => right,
         (left, None) => left,
-        (Some(x), Some(y)) => {
-            if comes_first(x, y) {
-                Some(x)
-            } else {
-                Some(y)
-            }
-        }
+        (Some(x), Some(y)) => { if comes_first(x, y) { Some(x) } else { Some(y) } }
     }
 }
 

@@ -74,7 +74,12 @@ fn port(alloc: Global, name: &[u8]) -> Result<PortC, AllocError>
 }
 
 // A stream that is declared on a line, as so many.
-fn stream(alloc: Global, name: &[u8], declared: (u32, u32), port: &[u8]) -> Result<StreamC, AllocError>
+fn stream(
+    alloc: Global,
+    name: &[u8],
+    declared: (u32, u32),
+    port: &[u8],
+) -> Result<StreamC, AllocError>
     ensures { IfOk result (λ stream. stream ≡ record { name = name.now; line = declared.0; declaration = declared.1; port = port.now }) }
 {
     Ok(StreamC {

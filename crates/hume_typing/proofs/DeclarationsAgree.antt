@@ -22,7 +22,8 @@ use Rattle.hume_typing.proofs.ResultWalkAgrees.{result_walk_agrees}
 abbrev pub Finds : {A B : Type 0} → (A → B → Type 0) → (A → Option B) → Type 0
 Finds Belongs find = (x : _) (c : _) → Belongs x c ↔ (find x ≡ Some c)
 
-pub only_one : {A B : Type 0} (Belongs : A → B → Type 0) (find : A → Option B) → Finds Belongs find → (x : A) (c d : B) → Belongs x c → Belongs x d → c ≡ d
+pub only_one : {A B : Type 0} (Belongs : A → B → Type 0) (find : A → Option B) → Finds Belongs find → (x : A) (c d : B) → Belongs x c
+    → Belongs x d → c ≡ d
 only_one Belongs find f x c d h k = some-same _ _ (sym ((f x c).0 h) ∙ (f x d).0 k)
 
 module _ {A B : Type 0} (Belongs : A → B → Type 0) (find : A → Option B) (f : Finds Belongs find) where
@@ -48,11 +49,13 @@ module _ (s : Signatures) where
   finds_equation signature equation c = (to, from)
     where
       to : IsEquation s signature equation c → equation_walk s signature equation ≡ Some c
-      to h = given-at _ _ (h.vars, h.pats) h.binds ∙ given-at _ _ h.body ((walk_agrees s equation.2).checked_against h.vars signature.gives h.body h.typed) ∙ ap Some (sym h.is)
+      to h = given-at _ _ (h.vars, h.pats) h.binds
+          ∙ given-at _ _ h.body ((walk_agrees s equation.2).checked_against h.vars signature.gives h.body h.typed) ∙ ap Some (sym h.is)
 
       from : equation_walk s signature equation ≡ Some c → IsEquation s signature equation c
       from h =
-          let k = given-inv (patterns s equation.1 signature.params) (λ bound. given ((walk s equation.2).against bound.0 signature.gives) (λ body. Some (equation_core bound.1 body))) c h in
+          let k = given-inv (patterns s equation.1 signature.params) (λ bound. given ((walk s equation.2).against bound.0 signature.gives)
+          (λ body. Some (equation_core bound.1 body))) c h in
           let m = given-inv ((walk s equation.2).against k.0.0 signature.gives) (λ body. Some (equation_core k.0.1 body)) c k.2 in
           record {
             vars = k.0.0;
@@ -67,11 +70,13 @@ module _ (s : Signatures) where
   finds_rule ins outs rule c = (to, from)
     where
       to : IsRule s ins outs rule c → rule_walk s ins outs rule ≡ Some c
-      to h = given-at _ _ (h.vars, h.pats) h.binds ∙ given-at _ _ h.result ((result_walk_agrees s rule.1).result_to h.vars outs h.result h.gives) ∙ ap Some (sym h.is)
+      to h = given-at _ _ (h.vars, h.pats) h.binds ∙ given-at _ _ h.result ((result_walk_agrees s rule.1).result_to h.vars outs h.result h.gives)
+          ∙ ap Some (sym h.is)
 
       from : rule_walk s ins outs rule ≡ Some c → IsRule s ins outs rule c
       from h =
-          let k = given-inv (positions s rule.0 ins) (λ bound. given ((result_walk s rule.1).result bound.0 outs) (λ result. Some (rule_core bound.1 result))) c h in
+          let k = given-inv (positions s rule.0 ins) (λ bound. given ((result_walk s rule.1).result bound.0 outs)
+          (λ result. Some (rule_core bound.1 result))) c h in
           let m = given-inv ((result_walk s rule.1).result k.0.0 outs) (λ result. Some (rule_core k.0.1 result)) c k.2 in
           record {
             vars = k.0.0;
@@ -113,28 +118,35 @@ module _ (s : Signatures) where
   finds_function name tys equations cs = (to, from)
     where
       to : IsFunction s name tys equations cs → function_walk s name tys equations ≡ Some cs
-      to h = given-at _ _ h.signature h.is_written ∙ (finds_all (IsEquation s h.signature) (equation_walk s h.signature) (finds_equation h.signature) equations cs).0 h.have
+      to h = given-at _ _ h.signature h.is_written
+          ∙ (finds_all (IsEquation s h.signature) (equation_walk s h.signature) (finds_equation h.signature) equations cs).0 h.have
 
       from : function_walk s name tys equations ≡ Some cs → IsFunction s name tys equations cs
       from h =
-          let k = given-inv (signature_written s.types name tys) (λ (signature : Signature). found_of_all (equation_walk s signature) equations) cs h in
+          let k = given-inv (signature_written s.types name tys)
+          (λ (signature : Signature). found_of_all (equation_walk s signature) equations) cs h in
           record { signature = k.0; is_written = k.1; have = (finds_all (IsEquation s k.0) (equation_walk s k.0) (finds_equation k.0) equations cs).1 k.2 }
 
-  pub box_to : (inputs outputs : List (List ℕ × TyExp)) (rules : List WrittenRule) (handlers : List WrittenHandler) (rs : List CoredRule) (hs : List CoredHandler)
+  pub box_to : (inputs outputs : List (List ℕ × TyExp)) (rules : List WrittenRule) (handlers : List WrittenHandler) (rs : List CoredRule)
+      (hs : List CoredHandler)
       → IsBox s inputs outputs rules handlers rs hs → box_walk s inputs outputs rules handlers ≡ Some (rs, hs)
   box_to inputs outputs rules handlers rs hs h =
       given-at _ _ h.ins h.inputs_are ∙ given-at _ _ h.outs h.outputs_are
       ∙ given-at _ _ rs ((finds_all (IsRule s h.ins h.outs) (rule_walk s h.ins h.outs) (finds_rule h.ins h.outs) rules rs).0 h.rules_have)
       ∙ given-at _ _ hs ((finds_all (IsHandler s h.outs) (handler_walk s h.outs) (finds_handler h.outs) handlers hs).0 h.handlers_have)
 
-  pub box_from : (inputs outputs : List (List ℕ × TyExp)) (rules : List WrittenRule) (handlers : List WrittenHandler) (rs : List CoredRule) (hs : List CoredHandler)
+  pub box_from : (inputs outputs : List (List ℕ × TyExp)) (rules : List WrittenRule) (handlers : List WrittenHandler) (rs : List CoredRule)
+      (hs : List CoredHandler)
       → box_walk s inputs outputs rules handlers ≡ Some (rs, hs) → IsBox s inputs outputs rules handlers rs hs
   box_from inputs outputs rules handlers rs hs h =
       let k = given-inv (ports_written s.types inputs) (λ ins. given (ports_written s.types outputs) (λ outs.
-      given (found_of_all (rule_walk s ins outs) rules) (λ rs. given (found_of_all (handler_walk s outs) handlers) (λ hs. Some (rs, hs))))) (rs, hs) h in
+      given (found_of_all (rule_walk s ins outs) rules) (λ rs. given (found_of_all (handler_walk s outs) handlers)
+      (λ hs. Some (rs, hs))))) (rs, hs) h in
       let l = given-inv (ports_written s.types outputs) (λ outs.
-      given (found_of_all (rule_walk s k.0 outs) rules) (λ rs. given (found_of_all (handler_walk s outs) handlers) (λ hs. Some (rs, hs)))) (rs, hs) k.2 in
-      let m = given-inv (found_of_all (rule_walk s k.0 l.0) rules) (λ rs. given (found_of_all (handler_walk s l.0) handlers) (λ hs. Some (rs, hs))) (rs, hs) l.2 in
+      given (found_of_all (rule_walk s k.0 outs) rules) (λ rs. given (found_of_all (handler_walk s outs) handlers)
+      (λ hs. Some (rs, hs)))) (rs, hs) k.2 in
+      let m = given-inv (found_of_all (rule_walk s k.0 l.0) rules) (λ rs. given (found_of_all (handler_walk s l.0) handlers)
+      (λ hs. Some (rs, hs))) (rs, hs) l.2 in
       let n = given-inv (found_of_all (handler_walk s l.0) handlers) (λ hs. Some (m.0, hs)) (rs, hs) m.2 in
       let e : (m.0, n.0) ≡ (rs, hs) = some-same _ _ n.2 in
       record {
@@ -148,7 +160,8 @@ module _ (s : Signatures) where
 
   typed_to : (decl : Decl) (b : Bool) → IsTyped s decl b → declaration_walk s decl ≡ Some b
   typed_to (Fun name tys equations) b h = given-at _ _ h.0 ((finds_function name tys equations h.0).0 h.1) ∙ ap Some (sym h.2)
-  typed_to (BoxD name inputs outputs fair rules handlers) b h = given-at _ _ (h.0, h.1) (box_to inputs outputs rules handlers h.0 h.1 h.2) ∙ ap Some (sym h.3)
+  typed_to (BoxD name inputs outputs fair rules handlers) b h = given-at _ _ (h.0, h.1) (box_to inputs outputs rules handlers h.0 h.1 h.2)
+      ∙ ap Some (sym h.3)
   typed_to (Sum name constructors) b h = ap Some (sym h)
   typed_to (Exn name carries) b h = ap Some (sym h)
   typed_to (Stream name from port) b h = ap Some (sym h)

@@ -46,14 +46,16 @@ agrees_closed has own to from = record {
 }
   where
     against : (scope : Scope) (t : Ty) (c : Cored) → own scope ≡ Some (t, c) → expected (own scope) t ≡ Some c
-    against scope t c e = given-at (own scope) (λ p. when (is_same p.0 t) (Some p.1)) (t, c) e ∙ when-at (is_same t t) (Some c) ((is_same-Decides t t).1 refl)
+    against scope t c e = given-at (own scope) (λ p. when (is_same p.0 t) (Some p.1)) (t, c) e
+        ∙ when-at (is_same t t) (Some c) ((is_same-Decides t t).1 refl)
 
 pub agrees_opened : (checked : Scope → Ty → Cored → Type 0) (against : Scope → Ty → Option Cored)
     → ((scope : Scope) (t : Ty) (c : Cored) → checked scope t c → against scope t ≡ Some c) → ((scope : Scope) (t : Ty) (c : Cored) → against scope t ≡ Some c → checked scope t c)
     → Agrees (opened checked) (opened_walk against)
 agrees_opened checked against to from = record {
   is_open = refl;
-  has_own = λ scope t c h. given-at (against scope int32) (λ c. Some (int32, c)) c (to scope int32 c (subst (λ u. checked scope u c) h.0 h.1)) ∙ (λ i. Some (sym h.0 i, c));
+  has_own = λ scope t c h. given-at (against scope int32) (λ c. Some (int32, c)) c (to scope int32 c (subst (λ u. checked scope u c) h.0 h.1))
+      ∙ (λ i. Some (sym h.0 i, c));
   own_has = λ scope t c h. let p = both scope t c h in (p.0, from scope t c p.1);
   checked_against = to;
   against_checked = from;
@@ -88,11 +90,13 @@ agrees_star = agrees_closed _ _ (λ scope t c h. absurd h) (λ scope t c h. cc)
 pub agrees_let : (x : List ℕ) (ja jb : Judged) (a b : Walk) → Agrees ja a → Agrees jb b → Agrees (let_typing x ja jb) (let_walk x a b)
 agrees_let x ja jb a b p q = record {
   is_open = q.is_open;
-  has_own = λ scope t c h. given-at _ _ (h.0, h.1) (p.has_own scope h.0 h.1 h.3) ∙ given-at _ _ (t, h.2) (q.has_own _ t h.2 h.4) ∙ (λ i. Some (t, sym h.5 i));
+  has_own = λ scope t c h. given-at _ _ (h.0, h.1) (p.has_own scope h.0 h.1 h.3) ∙ given-at _ _ (t, h.2) (q.has_own _ t h.2 h.4)
+      ∙ (λ i. Some (t, sym h.5 i));
   own_has = λ scope t c h.
       let k = own scope t c h in
       (k.0, k.1, k.2, p.own_has scope k.0 k.1 k.3, q.own_has _ t k.2 k.4, k.5);
-  checked_against = λ scope t c h. given-at _ _ (h.0, h.1) (p.has_own scope h.0 h.1 h.3) ∙ given-at _ _ h.2 (q.checked_against _ t h.2 h.4) ∙ ap Some (sym h.5);
+  checked_against = λ scope t c h. given-at _ _ (h.0, h.1) (p.has_own scope h.0 h.1 h.3) ∙ given-at _ _ h.2 (q.checked_against _ t h.2 h.4)
+      ∙ ap Some (sym h.5);
   against_checked = λ scope t c h.
       let k = given-inv (a.own scope) (λ p. given (b.against (scope ++ (x, p.0) ∷ []) t) (λ d. Some (let_core p.1 d))) c h in
       let m = given-inv (b.against (scope ++ (x, k.0.0) ∷ []) t) (λ d. Some (let_core k.0.1 d)) c k.2 in
@@ -103,7 +107,8 @@ agrees_let x ja jb a b p q = record {
 }
   where
     own : (scope : Scope) (t : Ty) (c : Cored) → (let_walk x a b).own scope ≡ Some (t, c)
-        → (u : Ty) × (first : Cored) × (second : Cored) × (a.own scope ≡ Some (u, first)) × (b.own (scope ++ (x, u) ∷ []) ≡ Some (t, second)) × (c ≡ let_core first second)
+        → (u : Ty) × (first : Cored) × (second : Cored) × (a.own scope ≡ Some (u, first)) × (b.own (scope ++ (x, u) ∷ []) ≡ Some (t, second))
+        × (c ≡ let_core first second)
     own scope t c h =
         let k = given-inv (a.own scope) (λ p. given (b.own (scope ++ (x, p.0) ∷ [])) (λ q. Some (q.0, let_core p.1 q.1))) (t, c) h in
         let m = given-inv (b.own (scope ++ (x, k.0.0) ∷ [])) (λ q. Some (q.0, let_core k.0.1 q.1)) (t, c) k.2 in
@@ -115,7 +120,8 @@ module _ (ja jb : Judged) (a b : Walk) (p : Agrees ja a) (q : Agrees jb b) where
   abbrev First : Bool → Bool → Scope → Ty → Type 0
   First a_open b_open scope t = either_type a_open (either_type b_open (t ≡ int32) ((c : Cored) × jb.has scope t c)) ((c : Cored) × ja.has scope t c)
 
-  two_to : (oa ob : Bool) (scope : Scope) (t : Ty) (c d : Cored) → First oa ob scope t → ja.checked scope t c → jb.checked scope t d → two_own oa ob a b scope ≡ Some (t, c, d)
+  two_to : (oa ob : Bool) (scope : Scope) (t : Ty) (c d : Cored) → First oa ob scope t → ja.checked scope t c → jb.checked scope t d
+      → two_own oa ob a b scope ≡ Some (t, c, d)
   two_to false ob scope t c d f x y =
       let same : f.0 ≡ c = some-same _ _ (sym (p.own_against scope t f.0 (p.has_own scope t f.0 f.1)) ∙ p.checked_against scope t c x) in
       given-at _ _ (t, f.0) (p.has_own scope t f.0 f.1) ∙ given-at _ _ d (q.checked_against scope t d y) ∙ (λ i. Some (t, same i, d))
@@ -123,9 +129,11 @@ module _ (ja jb : Judged) (a b : Walk) (p : Agrees ja a) (q : Agrees jb b) where
       let same : f.0 ≡ d = some-same _ _ (sym (q.own_against scope t f.0 (q.has_own scope t f.0 f.1)) ∙ q.checked_against scope t d y) in
       given-at _ _ (t, f.0) (q.has_own scope t f.0 f.1) ∙ given-at _ _ c (p.checked_against scope t c x) ∙ (λ i. Some (t, c, same i))
   two_to true true scope t c d f x y =
-      given-at _ _ c (ap (a.against scope) (sym f) ∙ p.checked_against scope t c x) ∙ given-at _ _ d (ap (b.against scope) (sym f) ∙ q.checked_against scope t d y) ∙ (λ i. Some (sym f i, c, d))
+      given-at _ _ c (ap (a.against scope) (sym f) ∙ p.checked_against scope t c x) ∙ given-at _ _ d (ap (b.against scope) (sym f)
+      ∙ q.checked_against scope t d y) ∙ (λ i. Some (sym f i, c, d))
 
-  two_from : (oa ob : Bool) (scope : Scope) (t : Ty) (c d : Cored) → two_own oa ob a b scope ≡ Some (t, c, d) → First oa ob scope t × ja.checked scope t c × jb.checked scope t d
+  two_from : (oa ob : Bool) (scope : Scope) (t : Ty) (c d : Cored) → two_own oa ob a b scope ≡ Some (t, c, d)
+      → First oa ob scope t × ja.checked scope t c × jb.checked scope t d
   two_from false ob scope t c d h =
       let k = given-inv (a.own scope) (λ p. given (b.against scope p.0) (λ d. Some (p.0, p.1, d))) (t, c, d) h in
       let m = given-inv (b.against scope k.0.0) (λ d. Some (k.0.0, k.0.1, d)) (t, c, d) k.2 in
@@ -149,10 +157,12 @@ module _ (ja jb : Judged) (a b : Walk) (p : Agrees ja a) (q : Agrees jb b) where
       (sym (ap (λ r. r.0) e), p.against_checked scope t c left, q.against_checked scope t d right)
 
   -- with what the walk says of which is open
-  two_own_to : (scope : Scope) (t : Ty) (c d : Cored) → FirstType (ja ∷ jb ∷ []) scope t → ja.checked scope t c → jb.checked scope t d → two_own a.is_open b.is_open a b scope ≡ Some (t, c, d)
+  two_own_to : (scope : Scope) (t : Ty) (c d : Cored) → FirstType (ja ∷ jb ∷ []) scope t → ja.checked scope t c → jb.checked scope t d
+      → two_own a.is_open b.is_open a b scope ≡ Some (t, c, d)
   two_own_to scope t c d f x y = (λ i. two_own (sym p.is_open i) (sym q.is_open i) a b scope) ∙ two_to ja.is_open jb.is_open scope t c d f x y
 
-  two_own_from : (scope : Scope) (t : Ty) (c d : Cored) → two_own a.is_open b.is_open a b scope ≡ Some (t, c, d) → FirstType (ja ∷ jb ∷ []) scope t × ja.checked scope t c × jb.checked scope t d
+  two_own_from : (scope : Scope) (t : Ty) (c d : Cored) → two_own a.is_open b.is_open a b scope ≡ Some (t, c, d)
+      → FirstType (ja ∷ jb ∷ []) scope t × ja.checked scope t c × jb.checked scope t d
   two_own_from scope t c d h = two_from ja.is_open jb.is_open scope t c d ((λ i. two_own (p.is_open i) (q.is_open i) a b scope) ∙ h)
 
   two_against_to : (scope : Scope) (t : Ty) (c d : Cored) → ja.checked scope t c → jb.checked scope t d → two_against a b scope t ≡ Some (c, d)
@@ -168,7 +178,8 @@ module _ (ja jb : Judged) (a b : Walk) (p : Agrees ja a) (q : Agrees jb b) where
   pub agrees_arithmetic : (operation : Op) → Agrees (arithmetic_typing operation ja jb) (arithmetic_walk operation a b)
   agrees_arithmetic operation = record {
     is_open = λ i. p.is_open i && q.is_open i;
-    has_own = λ scope t c h. given-at _ _ (t, h.1.0, h.1.1) (two_own_to scope t h.1.0 h.1.1 h.0 h.1.3 h.1.4) ∙ when-at _ _ h.1.2 ∙ (λ i. Some (t, sym h.1.5 i));
+    has_own = λ scope t c h. given-at _ _ (t, h.1.0, h.1.1) (two_own_to scope t h.1.0 h.1.1 h.0 h.1.3 h.1.4) ∙ when-at _ _ h.1.2
+        ∙ (λ i. Some (t, sym h.1.5 i));
     own_has = λ scope t c h. let k = own scope t c h in (k.2.0, (k.0, k.1, k.3, k.2.1, k.2.2, k.4));
     checked_against = to;
     against_checked = λ scope t c h.
@@ -180,9 +191,11 @@ module _ (ja jb : Judged) (a b : Walk) (p : Agrees ja a) (q : Agrees jb b) where
   }
     where
       own : (scope : Scope) (t : Ty) (c : Cored) → (arithmetic_walk operation a b).own scope ≡ Some (t, c)
-          → (left : Cored) × (right : Cored) × (FirstType (ja ∷ jb ∷ []) scope t × ja.checked scope t left × jb.checked scope t right) × (is_number_type t ≡ true) × (c ≡ operation_core operation t left right)
+          → (left : Cored) × (right : Cored) × (FirstType (ja ∷ jb ∷ []) scope t × ja.checked scope t left × jb.checked scope t right)
+          × (is_number_type t ≡ true) × (c ≡ operation_core operation t left right)
       own scope t c h =
-          let k = given-inv (two_own a.is_open b.is_open a b scope) (λ p. when (is_number_type p.0) (Some (p.0, operation_core operation p.0 p.1 p.2))) (t, c) h in
+          let k = given-inv (two_own a.is_open b.is_open a b scope)
+          (λ p. when (is_number_type p.0) (Some (p.0, operation_core operation p.0 p.1 p.2))) (t, c) h in
           let m = when-inv (is_number_type k.0.0) (Some (k.0.0, operation_core operation k.0.0 k.0.1 k.0.2)) (t, c) k.2 in
           let e : (k.0.0, operation_core operation k.0.0 k.0.1 k.0.2) ≡ (t, c) = some-same _ _ m.1 in
           let is : k.0.0 ≡ t = ap (λ r. r.0) e in
@@ -196,7 +209,8 @@ module _ (ja jb : Judged) (a b : Walk) (p : Agrees ja a) (q : Agrees jb b) where
   agrees_comparison operation = agrees_closed _ _
       (λ scope t c h. given-at _ _ (h.0, h.1, h.2) (two_own_to scope h.0 h.1 h.2 h.4 h.6 h.7) ∙ when-at _ _ h.5 ∙ (λ i. Some (sym h.3 i, sym h.8 i)))
       (λ scope t c h.
-      let k = given-inv (two_own a.is_open b.is_open a b scope) (λ p. when (is_comparison operation p.0) (Some (BoolTy, operation_core operation p.0 p.1 p.2))) (t, c) h in
+      let k = given-inv (two_own a.is_open b.is_open a b scope)
+      (λ p. when (is_comparison operation p.0) (Some (BoolTy, operation_core operation p.0 p.1 p.2))) (t, c) h in
       let m = when-inv (is_comparison operation k.0.0) (Some (BoolTy, operation_core operation k.0.0 k.0.1 k.0.2)) (t, c) k.2 in
       let e : (BoolTy, operation_core operation k.0.0 k.0.1 k.0.2) ≡ (t, c) = some-same _ _ m.1 in
       let f = two_own_from scope k.0.0 k.0.1 k.0.2 k.1 in
@@ -214,7 +228,8 @@ module _ (ja jb : Judged) (a b : Walk) (p : Agrees ja a) (q : Agrees jb b) where
   pub agrees_index : Agrees (index_typing ja jb) (index_walk a b)
   agrees_index = agrees_closed _ _
       (λ scope t c h.
-      given-at _ _ (_, h.2) (p.has_own scope _ h.2 h.4) ∙ given-at _ _ (h.0, t) (vector_parts-at _ h.0 t refl) ∙ given-at _ _ (h.1, h.3) (q.has_own scope h.1 h.3 h.5) ∙ when-at _ _ h.6
+      given-at _ _ (_, h.2) (p.has_own scope _ h.2 h.4) ∙ given-at _ _ (h.0, t) (vector_parts-at _ h.0 t refl)
+      ∙ given-at _ _ (h.1, h.3) (q.has_own scope h.1 h.3 h.5) ∙ when-at _ _ h.6
       ∙ (λ i. Some (t, sym h.7 i)))
       (λ scope t c h.
       let k = given-inv (a.own scope) (λ vector. given (vector_parts vector.0) (λ parts. given (b.own scope) (λ place.
@@ -224,14 +239,24 @@ module _ (ja jb : Judged) (a b : Walk) (p : Agrees ja a) (q : Agrees jb b) where
       let m = given-inv (b.own scope) (λ place. when (is_number_type place.0) (Some (l.0.1, index_core l.0.0 k.0.1 place.1))) (t, c) l.2 in
       let n = when-inv (is_number_type m.0.0) (Some (l.0.1, index_core l.0.0 k.0.1 m.0.1)) (t, c) m.2 in
       let e : (l.0.1, index_core l.0.0 k.0.1 m.0.1) ≡ (t, c) = some-same _ _ n.1 in
-      let is = vector_parts-inv k.0.0 l.0.0 t (l.1 ∙ (λ i. Some (l.0.0, (e i).0))) in
-      (l.0.0, m.0.0, k.0.1, m.0.1, p.own_has scope _ k.0.1 (k.1 ∙ (λ i. Some (is i, k.0.1))), q.own_has scope m.0.0 m.0.1 m.1, n.0, sym (ap (λ r. r.1) e)))
+      let is = vector_parts-inv k.0.0 l.0.0 t (l.1 ∙ (λ i. Some (l.0.0, (e i).0))) in (
+        l.0.0,
+        m.0.0,
+        k.0.1,
+        m.0.1,
+        p.own_has scope _ k.0.1 (k.1
+            ∙ (λ i. Some (is i, k.0.1))),
+        q.own_has scope m.0.0 m.0.1 m.1,
+        n.0,
+        sym (ap (λ r. r.1) e),
+      ))
 
   pub agrees_if : (jt : Judged) (test : Walk) → Agrees jt test → Agrees (if_typing jt ja jb) (if_walk test a b)
   agrees_if jt test r = record {
     is_open = λ i. p.is_open i && q.is_open i;
     has_own = λ scope t c h.
-        given-at _ _ h.1.0 (r.checked_against scope BoolTy h.1.0 h.1.3) ∙ given-at _ _ (t, h.1.1, h.1.2) (two_own_to scope t h.1.1 h.1.2 h.0 h.1.4 h.1.5) ∙ (λ i. Some (t, sym h.1.6 i));
+        given-at _ _ h.1.0 (r.checked_against scope BoolTy h.1.0 h.1.3)
+        ∙ given-at _ _ (t, h.1.1, h.1.2) (two_own_to scope t h.1.1 h.1.2 h.0 h.1.4 h.1.5) ∙ (λ i. Some (t, sym h.1.6 i));
     own_has = λ scope t c h. let k = own scope t c h in (k.0, k.1);
     checked_against = to;
     against_checked = λ scope t c h.
@@ -242,9 +267,11 @@ module _ (ja jb : Judged) (a b : Walk) (p : Agrees ja a) (q : Agrees jb b) where
     own_against = λ scope t c h. to scope t c (own scope t c h).1;
   }
     where
-      own : (scope : Scope) (t : Ty) (c : Cored) → (if_walk test a b).own scope ≡ Some (t, c) → FirstType (ja ∷ jb ∷ []) scope t × Branches jt ja jb scope t c
+      own : (scope : Scope) (t : Ty) (c : Cored) → (if_walk test a b).own scope ≡ Some (t, c)
+          → FirstType (ja ∷ jb ∷ []) scope t × Branches jt ja jb scope t c
       own scope t c h =
-          let k = given-inv (test.against scope BoolTy) (λ x. given (two_own a.is_open b.is_open a b scope) (λ p. Some (p.0, if_core x p.1 p.2))) (t, c) h in
+          let k = given-inv (test.against scope BoolTy) (λ x. given (two_own a.is_open b.is_open a b scope)
+          (λ p. Some (p.0, if_core x p.1 p.2))) (t, c) h in
           let m = given-inv (two_own a.is_open b.is_open a b scope) (λ p. Some (p.0, if_core k.0 p.1 p.2)) (t, c) k.2 in
           let e : (m.0.0, if_core k.0 m.0.1 m.0.2) ≡ (t, c) = some-same _ _ m.2 in
           let f = two_own_from scope t m.0.1 m.0.2 (m.1 ∙ (λ i. Some ((e i).0, m.0.1, m.0.2))) in
@@ -252,9 +279,11 @@ module _ (ja jb : Judged) (a b : Walk) (p : Agrees ja a) (q : Agrees jb b) where
 
       to : (scope : Scope) (t : Ty) (c : Cored) → Branches jt ja jb scope t c → (if_walk test a b).against scope t ≡ Some c
       to scope t c h =
-          given-at _ _ h.0 (r.checked_against scope BoolTy h.0 h.3) ∙ given-at _ _ (h.1, h.2) (two_against_to scope t h.1 h.2 h.4 h.5) ∙ ap Some (sym h.6)
+          given-at _ _ h.0 (r.checked_against scope BoolTy h.0 h.3) ∙ given-at _ _ (h.1, h.2) (two_against_to scope t h.1 h.2 h.4 h.5)
+          ∙ ap Some (sym h.6)
 
-pub agrees_binary : (sign : BinOp) (ja jb : Judged) (a b : Walk) → Agrees ja a → Agrees jb b → Agrees (binary_typing sign ja jb) (binary_walk sign a b)
+pub agrees_binary : (sign : BinOp) (ja jb : Judged) (a b : Walk) → Agrees ja a → Agrees jb b
+    → Agrees (binary_typing sign ja jb) (binary_walk sign a b)
 agrees_binary sign.Or ja jb a b p q = agrees_logic ja jb a b p q or_core
 agrees_binary sign.And ja jb a b p q = agrees_logic ja jb a b p q and_core
 agrees_binary sign.Eq ja jb a b p q = agrees_comparison ja jb a b p q op.Eq
@@ -289,7 +318,8 @@ module _ (j : Judged) (a : Walk) (p : Agrees j a) where
         let k = when-inv (is_number_type t) (given (a.against scope t) (λ part. Some (neg_core t part))) c h in
         let m = given-inv (a.against scope t) (λ part. Some (neg_core t part)) c k.1 in
         (m.0, k.0, p.against_checked scope t m.0 m.1, sym (some-same _ _ m.2));
-    own_against = λ scope t c h. let k = own scope t c h in to scope t c (k.0, k.1, p.against_checked scope t k.0 (p.own_against scope t k.0 k.2), k.3);
+    own_against =
+        λ scope t c h. let k = own scope t c h in to scope t c (k.0, k.1, p.against_checked scope t k.0 (p.own_against scope t k.0 k.2), k.3);
   }
     where
       own : (scope : Scope) (t : Ty) (c : Cored) → (neg_walk a).own scope ≡ Some (t, c)
@@ -306,10 +336,13 @@ module _ (j : Judged) (a : Walk) (p : Agrees j a) where
 
   pub agrees_cast : (s : Signatures) (type : TyExp) → Agrees (cast_typing s j type) (cast_walk s a type)
   agrees_cast s type = agrees_closed _ _
-      (λ scope t c h. given-at _ _ t h.2 ∙ when-at _ _ h.3 ∙ given-at _ _ (h.0, h.1) (p.has_own scope h.0 h.1 h.4) ∙ when-at _ _ h.5 ∙ (λ i. Some (t, sym h.6 i)))
+      (λ scope t c h. given-at _ _ t h.2 ∙ when-at _ _ h.3 ∙ given-at _ _ (h.0, h.1) (p.has_own scope h.0 h.1 h.4) ∙ when-at _ _ h.5
+      ∙ (λ i. Some (t, sym h.6 i)))
       (λ scope t c h.
-      let k = given-inv (written s.types type) (λ ty. when (is_number_type ty) (given (a.own scope) (λ part. when (is_number_type part.0) (Some (ty, convert_core ty part.1))))) (t, c) h in
-      let l = when-inv (is_number_type k.0) (given (a.own scope) (λ part. when (is_number_type part.0) (Some (k.0, convert_core k.0 part.1)))) (t, c) k.2 in
+      let k = given-inv (written s.types type) (λ ty. when (is_number_type ty) (given (a.own scope)
+      (λ part. when (is_number_type part.0) (Some (ty, convert_core ty part.1))))) (t, c) h in
+      let l = when-inv (is_number_type k.0) (given (a.own scope)
+      (λ part. when (is_number_type part.0) (Some (k.0, convert_core k.0 part.1)))) (t, c) k.2 in
       let m = given-inv (a.own scope) (λ part. when (is_number_type part.0) (Some (k.0, convert_core k.0 part.1))) (t, c) l.1 in
       let n = when-inv (is_number_type m.0.0) (Some (k.0, convert_core k.0 m.0.1)) (t, c) m.2 in
       let e : (k.0, convert_core k.0 m.0.1) ≡ (t, c) = some-same _ _ n.1 in
@@ -340,15 +373,20 @@ raised_alone-from s name n h =
 pub agrees_raise : (s : Signatures) (name : List ℕ) → Agrees (raise_typing s name) (raise_walk s name)
 agrees_raise s name = agrees_opened _ _
     (λ scope t c h. given-at _ _ h.0 (raised_alone-to s name h.0 h.1) ∙ ap Some (sym h.2))
-    (λ scope t c h. let k = given-inv (raised_alone (exn_named name s)) (λ number. Some (raise_core number)) c h in (k.0, raised_alone-from s name k.0 k.1, sym (some-same _ _ k.2)))
+    (λ scope t c h. let k =
+    given-inv (raised_alone (exn_named name s))
+    (λ number. Some (raise_core number)) c h in (k.0, raised_alone-from s name k.0 k.1, sym (some-same _ _ k.2)))
 
 module _ (s : Signatures) (name : List ℕ) (j : Judged) (a : Walk) (p : Agrees j a) where
-  pub raised_with-to : (scope : Scope) (n : ℕ) (part : Cored) → RaisedWith s name j scope n part → raised_with (exn_named name s) a scope ≡ Some (n, part)
+  pub raised_with-to : (scope : Scope) (n : ℕ) (part : Cored) → RaisedWith s name j scope n part
+      → raised_with (exn_named name s) a scope ≡ Some (n, part)
   raised_with-to scope n part h = given-at _ _ (n, h.0) h.2 ∙ given-at _ _ h.1 h.3 ∙ given-at _ _ part (p.checked_against scope h.1 part h.4)
 
-  pub raised_with-from : (scope : Scope) (n : ℕ) (part : Cored) → raised_with (exn_named name s) a scope ≡ Some (n, part) → RaisedWith s name j scope n part
+  pub raised_with-from : (scope : Scope) (n : ℕ) (part : Cored) → raised_with (exn_named name s) a scope ≡ Some (n, part)
+      → RaisedWith s name j scope n part
   raised_with-from scope n part h =
-      let k = given-inv (exn_named name s) (λ (found : ℕ × ExnDef). given found.1.carries (λ carried. given (a.against scope carried) (λ part. Some (found.0, part)))) (n, part) h in
+      let k = given-inv (exn_named name s) (λ (found : ℕ
+      × ExnDef). given found.1.carries (λ carried. given (a.against scope carried) (λ part. Some (found.0, part)))) (n, part) h in
       let l = given-inv k.0.1.carries (λ carried. given (a.against scope carried) (λ part. Some (k.0.0, part))) (n, part) k.2 in
       let m = given-inv (a.against scope l.0) (λ part. Some (k.0.0, part)) (n, part) l.2 in
       let e : (k.0.0, m.0) ≡ (n, part) = some-same _ _ m.2 in
@@ -365,23 +403,27 @@ module _ (ja jb jd : Judged) (a b d : Walk) (p : Agrees ja a) (q : Agrees jb b) 
   -- what an update says of all but the vector's core
   abbrev Rest : Scope → Ty → Cored → Cored → Type 0
   Rest scope t vector c =
-      (count : ℕ) × (item : Ty) × (of : Ty) × (place : Cored) × (new_item : Cored) × (vector_parts t ≡ Some (count, item)) × jb.has scope of place × (is_number_type of ≡ true)
+      (count : ℕ) × (item : Ty) × (of : Ty) × (place : Cored) × (new_item : Cored) × (vector_parts t ≡ Some (count, item)) × jb.has scope of place
+      × (is_number_type of ≡ true)
       × jd.checked scope item new_item × (c ≡ update_core count vector place new_item)
 
   rest_to : (scope : Scope) (t : Ty) (vector c : Cored) → Rest scope t vector c → updated b d scope t vector ≡ Some c
   rest_to scope t vector c h =
-      given-at _ _ (h.0, h.1) h.5 ∙ given-at _ _ (h.2, h.3) (q.has_own scope h.2 h.3 h.6) ∙ when-at _ _ h.7 ∙ given-at _ _ h.4 (r.checked_against scope h.1 h.4 h.8) ∙ ap Some (sym h.9)
+      given-at _ _ (h.0, h.1) h.5 ∙ given-at _ _ (h.2, h.3) (q.has_own scope h.2 h.3 h.6) ∙ when-at _ _ h.7
+      ∙ given-at _ _ h.4 (r.checked_against scope h.1 h.4 h.8) ∙ ap Some (sym h.9)
 
   rest_from : (scope : Scope) (t : Ty) (vector c : Cored) → updated b d scope t vector ≡ Some c → Rest scope t vector c
   rest_from scope t vector c h =
       let k = given-inv (vector_parts t) (λ parts. given (b.own scope) (λ place. when (is_number_type place.0)
       (given (d.against scope parts.1) (λ new_item. Some (update_core parts.0 vector place.1 new_item))))) c h in
-      let l = given-inv (b.own scope) (λ place. when (is_number_type place.0) (given (d.against scope k.0.1) (λ new_item. Some (update_core k.0.0 vector place.1 new_item)))) c k.2 in
+      let l = given-inv (b.own scope) (λ place. when (is_number_type place.0) (given (d.against scope k.0.1)
+      (λ new_item. Some (update_core k.0.0 vector place.1 new_item)))) c k.2 in
       let m = when-inv (is_number_type l.0.0) (given (d.against scope k.0.1) (λ new_item. Some (update_core k.0.0 vector l.0.1 new_item))) c l.2 in
       let n = given-inv (d.against scope k.0.1) (λ new_item. Some (update_core k.0.0 vector l.0.1 new_item)) c m.1 in
       (k.0.0, k.0.1, l.0.0, l.0.1, n.0, k.1, q.own_has scope l.0.0 l.0.1 l.1, m.0, r.against_checked scope k.0.1 n.0 n.1, sym (some-same _ _ n.2))
 
-  joined : (Vector : Scope → Ty → Cored → Type 0) (scope : Scope) (t : Ty) (vector c : Cored) → Vector scope t vector → Rest scope t vector c → Updated Vector jb jd scope t c
+  joined : (Vector : Scope → Ty → Cored → Type 0) (scope : Scope) (t : Ty) (vector c : Cored) → Vector scope t vector → Rest scope t vector c
+      → Updated Vector jb jd scope t c
   joined Vector scope t vector c v h = (h.0, h.1, h.2, vector, h.3, h.4, vector_parts-inv t h.0 h.1 h.5, v, h.6, h.7, h.8, h.9)
 
   rest_of : (Vector : Scope → Ty → Cored → Type 0) (scope : Scope) (t : Ty) (c : Cored) (h : Updated Vector jb jd scope t c) → Rest scope t h.3 c
@@ -399,7 +441,8 @@ module _ (ja jb jd : Judged) (a b d : Walk) (p : Agrees ja a) (q : Agrees jb b) 
     own_against = λ scope t c h. let k = own scope t c h in given-at _ _ k.0 (p.own_against scope t k.0 k.1) ∙ rest_to scope t k.0 c k.2;
   }
     where
-      own : (scope : Scope) (t : Ty) (c : Cored) → (update_walk a b d).own scope ≡ Some (t, c) → (vector : Cored) × (a.own scope ≡ Some (t, vector)) × Rest scope t vector c
+      own : (scope : Scope) (t : Ty) (c : Cored) → (update_walk a b d).own scope ≡ Some (t, c)
+          → (vector : Cored) × (a.own scope ≡ Some (t, vector)) × Rest scope t vector c
       own scope t c h =
           let k = given-inv (a.own scope) (λ vector. of_type vector.0 (updated b d scope vector.0 vector.1)) (t, c) h in
           let m = given-inv (updated b d scope k.0.0 k.0.1) (λ c. Some (k.0.0, c)) (t, c) k.2 in

@@ -41,7 +41,8 @@ module _ (s : Signatures) (core : Core) (of : HasSignatures s core) where
   -- what is equal is typed alike
   shown : (scope : Scope) (t u : Ty) (c d : Cored) → t ≡ u → c ≡ d → IsTypedAs scope u d → IsTypedAs scope t c
   shown scope t u c d is e f off =
-      subst (λ v. HasType core (scope_types scope) c.0 v) (sym is) (subst (λ (r : Cored). HasType core (scope_types scope) r.0 u) (sym e) (f (ap (λ (r : Cored). r.1) (sym e) ∙ off)))
+      subst (λ v. HasType core (scope_types scope) c.0 v) (sym is) (subst (λ (r : Cored). HasType core (scope_types scope) r.0 u) (sym e) (f (ap
+      (λ (r : Cored). r.1) (sym e) ∙ off)))
 
   sound_closed : (P : Scope → Ty → Cored → Type 0) → AllTypedAs P → IsSound (closed P)
   sound_closed P p = record { has = p; checked = p }
@@ -54,7 +55,8 @@ module _ (s : Signatures) (core : Core) (of : HasSignatures s core) where
       (λ off. HasType.word (literal_word negative amount) (literal-value core.types t negative amount h.0 off)))
 
   pub sound_letter : (byte : ℕ) → IsSound (letter_typing byte)
-  sound_letter byte = sound_closed _ (λ scope t c h. shown scope t _ c (letter_core byte) h.0 h.1 (λ off. HasType.word byte (letter-value core.types byte off)))
+  sound_letter byte =
+      sound_closed _ (λ scope t c h. shown scope t _ c (letter_core byte) h.0 h.1 (λ off. HasType.word byte (letter-value core.types byte off)))
 
   truth : (scope : Scope) (b : Bool) → HasType core (scope_types scope) (truth_core b).0 BoolTy
   truth scope b = HasType.word (word_of_truth b) (truth-value core.types b)
@@ -68,7 +70,8 @@ module _ (s : Signatures) (core : Core) (of : HasSignatures s core) where
   binding : (name : List ℕ) (a : Judged) (Body : Scope → Ty → Cored → Type 0) → AllTypedAs a.has → AllTypedAs Body → AllTypedAs (Binding name a Body)
   binding name a Body p q scope t c h = shown scope t t c (let_core h.1 h.2) refl h.5 (λ off.
       let flags = or_parts h.1.1 h.2.1 off in
-      HasType.binding h.0 (p scope h.0 h.1 h.3 flags.0) (subst (λ vars. HasType core vars h.2.0 t) (one_more scope name h.0) (q (scope ++ (name, h.0) ∷ []) t h.2 h.4 flags.1)))
+      HasType.binding h.0 (p scope h.0 h.1 h.3 flags.0) (subst
+      (λ vars. HasType core vars h.2.0 t) (one_more scope name h.0) (q (scope ++ (name, h.0) ∷ []) t h.2 h.4 flags.1)))
 
   pub sound_let : (name : List ℕ) (a b : Judged) → IsSound a → IsSound b → IsSound (let_typing name a b)
   sound_let name a b p q = record { has = binding name a b.has p.has q.has; checked = binding name a b.checked p.has q.checked }
@@ -135,7 +138,8 @@ module _ (s : Signatures) (core : Core) (of : HasSignatures s core) where
     updated Vector v scope t c h = shown scope t (VectorTy h.0 h.1) c (update_core h.0 h.3 h.4 h.5) h.6 h.11 (λ off.
         let first = or_parts h.3.1 (h.4.1 || h.5.1) off in
         let two = or_parts h.4.1 h.5.1 first.1 in
-        HasType.update h.0 h.2 h.1 h.9 (subst (HasType core (scope_types scope) h.3.0) h.6 (v scope t h.3 h.7 first.0)) (p.has scope h.2 h.4 h.8 two.0) (q.checked scope h.1 h.5 h.10 two.1))
+        HasType.update h.0 h.2 h.1 h.9
+        (subst (HasType core (scope_types scope) h.3.0) h.6 (v scope t h.3 h.7 first.0)) (p.has scope h.2 h.4 h.8 two.0) (q.checked scope h.1 h.5 h.10 two.1))
 
   pub sound_update : (a b d : Judged) → IsSound a → IsSound b → IsSound d → IsSound (update_typing a b d)
   sound_update a b d p q r = record { has = updated b d q r a.has p.has; checked = updated b d q r a.checked p.checked }
@@ -146,7 +150,8 @@ module _ (s : Signatures) (core : Core) (of : HasSignatures s core) where
         HasType.opposite (HaveTypes.one (p.checked scope BoolTy h.0 h.2 off) HaveTypes.none)))
 
     negation : (Part : Scope → Ty → Cored → Type 0) → AllTypedAs Part → AllTypedAs (Negation Part)
-    negation Part v scope t c h = shown scope t t c (neg_core t h.0) refl h.3 (λ off. HasType.negation t h.1 (HaveTypes.one (v scope t h.0 h.2 off) HaveTypes.none))
+    negation Part v scope t c h =
+        shown scope t t c (neg_core t h.0) refl h.3 (λ off. HasType.negation t h.1 (HaveTypes.one (v scope t h.0 h.2 off) HaveTypes.none))
 
     pub sound_neg : IsSound (neg_typing a)
     sound_neg = record { has = negation a.has p.has; checked = negation a.checked p.checked }
@@ -157,7 +162,8 @@ module _ (s : Signatures) (core : Core) (of : HasSignatures s core) where
 
   -- an exception stands under its number
   pub exn_stands : (name : List ℕ) (number : ℕ) (exn : ExnDef) → exn_named name s ≡ Some (number, exn) → slice_get core.exns number ≡ Some exn
-  exn_stands name number exn h = ap (λ (xs : List ExnDef). slice_get xs number) of.exns ∙ first_stands (λ (exn : ExnDef). exn.name) name s.exns number exn h
+  exn_stands name number exn h = ap (λ (xs : List ExnDef). slice_get xs number) of.exns
+      ∙ first_stands (λ (exn : ExnDef). exn.name) name s.exns number exn h
 
   pub sound_raise : (name : List ℕ) → IsSound (raise_typing s name)
   sound_raise name = sound_opened _ (λ scope t c h. shown scope t t c (raise_core h.0) refl h.2 (λ off.
@@ -172,7 +178,8 @@ module _ (s : Signatures) (core : Core) (of : HasSignatures s core) where
   AllSound [] = Unit {0}
   AllSound (j ∷ js) = IsSound j × AllSound js
 
-  all_checked : (js : List Judged) → AllSound js → (scope : Scope) (ts : List Ty) (cs : List Cored) → AllChecked scope js ts cs → some_too_wide cs ≡ false
+  all_checked : (js : List Judged) → AllSound js → (scope : Scope) (ts : List Ty) (cs : List Cored) → AllChecked scope js ts cs
+      → some_too_wide cs ≡ false
       → HaveTypes core (scope_types scope) (cores cs) ts
   all_checked [] g scope [] [] h off = HaveTypes.none
   all_checked [] g scope (t ∷ ts) cs h off = absurd h
@@ -201,11 +208,14 @@ module _ (s : Signatures) (core : Core) (of : HasSignatures s core) where
   each_checked (j ∷ js) g scope t [] h off = absurd h
 
   pub sound_app : (name : List ℕ) (js : List Judged) → AllSound js → IsSound (app_typing s name js)
-  sound_app name [] g = sound_closed _ (λ scope t c h. shown scope t t c (variable_core h.0) refl h.2 (λ off. HasType.variable h.0 (variable_stands name scope h.0 t h.1)))
+  sound_app name [] g =
+      sound_closed _ (λ scope t c h. shown scope t t c (variable_core h.0) refl h.2
+      (λ off. HasType.variable h.0 (variable_stands name scope h.0 t h.1)))
   sound_app name (j ∷ js) g = sound_closed _ (λ scope t c h.
       let f = of.funs h.0 h.1 (first_stands (λ (function : Signature). function.name) name s.funs h.0 h.1 h.3) in
       shown scope t f.function.gives c (call_core h.0 h.2) (h.4 ∙ sym f.is.gives) h.6 (λ off.
-      HasType.call h.0 f.function f.there (subst (HaveTypes core (scope_types scope) (cores h.2)) (sym f.is.params) (all_checked (j ∷ js) g scope h.1.params h.2 h.5 off))))
+      HasType.call h.0 f.function f.there
+      (subst (HaveTypes core (scope_types scope) (cores h.2)) (sym f.is.params) (all_checked (j ∷ js) g scope h.1.params h.2 h.5 off))))
 
   module _ (js : List Judged) (g : AllSound js) where
     pub sound_con : (name : List ℕ) → IsSound (con_typing s name js)
@@ -222,7 +232,8 @@ module _ (s : Signatures) (core : Core) (of : HasSignatures s core) where
     }
 
     elements : (scope : Scope) (item t : Ty) (c : Cored) → Elements js scope item t c → IsTypedAs scope t c
-    elements scope item t c h = shown scope t _ c (vector_core h.0) h.1 h.3 (λ off. HasType.vector (length js) item (each_checked js g scope item h.0 h.2 off))
+    elements scope item t c h =
+        shown scope t _ c (vector_core h.0) h.1 h.3 (λ off. HasType.vector (length js) item (each_checked js g scope item h.0 h.2 off))
 
     pub sound_vector : IsSound (vector_typing js)
     sound_vector = record { has = λ scope t c h. elements scope h.0 t c h.2; checked = λ scope t c h. elements scope h.0 t c h.1 }
@@ -232,7 +243,8 @@ module _ (s : Signatures) (core : Core) (of : HasSignatures s core) where
   AllArmsSound [] = Unit {0}
   AllArmsSound (arm ∷ arms) = IsSound arm.body × AllArmsSound arms
 
-  arms_typed : (scope : Scope) (u t : Ty) (arms : List Arm) → AllArmsSound arms → (cs : List CoredArm) → ArmsChecked s scope u arms t cs → some_arm_too_wide cs ≡ false
+  arms_typed : (scope : Scope) (u t : Ty) (arms : List Arm) → AllArmsSound arms → (cs : List CoredArm) → ArmsChecked s scope u arms t cs
+      → some_arm_too_wide cs ≡ false
       → ArmsHaveType core (scope_types scope) u (arm_cores cs) t
   arms_typed scope u t [] g [] h off = ArmsHaveType.no_arm
   arms_typed scope u t [] g (c ∷ cs) h off = absurd h
@@ -241,7 +253,8 @@ module _ (s : Signatures) (core : Core) (of : HasSignatures s core) where
       let two = or_parts c.0.1 c.1.1 flags.0 in
       let p : IsPattern core.types u c.0.0 (scope_types h.0) =
       subst (λ types. IsPattern types u c.0.0 (scope_types h.0)) (sym of.types) (pattern_typed s arm.pat u (h.0, c.0) h.1 two.0) in
-      let body = subst (λ vars. HasType core vars c.1.0 t) (map-append (λ (v : List ℕ × Ty). v.1) scope h.0) (g.0.checked (scope ++ h.0) t c.1 h.2 two.1) in
+      let body = subst (λ vars. HasType core vars c.1.0 t) (map-append (λ (v : List ℕ
+      × Ty). v.1) scope h.0) (g.0.checked (scope ++ h.0) t c.1 h.2 two.1) in
       ArmsHaveType.one_arm p body (arms_typed scope u t arms g.1 cs h.3 flags.1)
   arms_typed scope u t (arm ∷ arms) g [] h off = absurd h
 

@@ -68,12 +68,15 @@ module _ (named : ℕ → Value → Bool) where
   layer_value (Ty-F.Nat bits) num z h = ap (is_word_of (λ word. nat_lt word (2 ^ bits))) (out-word (word_of z)) ∙ nat_word bits z h
   layer_value _ num z h = absurd (false≢true num)
 
-  rolled_value : (x : Ty-F Ty) → is_number_layer x ≡ true → (z : ℤ) → is_number_of z x ≡ true → is_value_with named (roll-Ty x) (value.Word (word_of z)) ≡ true
-  rolled_value x num z h = ap (λ (t : Value → Bool). t (value.Word (word_of z))) (fold-roll-Ty (Value → Bool) (value_step named) x) ∙ layer_value x num z h
+  rolled_value : (x : Ty-F Ty) → is_number_layer x ≡ true → (z : ℤ) → is_number_of z x ≡ true
+      → is_value_with named (roll-Ty x) (value.Word (word_of z)) ≡ true
+  rolled_value x num z h = ap (λ (t : Value → Bool). t (value.Word (word_of z))) (fold-roll-Ty (Value → Bool) (value_step named) x)
+      ∙ layer_value x num z h
 
   char_value : (w : ℕ) → is_char_word w ≡ true → is_value_with named CharTy (value.Word w) ≡ true
   char_value w h =
-      ap (λ t. is_value_with named t (value.Word w)) (sym rolls-Char) ∙ ap (λ (t : Value → Bool). t (value.Word w)) (fold-roll-Ty (Value → Bool) (value_step named) Ty-F.Char)
+      ap (λ t. is_value_with named t (value.Word w)) (sym rolls-Char)
+      ∙ ap (λ (t : Value → Bool). t (value.Word w)) (fold-roll-Ty (Value → Bool) (value_step named) Ty-F.Char)
       ∙ ap (is_word_of is_char_word) (out-word w) ∙ h
 
   truth_value : (b : Bool) → is_value_with named BoolTy (value.Word (word_of_truth b)) ≡ true

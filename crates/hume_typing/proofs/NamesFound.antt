@@ -31,7 +31,8 @@ pub record ConstructorIs (sums : List SumDef) (con : Constructor) : Type 0 where
 
 pub con_stands : (name : List ℕ) (sums : List SumDef) (con : Constructor) → con_among name sums ≡ Some con → ConstructorIs sums con
 con_stands name [] con h = cc
-con_stands name (sum ∷ sums) con h = by (first_named of_name name sum.cons) (first_stands of_name name sum.cons) (con_among name sums) (con_stands name sums) h
+con_stands name (sum ∷ sums) con h =
+    by (first_named of_name name sum.cons) (first_stands of_name name sum.cons) (con_among name sums) (con_stands name sums) h
   where
     of_name : ConDef → List ℕ
     of_name con = con.name
@@ -48,7 +49,8 @@ con_stands name (sum ∷ sums) con h = by (first_named of_name name sum.cons) (f
         subst (ConstructorIs (sum ∷ sums)) (some-same (record { sum = c.sum + 1; place = c.place; fields = c.fields }) con h)
         (record { sum = is.sum; there = ap (slice_get (sum ∷ sums)) (add-one c.sum) ∙ is.there; within = is.within; fields = is.fields })
 
-pub variable_stands : (name : List ℕ) (scope : Scope) (i : ℕ) (t : Ty) → variable_named name scope ≡ Some (i, t) → slice_get (scope_types scope) i ≡ Some t
+pub variable_stands : (name : List ℕ) (scope : Scope) (i : ℕ) (t : Ty) → variable_named name scope ≡ Some (i, t)
+    → slice_get (scope_types scope) i ≡ Some t
 variable_stands name [] i t h = cc
 variable_stands name (v ∷ vs) i t h = by (variable_named name vs) (variable_stands name vs) h
   where
@@ -63,5 +65,6 @@ variable_stands name (v ∷ vs) i t h = by (variable_named name vs) (variable_st
         → slice_get (v.1 ∷ scope_types vs) i ≡ Some t
     by (Some found) rest h =
         let e : (found.0 + 1, found.1) ≡ (i, t) = some-same _ _ h in
-        subst (λ r. slice_get (v.1 ∷ scope_types vs) r.0 ≡ Some r.1) e (ap (slice_get (v.1 ∷ scope_types vs)) (add-one found.0) ∙ rest found.0 found.1 refl)
+        subst (λ r. slice_get (v.1 ∷ scope_types vs) r.0 ≡ Some r.1) e (ap (slice_get (v.1 ∷ scope_types vs)) (add-one found.0)
+        ∙ rest found.0 found.1 refl)
     by None rest h = here (bytes_eq v.0 name) h

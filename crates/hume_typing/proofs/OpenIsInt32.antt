@@ -56,8 +56,12 @@ first_from false y t A B p q h = absurd (false≢true p)
 opens_two : (a b : Judged) (checked : Scope → Ty → Cored → Type 0)
     → Opens (record { is_open = a.is_open && b.is_open; has = λ s t c. FirstType (a ∷ b ∷ []) s t × checked s t c; checked = checked })
 opens_two a b checked = record {
-  to = λ o s t c h. let p = and_parts a.is_open b.is_open o in let e = first_to a.is_open b.is_open t _ _ p.0 p.1 h.0 in (e, subst (λ u. checked s u c) e h.1);
-  from = λ o s t c h. let p = and_parts a.is_open b.is_open o in (first_from a.is_open b.is_open t _ _ p.0 p.1 h.0, subst (λ u. checked s u c) (sym h.0) h.1);
+  to =
+      λ o s t c h. let p =
+      and_parts a.is_open b.is_open o in let e = first_to a.is_open b.is_open t _ _ p.0 p.1 h.0 in (e, subst (λ u. checked s u c) e h.1);
+  from =
+      λ o s t c h. let p =
+      and_parts a.is_open b.is_open o in (first_from a.is_open b.is_open t _ _ p.0 p.1 h.0, subst (λ u. checked s u c) (sym h.0) h.1);
 }
 
 opens_binary : (sign : BinOp) (a b : Judged) → Opens (binary_typing sign a b)
@@ -129,7 +133,10 @@ module _ (s : Signatures) where
   level Exp-F.Star = never _ refl
 
   opens : (e : Exp) → Opens (typing s e)
-  opens = ind-Exp (λ e. Opens (typing s e)) (λ x y is. subst (λ x. Opens (typing s (roll-Exp x))) is (subst Opens (sym (typing_roll s (map-Exp Known Exp (λ e. e.0) y))) (level y)))
+  opens =
+      ind-Exp (λ e. Opens (typing s e)) (λ x y is. subst (λ x. Opens (typing s (roll-Exp x))) is
+      (subst Opens (sym (typing_roll s (map-Exp Known Exp (λ e. e.0) y))) (level y)))
 
-  pub open_is_int32 : (scope : Scope) (e : Exp) (t : Ty) (c : Cored) → (typing s e).is_open ≡ true → HasByItself s scope e t c ↔ ((t ≡ int32) × IsCheckedAgainst s scope e int32 c)
+  pub open_is_int32 : (scope : Scope) (e : Exp) (t : Ty) (c : Cored) → (typing s e).is_open ≡ true
+      → HasByItself s scope e t c ↔ ((t ≡ int32) × IsCheckedAgainst s scope e int32 c)
   open_is_int32 scope e t c o = let x = opens e in (x.to o scope t c, x.from o scope t c)

@@ -35,7 +35,8 @@ module _ (s : Signatures) where
   AllTyped [] = Unit {0}
   AllTyped (p ∷ ps) = Typed p × AllTyped ps
 
-  all_typed : (ps : List (Ty → Option Bound)) → AllTyped ps → (ts : List Ty) (b : Scope × List CoredPat) → all_bound ps ts ≡ Some b → some_pat_too_wide b.1 ≡ false
+  all_typed : (ps : List (Ty → Option Bound)) → AllTyped ps → (ts : List Ty) (b : Scope × List CoredPat) → all_bound ps ts ≡ Some b
+      → some_pat_too_wide b.1 ≡ false
       → ArePatterns s.types ts (pat_cores b.1) (scope_types b.0)
   all_typed [] g [] b h off = subst (λ r. ArePatterns s.types [] (pat_cores r.1) (scope_types r.0)) (some-same ([], []) b h) ArePatterns.none
   all_typed [] g (t ∷ ts) b h off = cc
@@ -48,12 +49,15 @@ module _ (s : Signatures) where
       let first = g.0 t k.0 k.1 flags.0 in
       let others = all_typed ps g.1 ts m.0 m.1 flags.1 in
       subst (λ r. ArePatterns s.types (t ∷ ts) (pat_cores r.1) (scope_types r.0)) e
-      (subst (ArePatterns s.types (t ∷ ts) (k.0.1.0 ∷ pat_cores m.0.1)) (sym (map-append (λ (v : List ℕ × Ty). v.1) k.0.0 m.0.0)) (ArePatterns.one first others))
+      (subst (ArePatterns s.types (t ∷ ts) (k.0.1.0 ∷ pat_cores m.0.1)) (sym (map-append (λ (v : List ℕ
+      × Ty). v.1) k.0.0 m.0.0)) (ArePatterns.one first others))
 
-  con_typed : (o : Option Constructor) → ((con : Constructor) → o ≡ Some con → ConstructorIs s.types.sums con) → (ps : List (Ty → Option Bound)) → AllTyped ps → Typed (con_bound o ps)
+  con_typed : (o : Option Constructor) → ((con : Constructor) → o ≡ Some con → ConstructorIs s.types.sums con) → (ps : List (Ty → Option Bound))
+      → AllTyped ps → Typed (con_bound o ps)
   con_typed None found ps g t b h off = cc
   con_typed (Some con) found ps g t b h off =
-      let k = when-inv (is_named con.sum (out-Ty t)) (given (all_bound ps con.fields) (λ all. Some (all.0, (Con con.place (pat_cores all.1), some_pat_too_wide all.1)))) b h in
+      let k = when-inv (is_named con.sum (out-Ty t)) (given (all_bound ps con.fields)
+      (λ all. Some (all.0, (Con con.place (pat_cores all.1), some_pat_too_wide all.1)))) b h in
       let m = given-inv (all_bound ps con.fields) (λ all. Some (all.0, (Con con.place (pat_cores all.1), some_pat_too_wide all.1))) b k.1 in
       let e : (m.0.0, (Con con.place (pat_cores m.0.1), some_pat_too_wide m.0.1)) ≡ b = some-same _ _ m.2 in
       let is : NamedTy con.sum ≡ t = sym (rolls-Named con.sum) ∙ ap roll-Ty (named_true con.sum (out-Ty t) k.0) ∙ roll-out-Ty t in
@@ -103,7 +107,8 @@ module _ (s : Signatures) where
       (subst (λ u. IsPattern s.types u (Word (word_of_truth truth)) []) is (IsPattern.word (word_of_truth truth) (truth-value s.types truth)))
   level (Pat-F.Con name ps) t b h off = con_typed (con_named name s) (con_stands name s.types.sums) _ (all_known ps) t b h off
   level (Pat-F.Paren p) t b h off = p.1 t b h off
-  level (Pat-F.Tuple ps) t b h off = subst (λ u. IsPattern s.types u b.1.0 (scope_types b.0)) (roll-out-Ty t) (tuple_typed _ (all_known ps) (out-Ty t) b h off)
+  level (Pat-F.Tuple ps) t b h off =
+      subst (λ u. IsPattern s.types u b.1.0 (scope_types b.0)) (roll-out-Ty t) (tuple_typed _ (all_known ps) (out-Ty t) b h off)
   level Pat-F.Star t b h off = cc
   level Pat-F.AnyStar t b h off = cc
 
@@ -122,7 +127,8 @@ module _ (s : Signatures) where
   patterns_typed ps = all_typed (map (pattern s) ps) (several ps)
 
   -- a position before others
-  before : (ty : Ty) (tys vars : List Ty) (pats : List InPat) (bound : Option Bound) → ((b : Bound) → bound ≡ Some b → IsTypedPattern ty b) → (layer : Pat-F Pat) (r : Scope × CoredPosition)
+  before : (ty : Ty) (tys vars : List Ty) (pats : List InPat) (bound : Option Bound) → ((b : Bound) → bound ≡ Some b → IsTypedPattern ty b)
+      → (layer : Pat-F Pat) (r : Scope × CoredPosition)
       → position_step bound layer ≡ Some r → r.1.1 ≡ false → PositionsHave s.types tys pats vars → PositionsHave s.types (ty ∷ tys) (r.1.0 ∷ pats) (scope_types r.0 ++ vars)
   before ty tys vars pats bound typed layer r h off others = by layer h
     where
@@ -143,7 +149,9 @@ module _ (s : Signatures) where
 
   pub positions_typed : (ps : List Pat) (ts : List Ty) (b : Scope × List CoredPosition) → positions s ps ts ≡ Some b → some_so b.1 ≡ false
       → PositionsHave s.types ts (map (λ (p : CoredPosition). p.0) b.1) (scope_types b.0)
-  positions_typed [] [] b h off = subst (λ (r : Scope × List CoredPosition). PositionsHave s.types [] (map (λ (p : CoredPosition). p.0) r.1) (scope_types r.0)) (some-same ([], []) b h) PositionsHave.none
+  positions_typed [] [] b h off = subst (λ (r : Scope
+      × List CoredPosition). PositionsHave s.types [] (map
+      (λ (p : CoredPosition). p.0) r.1) (scope_types r.0)) (some-same ([], []) b h) PositionsHave.none
   positions_typed [] (t ∷ ts) b h off = cc
   positions_typed (p ∷ ps) [] b h off = cc
   positions_typed (p ∷ ps) (t ∷ ts) b h off =

@@ -8,18 +8,21 @@ use Rattle.hume_typing.specs.Results.{AsResult, result_arm_with, result_step, re
 use Rattle.hume_typing.specs.declared.signatures.Signatures.{Signatures}
 use Rattle.hume_typing.proofs.TypingLevels.{map-map, natural as typing_natural}
 
-arms-map : {X : Type 0} (v : X → Exp) (k : Exp → AsResult) (arms : List (Pat × X)) → map (result_arm_with X (λ p. k (v p))) arms ≡ map (result_arm_with Exp k) (map (λ arm. (arm.0, v arm.1)) arms)
+arms-map : {X : Type 0} (v : X → Exp) (k : Exp → AsResult) (arms : List (Pat × X))
+    → map (result_arm_with X (λ p. k (v p))) arms ≡ map (result_arm_with Exp k) (map (λ arm. (arm.0, v arm.1)) arms)
 arms-map v k [] = refl
 arms-map v k (arm ∷ arms) = ap (λ ys. result_arm_with _ k (arm.0, v arm.1) ∷ ys) (arms-map v k arms)
 
-step : (s : Signatures) (X : Type 0) (v : X → Exp) (k : Exp → AsResult) (j : Judged) (x : Exp-F X) → result_step s X v (λ p. k (v p)) j x ≡ result_step s Exp (λ y. y) k j (map-Exp X Exp v x)
+step : (s : Signatures) (X : Type 0) (v : X → Exp) (k : Exp → AsResult) (j : Judged) (x : Exp-F X)
+    → result_step s X v (λ p. k (v p)) j x ≡ result_step s Exp (λ y. y) k j (map-Exp X Exp v x)
 step s X v k j (Exp-F.Case a arms) = ap (case_result s j (typing s (v a))) (arms-map v k arms)
 step s X v k j (Exp-F.Tuple parts) = ap (tuple_result j) (map-map v k parts)
 step s X v k j (Exp-F.Raise name None) = refl
 step s X v k j (Exp-F.Raise name (Some a)) = refl
 step s X v k j _ = refl
 
-natural : (s : Signatures) (X : Type 0) (v : X → Exp) (k : Exp → AsResult) (x : Exp-F X) → result_level s X v (λ p. k (v p)) x ≡ result_level s Exp (λ y. y) k (map-Exp X Exp v x)
+natural : (s : Signatures) (X : Type 0) (v : X → Exp) (k : Exp → AsResult) (x : Exp-F X)
+    → result_level s X v (λ p. k (v p)) x ≡ result_level s Exp (λ y. y) k (map-Exp X Exp v x)
 natural s X v k x =
     step s X v k (typing_step s X v (λ p. typing s (v p)) x) x
     ∙ ap (λ j. result_step s Exp (λ y. y) k j (map-Exp X Exp v x)) (typing_natural s X v (typing s) x)

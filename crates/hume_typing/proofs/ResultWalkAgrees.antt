@@ -76,11 +76,13 @@ module _ (s : Signatures) where
 
   -- the walk that goes along, one level down
   pub walk_level : (x : Exp-F Exp) → (result_walk s (roll-Exp x)).walk ≡ walk_step s (walks x)
-  walk_level x = ap (λ (r : ResultWalk). r.walk) (fold-roll-Exp ResultWalk (result_walk_step s) x) ∙ form (walk_step s (walks x)) (map-Exp Exp ResultWalk (result_walk s) x)
+  walk_level x = ap (λ (r : ResultWalk). r.walk) (fold-roll-Exp ResultWalk (result_walk_step s) x)
+      ∙ form (walk_step s (walks x)) (map-Exp Exp ResultWalk (result_walk s) x)
 
   pub goes : (e : Exp) → Goes e
   goes = ind-Exp Goes (λ x y is. subst (λ x. Goes (roll-Exp x)) is
-      (walk_level (map-Exp Going Exp (λ e. e.0) y) ∙ ap (walk_step s) (going y) ∙ sym (fold-roll-Exp Walk (walk_step s) (map-Exp Going Exp (λ e. e.0) y))))
+      (walk_level (map-Exp Going Exp (λ e. e.0) y) ∙ ap (walk_step s) (going y)
+      ∙ sym (fold-roll-Exp Walk (walk_step s) (map-Exp Going Exp (λ e. e.0) y))))
 
   part : (e : Exp) → Agrees (typing s e) (result_walk s e).walk
   part e = subst (Agrees (typing s e)) (sym (goes e)) (walk_agrees s e)
@@ -101,7 +103,8 @@ module _ (s : Signatures) where
   abbrev expressions : List (Pat × Known) → List (Pat × Exp)
   expressions as' = map (λ arm. (arm.0, arm.1.0)) as'
 
-  arms_known : (as' : List (Pat × Known)) → AllResultArmsAgree (map (result_arm_with Exp (as_result s)) (expressions as')) (map (λ arm. (arm.0, result_walk s arm.1)) (expressions as'))
+  arms_known : (as' : List (Pat × Known))
+      → AllResultArmsAgree (map (result_arm_with Exp (as_result s)) (expressions as')) (map (λ arm. (arm.0, result_walk s arm.1)) (expressions as'))
   arms_known [] = tt
   arms_known (a ∷ as') = (refl, a.1.1, arms_known as')
 
@@ -118,11 +121,13 @@ module _ (s : Signatures) where
   level _ j w o = agrees_plain j w o
 
   whole : (x : Exp-F Exp) → Agrees (typing_step s Exp (λ e. e) (typing s) x) (walk_step s (walks x))
-  whole x = subst (λ j. Agrees j (walk_step s (walks x))) (typing_roll s x) (subst (Agrees (typing s (roll-Exp x))) (walk_level x) (part (roll-Exp x)))
+  whole x =
+      subst (λ j. Agrees j (walk_step s (walks x))) (typing_roll s x) (subst (Agrees (typing s (roll-Exp x))) (walk_level x) (part (roll-Exp x)))
 
   rolled : (y : Exp-F Known) → AgreesOn (roll-Exp (parts y))
   rolled y = subst (λ r. ResultAgrees r (result_walk s (roll-Exp (parts y)))) (sym (result_roll s (parts y)))
-      (subst (ResultAgrees (result_level s Exp (λ e. e) (as_result s) (parts y))) (sym (fold-roll-Exp ResultWalk (result_walk_step s) (parts y))) (level y _ _ (whole (parts y))))
+      (subst (ResultAgrees (result_level s Exp
+      (λ e. e) (as_result s) (parts y))) (sym (fold-roll-Exp ResultWalk (result_walk_step s) (parts y))) (level y _ _ (whole (parts y))))
 
   pub result_walk_agrees : (e : Exp) → AgreesOn e
   result_walk_agrees = ind-Exp AgreesOn (λ x y is. subst (λ x. AgreesOn (roll-Exp x)) is (rolled y))

@@ -31,7 +31,8 @@ module _ (s : Signatures) (core : Core) (of : HasSignatures s core) where
 
   -- the output may stand before others
   abbrev MayLead : Scope → Ty → CoredOut → Type 0
-  MayLead scope t out = out.1 ≡ false → (outs : List (Option Expr)) (tys : List Ty) → OutsHave core (scope_types scope) outs tys → OutsHave core (scope_types scope) (out.0 ∷ outs) (t ∷ tys)
+  MayLead scope t out =
+      out.1 ≡ false → (outs : List (Option Expr)) (tys : List Ty) → OutsHave core (scope_types scope) outs tys → OutsHave core (scope_types scope) (out.0 ∷ outs) (t ∷ tys)
 
   abbrev AreOuts : Scope → List Ty → List CoredOut → Type 0
   AreOuts scope tys outs = some_wide outs ≡ false → OutsHave core (scope_types scope) (outs_of outs) tys
@@ -54,7 +55,8 @@ module _ (s : Signatures) (core : Core) (of : HasSignatures s core) where
     pub outputs : AllOuts r.outputs
 
   shown : (scope : Scope) (tys : List Ty) (c d : CoredRes) → c ≡ d → Gives scope tys d → Gives scope tys c
-  shown scope tys c d e f off = subst (λ (r : CoredRes). GivesOutputs core tys (scope_types scope) r.0) (sym e) (f (ap (λ (r : CoredRes). r.1) (sym e) ∙ off))
+  shown scope tys c d e f off =
+      subst (λ (r : CoredRes). GivesOutputs core tys (scope_types scope) r.0) (sym e) (f (ap (λ (r : CoredRes). r.1) (sym e) ∙ off))
 
   module _ (P : Scope → Ty → CoredOut → Type 0) (Q : Scope → List Ty → List CoredOut → Type 0) (p : AllLead P) (q : AllOuts Q) where
     outs_typed : AllOuts (OutputsOf P Q)
@@ -78,7 +80,8 @@ module _ (s : Signatures) (core : Core) (of : HasSignatures s core) where
   AllSoundResults [] = Unit {0}
   AllSoundResults (r ∷ rs) = IsSoundResult r × AllSoundResults rs
 
-  all_outs : (rs : List AsResult) → AllSoundResults rs → (scope : Scope) (ts : List Ty) (outs : List CoredOut) → AllOutputs scope rs ts outs → AreOuts scope ts outs
+  all_outs : (rs : List AsResult) → AllSoundResults rs → (scope : Scope) (ts : List Ty) (outs : List CoredOut) → AllOutputs scope rs ts outs
+      → AreOuts scope ts outs
   all_outs [] g scope [] [] h off = OutsHave.none
   all_outs [] g scope (t ∷ ts) outs h off = absurd h
   all_outs [] g scope [] (out ∷ outs) h off = absurd h
@@ -94,7 +97,8 @@ module _ (s : Signatures) (core : Core) (of : HasSignatures s core) where
   abbrev some_arm_wide : List CoredResArm → Bool
   some_arm_wide cs = list_any (λ (arm : CoredResArm). arm.0.1 || arm.1.1) cs
 
-  arms_give : (scope : Scope) (u : Ty) (tys : List Ty) (arms : List ResultArm) → AllSoundArms arms → (cs : List CoredResArm) → ArmsResult s scope u arms tys cs → some_arm_wide cs ≡ false
+  arms_give : (scope : Scope) (u : Ty) (tys : List Ty) (arms : List ResultArm) → AllSoundArms arms → (cs : List CoredResArm)
+      → ArmsResult s scope u arms tys cs → some_arm_wide cs ≡ false
       → ArmsGiveOutputs core tys (scope_types scope) u (result_arm_cores cs)
   arms_give scope u tys [] g [] h off = ArmsGiveOutputs.no_arm
   arms_give scope u tys [] g (c ∷ cs) h off = absurd h
@@ -103,7 +107,8 @@ module _ (s : Signatures) (core : Core) (of : HasSignatures s core) where
       let two = or_parts c.0.1 c.1.1 flags.0 in
       let p : IsPattern core.types u c.0.0 (scope_types h.0) =
       subst (λ types. IsPattern types u c.0.0 (scope_types h.0)) (sym of.types) (pattern_typed s arm.pat u (h.0, c.0) h.1 two.0) in
-      let body = subst (λ vars. GivesOutputs core tys vars c.1.0) (map-append (λ (v : List ℕ × Ty). v.1) scope h.0) (g.0.result (scope ++ h.0) tys c.1 h.2 two.1) in
+      let body = subst (λ vars. GivesOutputs core tys vars c.1.0) (map-append (λ (v : List ℕ
+      × Ty). v.1) scope h.0) (g.0.result (scope ++ h.0) tys c.1 h.2 two.1) in
       ArmsGiveOutputs.one_arm p body (arms_give scope u tys arms g.1 cs h.3 flags.1)
   arms_give scope u tys (arm ∷ arms) g [] h off = absurd h
 
@@ -149,7 +154,9 @@ module _ (s : Signatures) (core : Core) (of : HasSignatures s core) where
           GivesOutputs.alternatives h.0 (p.has scope h.0 h.1 h.3 flags.0) (arms_give scope h.0 tys arms g h.2 h.4 flags.1)))
 
   sound_star : IsSoundResult star_result
-  sound_star = sound_leaf _ NoOutputs (λ scope t out h off outs tys others. subst (λ (o : CoredOut). OutsHave core (scope_types scope) (o.0 ∷ outs) (t ∷ tys)) (sym h) (OutsHave.star others)) no_outs
+  sound_star =
+      sound_leaf _ NoOutputs (λ scope t out h off outs tys others. subst
+      (λ (o : CoredOut). OutsHave core (scope_types scope) (o.0 ∷ outs) (t ∷ tys)) (sym h) (OutsHave.star others)) no_outs
 
   abbrev Known : Type 0
   Known = (e : Exp) × IsSoundResult (as_result s e)
@@ -183,7 +190,9 @@ module _ (s : Signatures) (core : Core) (of : HasSignatures s core) where
   level _ j w = sound_plain j w
 
   rolled : (y : Exp-F Known) → IsSoundResult (as_result s (roll-Exp (parts y)))
-  rolled y = subst IsSoundResult (sym (result_roll s (parts y))) (level y _ (subst (IsSound s core of) (typing_roll s (parts y)) (part (roll-Exp (parts y)))))
+  rolled y =
+      subst IsSoundResult (sym (result_roll s (parts y))) (level y _
+      (subst (IsSound s core of) (typing_roll s (parts y)) (part (roll-Exp (parts y)))))
 
   pub sound_result : (e : Exp) → IsSoundResult (as_result s e)
   sound_result = ind-Exp (λ e. IsSoundResult (as_result s e)) (λ x y is. subst (λ x. IsSoundResult (as_result s (roll-Exp x))) is (rolled y))

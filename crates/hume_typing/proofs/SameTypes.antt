@@ -36,7 +36,8 @@ nat_true : (n : ℕ) (layer : Ty-F Ty) → is_nat n layer ≡ true → Ty-F.Nat 
 nat_true n (Ty-F.Nat m) h = ap Ty-F.Nat (eqb-true n m h)
 nat_true n _ h = absurd (false≢true h)
 
-tuple_true : (ts : List ((t : Ty) × Decided t)) (layer : Ty-F Ty) → is_tuple (map is_same (map (λ e. e.0) ts)) layer ≡ true → Ty-F.Tuple (map (λ e. e.0) ts) ≡ layer
+tuple_true : (ts : List ((t : Ty) × Decided t)) (layer : Ty-F Ty) → is_tuple (map is_same (map (λ e. e.0) ts)) layer ≡ true
+    → Ty-F.Tuple (map (λ e. e.0) ts) ≡ layer
 tuple_true ts (Ty-F.Tuple us) h = ap Ty-F.Tuple (all_true ts us h)
 tuple_true ts _ h = absurd (false≢true h)
 
@@ -75,8 +76,12 @@ level_from (Ty-F.Named k) = ap (is_named k) (out-roll-Ty (Ty-F.Named k)) ∙ eq-
 
 decided_level : (y : Ty-F ((t : Ty) × Decided t)) → Decided (roll-Ty (parts y))
 decided_level y u =
-    let one : is_same (roll-Ty (parts y)) u ≡ same_step (tests (parts y)) u = ap (λ f. f u) (fold-roll-Ty (Ty → Bool) same_step (parts y)) in
-    (λ h. ap roll-Ty (level_true y u (sym one ∙ h)) ∙ roll-out-Ty u, λ e. subst (λ w. is_same (roll-Ty (parts y)) w ≡ true) e (ap (λ f. f (roll-Ty (parts y))) (fold-roll-Ty (Ty → Bool) same_step (parts y)) ∙ level_from y))
+    let one : is_same (roll-Ty (parts y)) u ≡ same_step (tests (parts y)) u = ap (λ f. f u) (fold-roll-Ty (Ty → Bool) same_step (parts y)) in (
+      λ h. ap roll-Ty (level_true y u (sym one ∙ h))
+          ∙ roll-out-Ty u,
+      λ e. subst (λ w. is_same (roll-Ty (parts y)) w ≡ true) e (ap (λ f. f (roll-Ty (parts y))) (fold-roll-Ty (Ty → Bool) same_step (parts y))
+          ∙ level_from y),
+    )
 
 pub is_same-Decides : (t u : Ty) → Decides (is_same t u) (t ≡ u)
 is_same-Decides = ind-Ty Decided (λ x y is. subst (λ x. Decided (roll-Ty x)) is (decided_level y))

@@ -10,11 +10,13 @@ pub map-map : {X Y : Type 0} {Z : Type 1} (v : X → Y) (k : Y → Z) (xs : List
 map-map v k [] = refl
 map-map v k (x ∷ xs) = ap (λ ys. k (v x) ∷ ys) (map-map v k xs)
 
-arms-map : {X : Type 0} (v : X → Exp) (k : Exp → Judged) (arms : List (Pat × X)) → map (arm_with X (λ p. k (v p))) arms ≡ map (arm_with Exp k) (map (λ arm. (arm.0, v arm.1)) arms)
+arms-map : {X : Type 0} (v : X → Exp) (k : Exp → Judged) (arms : List (Pat × X))
+    → map (arm_with X (λ p. k (v p))) arms ≡ map (arm_with Exp k) (map (λ arm. (arm.0, v arm.1)) arms)
 arms-map v k [] = refl
 arms-map v k (arm ∷ arms) = ap (λ ys. arm_with _ k (arm.0, v arm.1) ∷ ys) (arms-map v k arms)
 
-pub natural : (s : Signatures) (X : Type 0) (v : X → Exp) (k : Exp → Judged) (x : Exp-F X) → typing_step s X v (λ p. k (v p)) x ≡ typing_step s Exp (λ y. y) k (map-Exp X Exp v x)
+pub natural : (s : Signatures) (X : Type 0) (v : X → Exp) (k : Exp → Judged) (x : Exp-F X)
+    → typing_step s X v (λ p. k (v p)) x ≡ typing_step s Exp (λ y. y) k (map-Exp X Exp v x)
 natural s X v k (Exp-F.Case a arms) = ap (case_typing s (k (v a))) (arms-map v k arms)
 natural s X v k (Exp-F.App name parts) = ap (app_typing s name) (map-map v k parts)
 natural s X v k (Exp-F.Con name parts) = ap (con_typing s name) (map-map v k parts)

@@ -32,7 +32,8 @@ module _ (s : Signatures) where
   abbrev expressions : List (Pat × Known) → List (Pat × Exp)
   expressions arms = map (λ arm. (arm.0, arm.1.0)) arms
 
-  arms_known : (arms : List (Pat × Known)) → AllArmsAgree (map (arm_with Exp (typing s)) (expressions arms)) (map (λ arm. (arm.0, walk s arm.1)) (expressions arms))
+  arms_known : (arms : List (Pat × Known))
+      → AllArmsAgree (map (arm_with Exp (typing s)) (expressions arms)) (map (λ arm. (arm.0, walk s arm.1)) (expressions arms))
   arms_known [] = tt
   arms_known (arm ∷ arms) = (refl, arm.1.1, arms_known arms)
 

@@ -15,14 +15,15 @@ ghost use Rattle.hume_model.specs.declared.core_tree.BoxC.{BoxC};
 ghost use Rattle.hume_model.specs.declared.core_tree.Core.{Core};
 ghost use Rattle.hume_model.specs.Typing.{IsPattern, HasType, EquationsHave};
 ghost use Rattle.hume_model.specs.ResultTyping.{GivesOutputs};
-ghost use Rattle.hume_model.specs.BoxTyping.{port_types, PositionsHave, RuleIsTyped, HandlerIsTyped};
+ghost use Rattle.hume_model.specs.BoxTyping.{port_types, PositionsHave, RuleIsTyped, HandlerIsTyped, BoxIsTyped};
 ghost use Rattle.hume_typing.specs.CoreSignatures.{scope_types, IsOfSignature, HasSignatures};
 ghost use Rattle.hume_typing.specs.Patterns.{CoredPosition, pattern, positions};
 ghost use Rattle.hume_typing.specs.Signatures.{Scope};
 ghost use Rattle.hume_typing.specs.Cores.{Cored};
 ghost use Rattle.hume_typing.specs.Typing.{HasByItself, IsCheckedAgainst, is_open, int32};
 ghost use Rattle.hume_typing.specs.Results.{CoredRes, IsResult};
-ghost use Rattle.hume_typing.specs.Declarations.{InPlaces, some_so, cores_alone, WrittenEquation, CoredEquation, IsEquation};
+ghost use Rattle.hume_typing.specs.Declarations.{InPlaces, some_so, cores_alone, signature_written, ports_written};
+ghost use Rattle.hume_typing.specs.Declarations.{WrittenEquation, CoredEquation, IsEquation};
 ghost use Rattle.hume_typing.specs.Declarations.{WrittenRule, CoredRule, IsRule, WrittenHandler, CoredHandler, IsHandler};
 ghost use Rattle.hume_typing.specs.Declarations.{IsFunction, IsBox, IsTyped, HasNoType, HasWideLiteral};
 ghost use Rattle.hume_typing.specs.inner.Walk.{walk};
@@ -122,4 +123,18 @@ pub fn parts_are_typed()
         → HasSignatures s core → IsRule s (port_types b.ins) (port_types b.outs) r (c, false) → RuleIsTyped core b c }
     ensures handler { (s : Signatures) (core : Core) (b : BoxC) (h : WrittenHandler) (c : HandC)
         → HasSignatures s core → IsHandler s (port_types b.outs) h (c, false) → HandlerIsTyped core b c }
+{}
+
+/// So it is with whole functions and boxes: where a core has the cores that belong to what is written, its function and its
+/// box are typed as `hume_model` says it.
+pub fn declarations_are_typed()
+    ensures function { (s : Signatures) (core : Core) (name : List ℕ) (tys : List TyExp) (es : List WrittenEquation) (cs : List CoredEquation)
+        (f : Signature) (function : FunC)
+        → HasSignatures s core → IsFunction s name tys es cs → some_so cs ≡ false → signature_written s.types name tys ≡ Some f
+        → IsOfSignature f function → function.equations ≡ cores_alone cs → EquationsHave core function function.equations }
+    ensures boxes { (s : Signatures) (core : Core) (ins outs : List (List ℕ × TyExp)) (rs : List WrittenRule) (hs : List WrittenHandler)
+        (cs : List CoredRule) (ds : List CoredHandler) (b : BoxC)
+        → HasSignatures s core → IsBox s ins outs rs hs cs ds → some_so cs ≡ false → some_so ds ≡ false
+        → ports_written s.types ins ≡ Some (port_types b.ins) → ports_written s.types outs ≡ Some (port_types b.outs)
+        → b.rules ≡ cores_alone cs → b.handlers ≡ cores_alone ds → BoxIsTyped core b }
 {}

@@ -22,4 +22,4 @@ pub returns-clause-added : goal.returns-clause-added
 returns-clause-added c =
     let there = c.contains_key.ensures ∙ ap is_some (lookup-number_of c.args.name.now c.self.inside.entries.entries) in
     with_name-new c.args.name c.args.number c.self.inside.entries.entries c.insert.new.self.entries _ there c.if-contains_key.false c.in_ok-insert.ensures.entries
-     ∙ ap (λ es. with_name es c.args.name.now c.args.number) c.self.view_is
+    ∙ ap (λ es. with_name es c.args.name.now c.args.number) c.self.view_is
