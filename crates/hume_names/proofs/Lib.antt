@@ -3,3 +3,6 @@ pub mod Repeats
 pub mod Spaces
 pub mod Search
 pub mod MentionSteps
+pub mod Steps
+pub mod NameRules
+pub mod CaseSteps

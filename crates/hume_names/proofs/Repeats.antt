@@ -1,6 +1,6 @@
 -- Names that come again, and tables with the same names.
-use Rattle.std.proofs.Common.{◌≡◌, ℕ, ◌+◌, ◌<◌, List, [], ◌∷◌, ◌++◌, length, map, take, drop, get_or, refl, ap, sym, subst, ◌∙◌, Bool, true, false, ◌||◌, not, if◌then◌else◌, is_some}
-use Rattle.std.proofs.lemmas.List.{map-append, take_more, append-nil}
+use Rattle.std.proofs.Common.{◌≡◌, ℕ, ◌+◌, ◌<◌, List, [], ◌∷◌, ◌++◌, length, take, drop, get_or, refl, ap, sym, subst, ◌∙◌, Bool, true, false, ◌||◌, not, if◌then◌else◌, is_some}
+use Rattle.std.proofs.lemmas.List.{map-append, take_more}
 use Rattle.std.proofs.lemmas.List.Folds.{list_any-append}
 use Rattle.std.proofs.lemmas.Slice.Eq.{bytes_eq-Decides}
 use Rattle.std.proofs.Common.{append_assoc}
@@ -50,7 +50,7 @@ module _ (table new : List (List ℕ × ℕ)) (first names : List (List ℕ)) (a
   pub same_more : SameNames (names_of table) (first ++ take at names) → SameNames (names_of new) (first ++ take (at + 1) names)
   same_more same =
       subst (SameNames (names_of new)) (append_assoc first (take at names) (name ∷ []) ∙ ap (λ ns. first ++ ns) (ap (λ x. take at names ++ x ∷ []) is ∙ sym (take_more names at [] lt)))
-          (same_then (names_of new) (names_of table ++ name ∷ []) ((first ++ take at names) ++ name ∷ []) same_new (same_append (names_of table) (first ++ take at names) (name ∷ []) same))
+      (same_then (names_of new) (names_of table ++ name ∷ []) ((first ++ take at names) ++ name ∷ []) same_new (same_append (names_of table) (first ++ take at names) (name ∷ []) same))
 
   pub again_more : (again is_new all : Bool) → drop at names ≡ name ∷ drop (at + 1) names → is_new ≡ not (among name (names_of table)) → (again || repeats (names_of table) (drop at names)) ≡ all
       → ((again || not is_new) || repeats (names_of new) (drop (at + 1) names)) ≡ all

@@ -1,12 +1,11 @@
 -- The names of the spaces, one declaration after another.
-use Rattle.std.proofs.Common.{◌≡◌, ℕ, ◌+◌, List, [], ◌∷◌, ◌++◌, Some, slice_get, length, take, refl, ap, sym, subst, ◌∙◌, ◌||◌, append_assoc}
-use Rattle.std.specs.List.{flat_map}
+use Rattle.std.proofs.Common.{◌≡◌, ℕ, ◌+◌, List, [], ◌∷◌, ◌++◌, Some, slice_get, take, ap, sym, subst, ◌∙◌, ◌||◌}
 use Rattle.std.proofs.lemmas.List.{flat_map_more, take_more}
 use Rattle.std.proofs.lemmas.Option.{slice_get_within, get_or_from_slice_get}
 use Rattle.hume_ast.specs.declared.tree.Decl.{Decl}
 use Rattle.hume_names.specs.DeclaredNames.{types_of, functions_of, nodes_of, given_exceptions}
 use Rattle.hume_names.specs.Repeated.{Spaces, spaces_in, capitals_of, repeats_shared}
-use Rattle.hume_names.specs.inner.Spaces.{SameNames, SameSpaces, with_declared}
+use Rattle.hume_names.specs.inner.Spaces.{SameSpaces, with_declared}
 use Rattle.hume_names.proofs.Repeats.{same_append, same_then, repeats_same}
 
 pub repeats_shared_same : (a b : Spaces) (decl : Decl) → SameSpaces a b → repeats_shared a decl ≡ repeats_shared b decl

@@ -4,4 +4,8 @@ pub mod Tables
 pub mod DeclaredNames
 pub mod Repeated
 pub mod Mentions
+pub mod Unknown
+pub mod Leading
+pub mod Twice
+pub mod Misnamed
 pub mod inner

@@ -1,5 +1,5 @@
 -- The names that a declaration mentions, each as what it stands there for.
-use Rattle.std.specs.Prelude.{ℕ, List, [], ◌∷◌, ◌++◌, map, Option, Some, None, Bool, if◌then◌else◌}
+use Rattle.std.specs.Prelude.{ℕ, List, [], ◌∷◌, ◌++◌, map, Option, Some, None, if◌then◌else◌}
 use Rattle.hume_ast.specs.declared.tree.TyExp.{TyExp, fold-TyExp}
 use Rattle.hume_ast.specs.declared.tree.TyExp.TheOpen.{TyExp-F}
 use Rattle.hume_ast.specs.declared.tree.Pat.{Pat, fold-Pat}

@@ -1,5 +1,5 @@
 -- Names that are declared again.
-use Rattle.std.specs.Prelude.{ℕ, List, [], ◌∷◌, ◌++◌, take, Bool, ◌||◌, IsTrue}
+use Rattle.std.specs.Prelude.{ℕ, List, [], ◌++◌, take, Bool, ◌||◌, IsTrue}
 use Rattle.std.specs.List.{flat_map}
 use Rattle.hume_ast.specs.declared.tree.Decl.{Decl}
 use Rattle.hume_names.specs.Names.{repeats, OfDecl}

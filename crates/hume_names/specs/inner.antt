@@ -1,2 +1,3 @@
 pub mod Spaces
 pub mod Alternatives
+pub mod KnownTables

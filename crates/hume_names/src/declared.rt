@@ -27,7 +27,10 @@ pub(crate) fn constructors_of<'a>(alloc: Global, decl: &'a Decl) -> Result<NameL
     Ok(names)
 }
 
-fn push_constructors<'a>(names: &mut NameList<'a>, constructors: &'a [(Text, List<TyExp>)]) -> Result<(), AllocError>
+fn push_constructors<'a>(
+    names: &mut NameList<'a>,
+    constructors: &'a [(Text, List<TyExp>)],
+) -> Result<(), AllocError>
     ensures { OnOk result (names.new ≡ names.old ++ map (λ constructor. constructor.0) constructors.now) }
 {
     for constructor in constructors {
@@ -105,7 +108,10 @@ pub(crate) fn handled_of<'a>(alloc: Global, decl: &'a Decl) -> Result<NameList<'
     Ok(names)
 }
 
-fn push_handled<'a>(names: &mut NameList<'a>, handlers: &'a [(Text, Option<Pat>, Exp)]) -> Result<(), AllocError>
+fn push_handled<'a>(
+    names: &mut NameList<'a>,
+    handlers: &'a [(Text, Option<Pat>, Exp)],
+) -> Result<(), AllocError>
     ensures { OnOk result (names.new ≡ names.old ++ map (λ handler. handler.0) handlers.now) }
 {
     for handler in handlers {

@@ -14,14 +14,23 @@ use std::alloc::AllocError;
 /// Adds the names that an expression mentions, where these variables are in scope.
 #[cycle(mention_exps)]
 #[tactic(auto, using(crate::proofs::MentionSteps::exp_steps))]
-pub(crate) fn mention_exp<'a>(scope: &mut NameList<'a>, out: &mut MentionList<'a>, exp: &'a Exp) -> Result<(), AllocError>
+pub(crate) fn mention_exp<'a>(
+    scope: &mut NameList<'a>,
+    out: &mut MentionList<'a>,
+    exp: &'a Exp,
+) -> Result<(), AllocError>
     ensures scope { OnOk result (scope.new ≡ scope.old) }
     ensures out { OnOk result (out.new ≡ out.old ++ mentions exp.now scope.old) }
 {
     match exp {
         Exp::Let(name, value, body) => mention_let(scope, out, name, value, body),
         Exp::If(test, first, second) => mention_three(scope, out, test, first, second),
-        Exp::Case(subject, alternatives) => mention_case(scope, out, subject, alternatives.as_slice()),
+        Exp::Case(subject, alternatives) => mention_case(
+            scope,
+            out,
+            subject,
+            alternatives.as_slice(),
+        ),
         Exp::Raise(name, None) => out.push(NameKind::Exception, name.bytes()),
         Exp::Raise(name, Some(value)) => mention_raise(scope, out, name, value),
         Exp::Binary(_, left, right) => mention_two(scope, out, left, right),
@@ -150,7 +159,11 @@ fn mention_application<'a>(
     mention_exps(scope, out, parts)
 }
 
-fn mention_variable<'a>(scope: &NameList<'a>, out: &mut MentionList<'a>, name: &'a Text) -> Result<(), AllocError>
+fn mention_variable<'a>(
+    scope: &NameList<'a>,
+    out: &mut MentionList<'a>,
+    name: &'a Text,
+) -> Result<(), AllocError>
     ensures { OnOk result (out.new ≡ out.old ++ application name.now [] scope.now) }
 {
     if scope.has(name.bytes()) {
@@ -161,7 +174,11 @@ fn mention_variable<'a>(scope: &NameList<'a>, out: &mut MentionList<'a>, name: &
 
 #[cycle(mention_exps)]
 #[tactic(auto, using(crate::proofs::MentionSteps::exp_steps))]
-fn mention_exps<'a>(scope: &mut NameList<'a>, out: &mut MentionList<'a>, exps: &'a [Exp]) -> Result<(), AllocError>
+fn mention_exps<'a>(
+    scope: &mut NameList<'a>,
+    out: &mut MentionList<'a>,
+    exps: &'a [Exp],
+) -> Result<(), AllocError>
     ensures scope { OnOk result (scope.new ≡ scope.old) }
     ensures out { OnOk result (out.new ≡ out.old ++ all_in (map mentions exps.now) scope.old) }
 {

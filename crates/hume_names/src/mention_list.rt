@@ -49,4 +49,11 @@ impl<'a> MentionList<'a> {
     {
         self.mentions.len()
     }
+
+    pub(crate) fn get(&self, at: usize) -> (NameKind, &'a [u8])
+        requires { at < length self.now }
+        ensures { slice_get self.now at ≡ Some (result.0, result.1.now) }
+    {
+        self.mentions[at]
+    }
 }

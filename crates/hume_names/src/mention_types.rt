@@ -26,7 +26,10 @@ pub(crate) fn mention_type<'a>(out: &mut MentionList<'a>, ty: &'a TyExp) -> Resu
 
 #[cycle(mention_types)]
 #[tactic(auto, using(crate::proofs::MentionSteps::type_steps))]
-pub(crate) fn mention_types<'a>(out: &mut MentionList<'a>, types: &'a [TyExp]) -> Result<(), AllocError>
+pub(crate) fn mention_types<'a>(
+    out: &mut MentionList<'a>,
+    types: &'a [TyExp],
+) -> Result<(), AllocError>
     ensures { OnOk result (out.new ≡ out.old ++ types_mentions types.now) }
 {
     for ty in types {
@@ -68,7 +71,10 @@ pub(crate) fn bind_all<'a>(scope: &mut NameList<'a>, patterns: &'a [Pat]) -> Res
 
 #[cycle(mention_patterns)]
 #[tactic(auto, using(crate::proofs::MentionSteps::pattern_steps))]
-pub(crate) fn mention_pattern<'a>(out: &mut MentionList<'a>, pattern: &'a Pat) -> Result<(), AllocError>
+pub(crate) fn mention_pattern<'a>(
+    out: &mut MentionList<'a>,
+    pattern: &'a Pat,
+) -> Result<(), AllocError>
     ensures { OnOk result (out.new ≡ out.old ++ pattern_mentions pattern.now) }
 {
     match pattern {
@@ -90,7 +96,10 @@ pub(crate) fn mention_pattern<'a>(out: &mut MentionList<'a>, pattern: &'a Pat) -
 
 #[cycle(mention_patterns)]
 #[tactic(auto, using(crate::proofs::MentionSteps::pattern_steps))]
-pub(crate) fn mention_patterns<'a>(out: &mut MentionList<'a>, patterns: &'a [Pat]) -> Result<(), AllocError>
+pub(crate) fn mention_patterns<'a>(
+    out: &mut MentionList<'a>,
+    patterns: &'a [Pat],
+) -> Result<(), AllocError>
     ensures { OnOk result (out.new ≡ out.old ++ patterns_mentions patterns.now) }
 {
     for pattern in patterns {

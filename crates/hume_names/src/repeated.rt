@@ -44,7 +44,11 @@ fn first_tables<'a>(alloc: Global) -> Result<Tables<'a>, AllocError>
     })
 }
 
-fn first_repeated_in<'a>(alloc: Global, tables: &mut Tables<'a>, decls: &'a [(u32, Decl)]) -> Result<Option<u32>, AllocError>
+fn first_repeated_in<'a>(
+    alloc: Global,
+    tables: &mut Tables<'a>,
+    decls: &'a [(u32, Decl)],
+) -> Result<Option<u32>, AllocError>
     requires few { length decls.now < 2 ^ 32 }
     requires first { SameSpaces (spaces_of tables.old) (spaces_in []) }
     ensures { IfOk result (IsFirst (RepeatsName decls.now)) }
@@ -58,7 +62,11 @@ fn first_repeated_in<'a>(alloc: Global, tables: &mut Tables<'a>, decls: &'a [(u3
 }
 
 // Adds the names that a declaration declares, and says whether one was there or comes twice.
-fn add_declared<'a>(alloc: Global, tables: &mut Tables<'a>, decl: &'a Decl) -> Result<bool, AllocError>
+fn add_declared<'a>(
+    alloc: Global,
+    tables: &mut Tables<'a>,
+    decl: &'a Decl,
+) -> Result<bool, AllocError>
     ensures again { IfOk result (λ again. again ≡ (repeats_shared (spaces_of tables.old) decl.now || repeats_own decl.now)) }
     ensures added { OnOk result (SameSpaces (spaces_of tables.new) (with_declared (spaces_of tables.old) decl.now)) }
 {
@@ -67,7 +75,11 @@ fn add_declared<'a>(alloc: Global, tables: &mut Tables<'a>, decl: &'a Decl) -> R
     Ok(shared || own)
 }
 
-fn add_shared<'a>(alloc: Global, tables: &mut Tables<'a>, decl: &'a Decl) -> Result<bool, AllocError>
+fn add_shared<'a>(
+    alloc: Global,
+    tables: &mut Tables<'a>,
+    decl: &'a Decl,
+) -> Result<bool, AllocError>
     ensures again { IfOk result (λ again. again ≡ repeats_shared (spaces_of tables.old) decl.now) }
     ensures added { OnOk result (SameSpaces (spaces_of tables.new) (with_declared (spaces_of tables.old) decl.now)) }
 {

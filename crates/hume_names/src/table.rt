@@ -58,7 +58,11 @@ impl<'a> NameTable<'a> {
 }
 
 /// Adds names, all with one number, and says whether one of them was there.
-pub(crate) fn add_all<'a>(table: &mut NameTable<'a>, names: &NameList<'a>, number: u32) -> Result<bool, AllocError>
+pub(crate) fn add_all<'a>(
+    table: &mut NameTable<'a>,
+    names: &NameList<'a>,
+    number: u32,
+) -> Result<bool, AllocError>
     ensures again { IfOk result (λ again. again ≡ repeats (names_of table.old) names.now) }
     ensures added { OnOk result (SameNames (names_of table.new) (names_of table.old ++ names.now)) }
 {

@@ -1,4 +1,4 @@
-use Rattle.std.proofs.Common.{◌≡◌, ℕ, ◌<◌, ◌||◌, Bool, Some, slice_get, refl, ap, take, ◌∙◌, List}
+use Rattle.std.proofs.Common.{◌≡◌, ℕ, ◌||◌, Bool, Some, slice_get, refl, ap, take, ◌∙◌, List}
 use Rattle.std.proofs.lemmas.Option.{slice_get_read}
 use Rattle.hume_ast.specs.declared.tree.Decl.{Decl}
 use Rattle.hume_names.specs.Repeated.{spaces_in, repeats_shared, repeats_own}
@@ -16,8 +16,8 @@ returns-then-branch c =
     let d = c.index-decls-i.result in
     let at : slice_get decls c.loop-i.i ≡ Some d = slice_get_read decls _ c.loop-i.i d refl c.loop-i-test.true c.index-decls-i.is in
     search_here decls (test decls) c.loop-i.i d c.in_ok-add_declared.field-0 at
-        (c.in_ok-add_declared.ensures.again ∙ ap (λ b. b || repeats_own d.1) (repeats_shared_same (spaces_of c.loop-i.tables) (spaces_in (take c.loop-i.i decls)) d.1 c.loop-i.invariant.spaces))
-        c.if-branch.true c.loop-i.invariant.none
+    (c.in_ok-add_declared.ensures.again ∙ ap (λ b. b || repeats_own d.1) (repeats_shared_same (spaces_of c.loop-i.tables) (spaces_in (take c.loop-i.i decls)) d.1 c.loop-i.invariant.spaces))
+    c.if-branch.true c.loop-i.invariant.none
 
 pub loop-i-preserved : goal.loop-i-preserved
 loop-i-preserved c =

@@ -1,4 +1,4 @@
-use Rattle.std.proofs.Common.{◌≡◌, ℕ, ◌+◌, ◌∷◌, [], ◌∙◌, ap, sym, drop, List, get_or, length, ◌<◌, arith}
+use Rattle.std.proofs.Common.{◌≡◌, ◌+◌, ◌∷◌, [], ◌∙◌, ap, sym, drop, length, ◌<◌, arith}
 use Rattle.std.proofs.lemmas.List.{drop_more}
 use Rattle.hume_names.proofs.Repeats.{same_more, again_more}
 use Rattle.hume_names.proofs.table.add_all.Goals as goal

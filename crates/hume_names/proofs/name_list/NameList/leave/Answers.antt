@@ -1,4 +1,4 @@
-use Rattle.std.proofs.Common.{◌≡◌, ℕ, List, map, take, ap, sym, ◌∙◌}
+use Rattle.std.proofs.Common.{ℕ, List, map, take, ap, sym, ◌∙◌}
 use Rattle.std.proofs.lemmas.List.{take-map}
 use denote.Ref.{Bor}
 use Rattle.hume_names.proofs.name_list.NameList.leave.Goals as goal

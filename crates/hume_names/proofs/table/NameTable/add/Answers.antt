@@ -1,4 +1,4 @@
-use Rattle.std.proofs.Common.{◌≡◌, sym, ap, ◌∙◌}
+use Rattle.std.proofs.Common.{sym, ap, ◌∙◌}
 use Rattle.hume_names.specs.Names.{among}
 use Rattle.hume_names.specs.Tables.{with_name, names_of}
 use Rattle.hume_names.proofs.Lookup.{with_name-old, with_name-new}

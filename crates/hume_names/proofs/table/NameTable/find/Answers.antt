@@ -1,4 +1,4 @@
-use Rattle.std.proofs.Common.{◌≡◌, ap, ◌∙◌}
+use Rattle.std.proofs.Common.{ap, ◌∙◌}
 use Rattle.hume_names.specs.Tables.{number_of}
 use Rattle.hume_names.proofs.Lookup.{lookup-number_of}
 use Rattle.hume_names.proofs.table.NameTable.find.Goals as goal

@@ -1,4 +1,4 @@
-use Rattle.std.proofs.Common.{◌≡◌, ap, ◌∙◌, is_some}
+use Rattle.std.proofs.Common.{ap, ◌∙◌, is_some}
 use Rattle.hume_names.specs.Tables.{number_of}
 use Rattle.hume_names.proofs.Lookup.{lookup-number_of, is_some-number_of}
 use Rattle.hume_names.proofs.table.NameTable.has.Goals as goal

@@ -1,0 +1,119 @@
+ghost use Rattle.std.specs.Prelude.{◌≡◌, ◌<◌, ◌^◌, [], ◌++◌, map, length, if◌then◌else◌, OnOk, IfOk};
+ghost use Rattle.hume_base.specs.Least.{IsFirst};
+ghost use Rattle.hume_names.specs.Mentions as mentioned;
+ghost use Rattle.hume_names.specs.Leading.{same_kind, numbers_of, meant, graph_of, CallsItself, HoldsItself};
+
+use crate::mention_decls::mentions_of;
+use crate::mention_list::{MentionList, NameKind};
+use crate::owners::{Owners, owners_of};
+use hume_ast::{Decl, Program};
+use hume_base::List;
+use hume_graph::first_in_cycle;
+use std::alloc::{AllocError, Global};
+
+/// The first function that is in a cycle of calls.
+pub fn first_in_call_cycle(alloc: Global, program: &Program) -> Result<Option<u32>, AllocError>
+    requires { length program.now.decls < 2 ^ 32 }
+    ensures { IfOk result (IsFirst (CallsItself program.now.decls)) }
+{
+    let graph = name_graph(alloc, NameKind::Function, program.decls.as_slice())?;
+    let found = first_in_cycle(alloc, &graph)?;
+    Ok(found)
+}
+
+/// The first data type that holds itself.
+pub fn first_self_holding(alloc: Global, program: &Program) -> Result<Option<u32>, AllocError>
+    requires { length program.now.decls < 2 ^ 32 }
+    ensures { IfOk result (IsFirst (HoldsItself program.now.decls)) }
+{
+    let graph = name_graph(alloc, NameKind::DataType, program.decls.as_slice())?;
+    let found = first_in_cycle(alloc, &graph)?;
+    Ok(found)
+}
+
+/// Which declarations lead to which by the names of a kind that they mention.
+pub fn name_graph(
+    alloc: Global,
+    kind: NameKind,
+    decls: &[(u32, Decl)],
+) -> Result<List<List<u32>>, AllocError>
+    requires { length decls.now < 2 ^ 32 }
+    ensures { IfOk result (λ graph. graph ≡ graph_of kind decls.now) }
+{
+    let owners = owners_of(alloc, kind, decls)?;
+    let graph = graph_by(alloc, kind, &owners, decls)?;
+    Ok(graph)
+}
+
+fn graph_by(
+    alloc: Global,
+    kind: NameKind,
+    owners: &Owners,
+    decls: &[(u32, Decl)],
+) -> Result<List<List<u32>>, AllocError>
+    ensures { IfOk result (λ graph. graph ≡ map (λ d. meant kind owners.now (mentioned.mentions_of d.1)) decls.now) }
+{
+    let mut graph = List::new(alloc);
+    for d in decls {
+        let row = meant_by(alloc, kind, owners, &d.1)?;
+        graph.push(row)?;
+    }
+    Ok(graph)
+}
+
+fn meant_by(
+    alloc: Global,
+    kind: NameKind,
+    owners: &Owners,
+    decl: &Decl,
+) -> Result<List<u32>, AllocError>
+    ensures { IfOk result (λ row. row ≡ meant kind owners.now (mentioned.mentions_of decl.now)) }
+{
+    let mentions = mentions_of(alloc, decl)?;
+    let row = meant_in(alloc, kind, owners, &mentions)?;
+    Ok(row)
+}
+
+fn meant_in(
+    alloc: Global,
+    kind: NameKind,
+    owners: &Owners,
+    mentions: &MentionList,
+) -> Result<List<u32>, AllocError>
+    ensures { IfOk result (λ row. row ≡ meant kind owners.now mentions.now) }
+{
+    let mut row = List::new(alloc);
+    for at in 0..mentions.len() {
+        let (found, name) = mentions.get(at);
+        push_meant(kind, owners, found, name, &mut row)?;
+    }
+    Ok(row)
+}
+
+fn push_meant(
+    kind: NameKind,
+    owners: &Owners,
+    found: NameKind,
+    name: &[u8],
+    row: &mut List<u32>,
+) -> Result<(), AllocError>
+    ensures { OnOk result (row.new ≡ row.old ++ (if same_kind found kind then numbers_of name.now owners.now else [])) }
+{
+    if !is_same_kind(found, kind) {
+        return Ok(());
+    }
+    owners.push_numbers(name, row)
+}
+
+fn is_same_kind(a: NameKind, b: NameKind) -> bool
+    ensures { result ≡ same_kind a b }
+{
+    match (a, b) {
+        (NameKind::DataType, NameKind::DataType) => true,
+        (NameKind::Constructor, NameKind::Constructor) => true,
+        (NameKind::Exception, NameKind::Exception) => true,
+        (NameKind::Function, NameKind::Function) => true,
+        (NameKind::Unbound, NameKind::Unbound) => true,
+        _ => false,
+    }
+}
