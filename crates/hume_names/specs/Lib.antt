@@ -1,4 +1,3 @@
-pub mod Leading
 pub mod Names
 pub mod Tables
 pub mod DeclaredNames
