@@ -5,3 +5,4 @@ pub mod LeftOut
 pub mod Grown
 pub mod Searched
 pub mod ProgressSteps
+pub mod LedBack

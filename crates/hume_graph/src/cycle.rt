@@ -4,40 +4,70 @@ ghost use Rattle.hume_graph.specs.Cycles.{InCycle};
 ghost use Rattle.hume_graph.specs.inner.Search.{IsMarked, IsListed, Grows, MarkedAreFree};
 
 use crate::numbering::whole_progress;
+use crate::reversed::reversed;
 use crate::rows::row_of;
 use hume_base::List;
 use std::alloc::{AllocError, Global};
 
-/// The first node that leads to itself, directly or through others. Only nodes that get no number are searched from; each
-/// search takes a step for each edge.
+/// The first node that leads to itself, directly or through others. Only nodes that get a number neither
+/// in the graph nor in the reversed one are searched from; each search takes a step for each edge.
 pub fn first_in_cycle(alloc: Global, graph: &List<List<u32>>) -> Result<Option<u32>, AllocError>
     requires { length graph.now < 2 ^ 32 }
     ensures { IfOk result (IsFirst (InCycle graph.now)) }
 {
     let progress = whole_progress(alloc, graph)?;
-    let marks = progress.marks.as_slice();
+    let back = reversed(alloc, graph)?;
+    let back_progress = whole_progress(alloc, &back)?;
+    let found = first_of_left_out(
+        alloc,
+        graph,
+        progress.marks.as_slice(),
+        back_progress.marks.as_slice(),
+    )?;
+    Ok(found)
+}
+
+// The same, where no node with a mark leads to itself.
+fn first_of_left_out(
+    alloc: Global,
+    graph: &List<List<u32>>,
+    marks: &[bool],
+    back_marks: &[bool],
+) -> Result<Option<u32>, AllocError>
+    requires few { length graph.now < 2 ^ 32 }
+    requires long { length graph.now ≤ length marks.now }
+    requires back_long { length graph.now ≤ length back_marks.now }
+    requires none { MarkedAreFree graph.now marks.now }
+    requires back_none { MarkedAreFree graph.now back_marks.now }
+    ensures { IfOk result (IsFirst (InCycle graph.now)) }
+{
     for a in 0..graph.len() {
-        if leads_to_itself(alloc, graph, marks, a)? {
+        if leads_to_itself(alloc, graph, marks, back_marks, a)? {
             return Ok(Some(a as u32));
         }
     }
     Ok(None)
 }
 
-// The same of one node. No node with a mark does.
 fn leads_to_itself(
     alloc: Global,
     graph: &List<List<u32>>,
     marks: &[bool],
+    back_marks: &[bool],
     a: usize,
 ) -> Result<bool, AllocError>
     requires few { length graph.now < 2 ^ 32 }
     requires a { a < length graph.now }
     requires long { length graph.now ≤ length marks.now }
+    requires back_long { length graph.now ≤ length back_marks.now }
     requires none { MarkedAreFree graph.now marks.now }
+    requires back_none { MarkedAreFree graph.now back_marks.now }
     ensures { IfOk result (λ yes. IsTrue yes ↔ InCycle graph.now a) }
 {
     if marks[a] {
+        return Ok(false);
+    }
+    if back_marks[a] {
         return Ok(false);
     }
     is_in_cycle(alloc, graph, a)

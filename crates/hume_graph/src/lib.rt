@@ -11,6 +11,7 @@
 mod cycle;
 mod laws;
 mod numbering;
+mod reversed;
 mod rows;
 
 pub use cycle::first_in_cycle;

@@ -6,3 +6,4 @@ pub mod MentionSteps
 pub mod Steps
 pub mod NameRules
 pub mod CaseSteps
+pub mod IndexSteps

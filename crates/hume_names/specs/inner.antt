@@ -1,3 +1,4 @@
 pub mod Spaces
 pub mod Alternatives
 pub mod KnownTables
+pub mod Indexed

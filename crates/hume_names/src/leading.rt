@@ -1,11 +1,12 @@
 ghost use Rattle.std.specs.Prelude.{◌≡◌, ◌<◌, ◌^◌, [], ◌++◌, map, length, if◌then◌else◌, OnOk, IfOk};
 ghost use Rattle.hume_base.specs.Least.{IsFirst};
 ghost use Rattle.hume_names.specs.Mentions as mentioned;
+ghost use Rattle.hume_names.specs.inner.Indexed.{IsIndexed};
 ghost use Rattle.hume_names.specs.Leading.{same_kind, numbers_of, meant, graph_of, CallsItself, HoldsItself};
 
 use crate::mention_decls::mentions_of;
 use crate::mention_list::{MentionList, NameKind};
-use crate::owners::{Owners, owners_of};
+use crate::owner_index::{OwnerIndex, index_of};
 use hume_ast::{Decl, Program};
 use hume_base::List;
 use hume_graph::first_in_cycle;
@@ -40,7 +41,7 @@ pub fn name_graph(
     requires { length decls.now < 2 ^ 32 }
     ensures { IfOk result (λ graph. graph ≡ graph_of kind decls.now) }
 {
-    let owners = owners_of(alloc, kind, decls)?;
+    let owners = index_of(alloc, kind, decls)?;
     let graph = graph_by(alloc, kind, &owners, decls)?;
     Ok(graph)
 }
@@ -48,10 +49,11 @@ pub fn name_graph(
 fn graph_by(
     alloc: Global,
     kind: NameKind,
-    owners: &Owners,
+    owners: &OwnerIndex,
     decls: &[(u32, Decl)],
 ) -> Result<List<List<u32>>, AllocError>
-    ensures { IfOk result (λ graph. graph ≡ map (λ d. meant kind owners.now (mentioned.mentions_of d.1)) decls.now) }
+    requires { IsIndexed owners.now }
+    ensures { IfOk result (λ graph. graph ≡ map (λ d. meant kind owners.now.owners (mentioned.mentions_of d.1)) decls.now) }
 {
     let mut graph = List::new(alloc);
     for d in decls {
@@ -64,10 +66,11 @@ fn graph_by(
 fn meant_by(
     alloc: Global,
     kind: NameKind,
-    owners: &Owners,
+    owners: &OwnerIndex,
     decl: &Decl,
 ) -> Result<List<u32>, AllocError>
-    ensures { IfOk result (λ row. row ≡ meant kind owners.now (mentioned.mentions_of decl.now)) }
+    requires { IsIndexed owners.now }
+    ensures { IfOk result (λ row. row ≡ meant kind owners.now.owners (mentioned.mentions_of decl.now)) }
 {
     let mentions = mentions_of(alloc, decl)?;
     let row = meant_in(alloc, kind, owners, &mentions)?;
@@ -77,10 +80,11 @@ fn meant_by(
 fn meant_in(
     alloc: Global,
     kind: NameKind,
-    owners: &Owners,
+    owners: &OwnerIndex,
     mentions: &MentionList,
 ) -> Result<List<u32>, AllocError>
-    ensures { IfOk result (λ row. row ≡ meant kind owners.now mentions.now) }
+    requires { IsIndexed owners.now }
+    ensures { IfOk result (λ row. row ≡ meant kind owners.now.owners mentions.now) }
 {
     let mut row = List::new(alloc);
     for at in 0..mentions.len() {
@@ -92,12 +96,13 @@ fn meant_in(
 
 fn push_meant(
     kind: NameKind,
-    owners: &Owners,
+    owners: &OwnerIndex,
     found: NameKind,
     name: &[u8],
     row: &mut List<u32>,
 ) -> Result<(), AllocError>
-    ensures { OnOk result (row.new ≡ row.old ++ (if same_kind found kind then numbers_of name.now owners.now else [])) }
+    requires { IsIndexed owners.now }
+    ensures { OnOk result (row.new ≡ row.old ++ (if same_kind found kind then numbers_of name.now owners.now.owners else [])) }
 {
     if !is_same_kind(found, kind) {
         return Ok(());

@@ -19,6 +19,7 @@ mod mention_list;
 mod mention_types;
 mod misnamed;
 mod name_list;
+mod owner_index;
 mod owners;
 mod repeated;
 mod table;

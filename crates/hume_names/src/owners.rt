@@ -1,5 +1,5 @@
 //! Names of a kind, with the numbers of their declarations.
-ghost use Rattle.std.specs.Prelude.{◌≡◌, ◌<◌, ◌^◌, ◌∷◌, [], ◌++◌, map, length, OnOk, IfOk};
+ghost use Rattle.std.specs.Prelude.{◌≡◌, ◌<◌, ◌^◌, ◌∷◌, [], ◌++◌, map, length, slice_get, Some, OnOk, IfOk};
 ghost use Rattle.hume_names.specs.Leading.{names_of_kind, owners_from, numbers_of};
 
 use crate::declared::{constructors_of, exceptions_of, functions_of, types_of};
@@ -38,6 +38,19 @@ impl<'a> Owners<'a> {
     {
         self.owners.push((name, number))?;
         Ok(())
+    }
+
+    pub(crate) fn len(&self) -> usize
+        ensures { result ≡ length self.now }
+    {
+        self.owners.len()
+    }
+
+    pub(crate) fn get(&self, at: usize) -> (&'a [u8], u32)
+        requires { at < length self.now }
+        ensures { slice_get self.now at ≡ Some (result.0.now, result.1) }
+    {
+        self.owners[at]
     }
 
     /// Adds the numbers of the declarations of a name to a row.

@@ -1,21 +1,16 @@
-use Rattle.std.proofs.Common.{sym, ◌∙◌, arith}
-use Rattle.std.proofs.lemmas.Bool.{false≢true}
-use borrow.Author.Count.{below_more}
-use Rattle.hume_base.proofs.Least.{IsFirst-none, IsFirst-here}
-use Rattle.hume_graph.specs.Cycles.{InCycle}
-use Rattle.hume_graph.proofs.Chains.{no_cycle, cycle_within}
+use Rattle.std.proofs.Common.{◌<◌, length, subst, sym}
+use Rattle.hume_graph.proofs.Chains.{no_cycle}
+use Rattle.hume_graph.proofs.LedBack.{cycle_back}
 use Rattle.hume_graph.proofs.cycle.first_in_cycle.Goals as goal
 
-pub leads_to_itself-requires-clause-none : goal.leads_to_itself-requires-clause-none
-leads_to_itself-requires-clause-none c = λ a lt hit cycle.
+pub first_of_left_out-requires-clause-none : goal.first_of_left_out-requires-clause-none
+first_of_left_out-requires-clause-none c = λ a lt hit cycle.
     let p = c.in_ok-progress.ensures.progress in
-    no_cycle c.args.graph.now c.in_ok-progress.progress.order p.numbering a ((p.marked a lt).0 (rw c.as_slice-marks.ensures at hit)) cycle
+    no_cycle c.args.graph.now c.in_ok-progress.progress.order p.numbering a ((p.marked a lt).0 (rw c.as_slice.ensures at hit)) cycle
 
-pub returns-then-branch : goal.returns-then-branch
-returns-then-branch c = IsFirst-here (InCycle c.args.graph.now) c.loop-a.a c.loop-a.invariant (c.in_ok-leads_to_itself.ensures.0 c.if-branch.true)
-
-pub loop-a-preserved : goal.loop-a-preserved
-loop-a-preserved c = below_more _ _ c.loop-a.invariant (λ q. false≢true (sym c.if-branch.false ∙ c.in_ok-leads_to_itself.ensures.1 q))
-
-pub returns : goal.returns
-returns c = IsFirst-none (InCycle c.args.graph.now) c.loop-a.a c.loop-a.invariant (λ j q. let lt = cycle_within c.args.graph.now j q in let e = c.loop-a-test.false in let l = c.len-a-end.ensures in omega arith)
+pub first_of_left_out-requires-clause-back_none : goal.first_of_left_out-requires-clause-back_none
+first_of_left_out-requires-clause-back_none c = λ a lt hit cycle.
+    let p = c.in_ok-back_progress.ensures.progress in
+    let back = c.in_ok-back.back in
+    let within : a < length back = subst (λ k. a < k) (sym c.in_ok-back.ensures.long) lt in
+    no_cycle back c.in_ok-back_progress.back_progress.order p.numbering a ((p.marked a within).0 (rw c.as_slice-2.ensures at hit)) (cycle_back c.args.graph.now back c.in_ok-back.ensures a cycle)

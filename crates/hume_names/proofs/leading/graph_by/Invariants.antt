@@ -4,4 +4,4 @@ use Rattle.hume_names.specs.Leading.{meant}
 use Rattle.hume_names.proofs.leading.graph_by.Given as goal
 
 abbrev pub invariant-loop-d : goal.invariant-loop-d
-invariant-loop-d l = l.graph ++ map (λ d. meant l.kind l.owners (mentions_of d.1)) (drop l.d-index l.decls) ≡ map (λ d. meant l.kind l.owners (mentions_of d.1)) l.decls
+invariant-loop-d l = l.graph ++ map (λ d. meant l.kind l.owners.owners (mentions_of d.1)) (drop l.d-index l.decls) ≡ map (λ d. meant l.kind l.owners.owners (mentions_of d.1)) l.decls
