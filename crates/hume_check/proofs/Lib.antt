@@ -1,0 +1,4 @@
+mod InPlace
+mod TypesOnce
+mod SignaturesOnce
+mod CoresOnce

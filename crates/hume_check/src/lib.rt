@@ -1,0 +1,3 @@
+//! Names, types and the core.
+#![tactic(auto)]
+mod laws;
