@@ -1,5 +1,5 @@
 ghost use Rattle.std.specs.Prelude.{◌≡◌};
-ghost use Rattle.hume_base.specs.Least.{earlier_of, goes_first, precedes};
+ghost use Rattle.hume_base.specs.Least.{earlier_of, finding_of, goes_first, precedes};
 
 use crate::rule::Rule;
 
@@ -8,6 +8,16 @@ use crate::rule::Rule;
 pub struct Finding {
     pub rule: Rule,
     pub declaration: u32,
+}
+
+/// The broken rule with the declaration that breaks it, if one does.
+pub fn finding(rule: Rule, declaration: Option<u32>) -> Option<Finding>
+    ensures { result ≡ finding_of rule declaration }
+{
+    match declaration {
+        None => None,
+        Some(declaration) => Some(Finding { rule, declaration }),
+    }
 }
 
 /// The earlier of two findings: by phase, then by declaration, then by code.

@@ -2,3 +2,4 @@ mod InPlace
 mod TypesOnce
 mod SignaturesOnce
 mod CoresOnce
+mod OneFinding

@@ -1,12 +1,12 @@
 ghost use Rattle.std.specs.Prelude.{◌≡◌, ◌<◌, ◌^◌, length, IfOk};
-ghost use Rattle.hume_base.specs.Least.{IsLeast, finding_of};
+ghost use Rattle.hume_base.specs.Least.{IsLeast};
 ghost use Rattle.hume_names.specs.Misnamed.{BreaksNames};
 
 use crate::leading::{first_in_call_cycle, first_self_holding};
 use crate::repeated::first_repeated;
 use crate::unknown::first_unknown;
 use hume_ast::Program;
-use hume_base::{Finding, Rule, earlier};
+use hume_base::{Finding, Rule, earlier, finding};
 use std::alloc::{AllocError, Global};
 
 /// The least of the broken rules on names: by declaration, then by code.
@@ -19,13 +19,4 @@ pub fn first_misnamed(alloc: Global, program: &Program) -> Result<Option<Finding
     let in_cycle = finding(Rule::C32, first_in_call_cycle(alloc, program)?);
     let self_holding = finding(Rule::C33, first_self_holding(alloc, program)?);
     Ok(earlier(earlier(repeated, unknown), earlier(in_cycle, self_holding)))
-}
-
-fn finding(rule: Rule, declaration: Option<u32>) -> Option<Finding>
-    ensures { result ≡ finding_of rule declaration }
-{
-    match declaration {
-        None => None,
-        Some(declaration) => Some(Finding { rule, declaration }),
-    }
 }

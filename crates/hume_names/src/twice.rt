@@ -3,6 +3,7 @@ ghost use Rattle.std.specs.List.{list_any};
 ghost use Rattle.hume_base.specs.Least.{IsFirst};
 ghost use Rattle.hume_names.specs.Names.{repeats};
 ghost use Rattle.hume_names.specs.Mentions.{bound_by};
+ghost use Rattle.hume_names.specs.Twice.{BindsTwice};
 ghost use Rattle.hume_names.specs.Twice as twice;
 
 use crate::mention_types::bind_all;
@@ -16,7 +17,7 @@ use std::alloc::{AllocError, Global};
 /// The first declaration that binds a variable twice in one place.
 pub fn first_bound_twice(alloc: Global, program: &Program) -> Result<Option<u32>, AllocError>
     requires { length program.now.decls < 2 ^ 32 }
-    ensures { IfOk result (IsFirst (twice.BindsTwice program.now.decls)) }
+    ensures { IfOk result (IsFirst (BindsTwice program.now.decls)) }
 {
     let found = first_bound_twice_in(alloc, program.decls.as_slice())?;
     Ok(found)
@@ -24,7 +25,7 @@ pub fn first_bound_twice(alloc: Global, program: &Program) -> Result<Option<u32>
 
 fn first_bound_twice_in(alloc: Global, decls: &[(u32, Decl)]) -> Result<Option<u32>, AllocError>
     requires { length decls.now < 2 ^ 32 }
-    ensures { IfOk result (IsFirst (twice.BindsTwice decls.now)) }
+    ensures { IfOk result (IsFirst (BindsTwice decls.now)) }
 {
     for (i, d) in decls.iter().enumerate() {
         if decl_binds_twice(alloc, &d.1)? {
