@@ -10,13 +10,15 @@ pub struct Finding {
     pub declaration: u32,
 }
 
-/// The broken rule with the declaration that breaks it, if one does.
-pub fn finding(rule: Rule, declaration: Option<u32>) -> Option<Finding>
-    ensures { result ≡ finding_of rule declaration }
-{
-    match declaration {
-        None => None,
-        Some(declaration) => Some(Finding { rule, declaration }),
+impl Finding {
+    /// The broken rule with the declaration that breaks it, if one does.
+    pub fn of(rule: Rule, declaration: Option<u32>) -> Option<Finding>
+        ensures { result ≡ finding_of rule declaration }
+    {
+        match declaration {
+            None => None,
+            Some(declaration) => Some(Finding { rule, declaration }),
+        }
     }
 }
 

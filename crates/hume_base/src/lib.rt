@@ -26,7 +26,7 @@ mod words;
 
 pub use boxed::Box;
 pub use copy::{copy_ty, copy_tys, copy_value, copy_values, same_ty};
-pub use finding::{Finding, earlier, finding};
+pub use finding::{Finding, earlier};
 pub use keyword::Keyword;
 pub use laws::words_tell_values_apart;
 pub use list::List;

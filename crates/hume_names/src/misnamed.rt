@@ -6,7 +6,7 @@ use crate::leading::{first_in_call_cycle, first_self_holding};
 use crate::repeated::first_repeated;
 use crate::unknown::first_unknown;
 use hume_ast::Program;
-use hume_base::{Finding, Rule, earlier, finding};
+use hume_base::{Finding, Rule, earlier};
 use std::alloc::{AllocError, Global};
 
 /// The least of the broken rules on names: by declaration, then by code.
@@ -14,9 +14,9 @@ pub fn first_misnamed(alloc: Global, program: &Program) -> Result<Option<Finding
     requires { length program.now.decls < 2 ^ 32 }
     ensures { IfOk result (IsLeast (BreaksNames program.now.decls)) }
 {
-    let repeated = finding(Rule::C30, first_repeated(alloc, program)?);
-    let unknown = finding(Rule::C31, first_unknown(alloc, program)?);
-    let in_cycle = finding(Rule::C32, first_in_call_cycle(alloc, program)?);
-    let self_holding = finding(Rule::C33, first_self_holding(alloc, program)?);
+    let repeated = Finding::of(Rule::C30, first_repeated(alloc, program)?);
+    let unknown = Finding::of(Rule::C31, first_unknown(alloc, program)?);
+    let in_cycle = Finding::of(Rule::C32, first_in_call_cycle(alloc, program)?);
+    let self_holding = Finding::of(Rule::C33, first_self_holding(alloc, program)?);
     Ok(earlier(earlier(repeated, unknown), earlier(in_cycle, self_holding)))
 }
