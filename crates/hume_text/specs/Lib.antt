@@ -1,0 +1,5 @@
+pub mod Spelling
+pub mod Printed
+pub mod Read
+pub mod Names
+pub mod inner
