@@ -1,5 +1,5 @@
 -- Why a walk along a type ends: a data type leads to types whose data types have smaller numbers, and all else to a smaller type.
-use Rattle.std.proofs.Common.{◌≡◌, ℕ, zero, suc, ◌+◌, ◌*◌, ◌<◌, ◌≤◌, List, [], ◌∷◌, Some, slice_get, refl, arith}
+use Rattle.std.proofs.Common.{◌≡◌, ℕ, zero, suc, ◌+◌, ◌*◌, ◌<◌, ◌≤◌, List, [], ◌∷◌, Some, slice_get, arith}
 use Rattle.std.proofs.Math.Nat.{mul-le-mul_right}
 use denote.Param.Weighed.{most}
 use Rattle.hume_base.specs.declared.types.Ty.{Ty, size-Ty, size_is-Ty}

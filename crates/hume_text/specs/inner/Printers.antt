@@ -1,5 +1,5 @@
 -- What gives the text of the value at the front of a list of words, and leaves the words after it.
-use Rattle.std.specs.Prelude.{ℕ, zero, suc, ◌-◌, ◌%◌, ◌==◌, Bool, true, false, List, [], ◌∷◌, ◌++◌, length, map, drop, take, replicate, codes, Option, Some, None, if◌then◌else◌, slice_get, pos}
+use Rattle.std.specs.Prelude.{ℕ, zero, suc, ◌-◌, ◌%◌, ◌==◌, Bool, true, false, List, [], ◌∷◌, ◌++◌, length, drop, replicate, codes, Option, Some, None, if◌then◌else◌, slice_get}
 use Rattle.std.specs.Fmt.{decimal, signed_decimal}
 use Rattle.hume_base.specs.declared.types.Ty.{Ty, fold-Ty, out-Ty}
 use Rattle.hume_base.specs.declared.types.Ty.TheOpen.{Ty-F}

@@ -1,4 +1,4 @@
-use Rattle.std.proofs.Common.{◌≡◌, ◌+◌, ◌*◌, ◌-◌, ◌++◌, [], take, map, drop, replicate, codes}
+use Rattle.std.proofs.Common.{◌≡◌, ◌+◌, ◌*◌, ◌-◌, ◌++◌, [], take, map, drop, replicate}
 use denote.Param.Weighed.{most}
 use Rattle.hume_base.specs.declared.types.Ty.{size-Ty}
 use Rattle.hume_text.specs.inner.Printers.{Printer, print_with, print_named, print_several, print_fields}
@@ -31,6 +31,28 @@ invariant-print_fields-loop-ty l =
     let printer = print_with (print_named l.types l.bound) in
     let left = print_fields l.types printer (drop l.ty-index l.tys) l.rest in
     let all = print_fields l.types printer l.tys l.words in
+    record {
+      text : take l.chunk.room (l.chunk.filled.items ++ left.0) ≡ take l.initial.chunk.room (l.initial.chunk.filled.items ++ all.0);
+      room : l.chunk.room ≡ l.initial.chunk.room;
+      rest : left.1 ≡ all.1;
+    }
+
+abbrev pub invariant-print_tuple-loop-ty : goal.invariant-print_tuple-loop-ty
+invariant-print_tuple-loop-ty l =
+    let printer = print_with (print_named l.types l.bound) in
+    let left = print_several l.before (map printer (drop l.ty-index l.tys)) l.rest in
+    let all = print_several [] (map printer l.tys) l.words in
+    record {
+      text : take l.chunk.room (l.chunk.filled.items ++ left.0) ≡ take l.initial.chunk.room (l.initial.chunk.filled.items ++ all.0);
+      room : l.chunk.room ≡ l.initial.chunk.room;
+      rest : left.1 ≡ all.1;
+    }
+
+abbrev pub invariant-print_vector-loop-place : goal.invariant-print_vector-loop-place
+invariant-print_vector-loop-place l =
+    let printer = print_with (print_named l.types l.bound) l.item in
+    let left = print_several l.before (replicate {A = Printer} (l.count - l._place) printer) l.rest in
+    let all = print_several [] (replicate {A = Printer} l.count printer) l.words in
     record {
       text : take l.chunk.room (l.chunk.filled.items ++ left.0) ≡ take l.initial.chunk.room (l.initial.chunk.filled.items ++ all.0);
       room : l.chunk.room ≡ l.initial.chunk.room;
