@@ -1,3 +1,4 @@
 pub mod Ranks
 pub mod Printing
 pub mod ValuePrinting
+pub mod TextLengths

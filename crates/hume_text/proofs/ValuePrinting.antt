@@ -40,15 +40,15 @@ word_prints test text pieces same (Value-F.Tuple vs) r p = cc
 word_prints test text pieces same (Value-F.Vector vs) r p = cc
 word_prints test text pieces same (Value-F.Con c vs) r p = cc
 
-append_nothing : (bytes : List ℕ) → bytes ≡ bytes ++ []
+pub append_nothing : (bytes : List ℕ) → bytes ≡ bytes ++ []
 append_nothing [] = refl
 append_nothing (byte ∷ bytes) = ap (λ more. byte ∷ more) (append_nothing bytes)
 
-written-append : (ps qs : List Piece) → written (ps ++ qs) ≡ written ps ++ written qs
+pub written-append : (ps qs : List Piece) → written (ps ++ qs) ≡ written ps ++ written qs
 written-append ps qs = flat_map-append piece_bytes ps qs
 
 -- several texts with commas
-abbrev several : List ℕ → List (List Piece) → List ℕ
+abbrev pub several : List ℕ → List (List Piece) → List ℕ
 several before [] = []
 several before (part ∷ parts) = (before ++ written part) ++ several (codes ", ") parts
 
@@ -57,12 +57,12 @@ later_written [] = refl
 later_written (part ∷ parts) =
     ap (λ bytes. 44 ∷ (32 ∷ bytes)) (ap (λ bytes. written part ++ bytes) (later_written parts) ∙ sym (written-append part (flat_map (λ later. Comma ∷ (Space ∷ later)) parts)))
 
-several_written : (parts : List (List Piece)) → several [] parts ≡ written (with_commas parts)
+pub several_written : (parts : List (List Piece)) → several [] parts ≡ written (with_commas parts)
 several_written [] = refl
 several_written (part ∷ parts) =
     ap (λ bytes. written part ++ bytes) (later_written parts) ∙ sym (written-append part (flat_map (λ later. Comma ∷ (Space ∷ later)) parts))
 
-enclosed : (opening closing : Piece) (parts : List (List Piece)) → piece_bytes opening ++ (several [] parts ++ piece_bytes closing) ≡ written (opening ∷ (with_commas parts ++ closing ∷ []))
+pub enclosed : (opening closing : Piece) (parts : List (List Piece)) → piece_bytes opening ++ (several [] parts ++ piece_bytes closing) ≡ written (opening ∷ (with_commas parts ++ closing ∷ []))
 enclosed opening closing parts =
     ap (λ bytes. piece_bytes opening ++ bytes) (ap (λ bytes. bytes ++ piece_bytes closing) (several_written parts)
       ∙ ap (λ bytes. written (with_commas parts) ++ bytes) (append_nothing (piece_bytes closing))

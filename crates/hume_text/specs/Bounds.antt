@@ -1,7 +1,7 @@
 -- Which types have texts that aren't longer than a buffer for them.
 use Rattle.std.specs.Prelude.{◌≡◌, ℕ, ◌+◌, ◌≤◌, ◌&&◌, nat_le, Bool, true, length, Some, slice_get}
 use Rattle.std.specs.List.{list_all, AllByRecursion}
-use Rattle.hume_base.specs.declared.limits.TheConstants.{MAX_DEPTH, MAX_NAME_BYTES, MAX_TYPE_WORDS}
+use Rattle.hume_base.specs.declared.limits.TheConstants.{MAX_DEPTH, MAX_NAME_BYTES, MAX_TYPE_WORDS, MAX_WIDTH}
 use Rattle.hume_base.specs.declared.types.Ty.{Ty, fold-Ty}
 use Rattle.hume_base.specs.declared.types.Ty.TheOpen.{Ty-F}
 use Rattle.hume_base.specs.declared.types.Types.{Types}
@@ -23,19 +23,21 @@ depth_step _ = 1
 abbrev pub depth_of : Ty → ℕ
 depth_of = fold-Ty ℕ depth_step
 
-abbrev pub parts_step : Ty-F Bool → Bool
-parts_step (Ty-F.Tuple parts) = nat_le 1 (length parts) && list_all (λ part. part) parts
-parts_step (Ty-F.Vector count item) = nat_le 1 count && item
-parts_step _ = true
+-- one level of a type: numbers aren't too wide, and no tuple or vector is empty
+abbrev pub limits_step : Ty-F Bool → Bool
+limits_step (Ty-F.Int bits) = nat_le bits MAX_WIDTH
+limits_step (Ty-F.Nat bits) = nat_le bits MAX_WIDTH
+limits_step (Ty-F.Tuple parts) = nat_le 1 (length parts) && list_all (λ part. part) parts
+limits_step (Ty-F.Vector count item) = nat_le 1 count && item
+limits_step _ = true
 
--- no tuple and no vector in the type is empty
-abbrev pub has_parts : Ty → Bool
-has_parts = fold-Ty Bool parts_step
+abbrev pub keeps_limits : Ty → Bool
+keeps_limits = fold-Ty Bool limits_step
 
--- the type is one that a source may write: not too deep, and with no empty tuple or vector
+-- the type is one that a source may write: not too deep, and within the limits of its numbers, tuples and vectors
 pub record IsWritable (ty : Ty) : Type 0 where
   pub depth : depth_of ty ≤ MAX_DEPTH
-  pub parts : has_parts ty ≡ true
+  pub limits : keeps_limits ty ≡ true
 
 pub record IsWritableCon (con : ConDef) : Type 0 where
   pub name : length con.name ≤ MAX_NAME_BYTES
@@ -44,3 +46,9 @@ pub record IsWritableCon (con : ConDef) : Type 0 where
 -- so are the fields of all constructors, whose names aren't too long
 abbrev pub AreWritable : Types → Type 0
 AreWritable types = (number : ℕ) (sum : SumDef) → slice_get types.sums number ≡ Some sum → AllByRecursion IsWritableCon sum.cons
+
+-- a type whose texts have a bound: it and what its data types hold keep the limits, and their sizes are written down
+pub record IsPrintable (types : Types) (ty : Ty) : Type 0 where
+  pub own : IsWritable ty
+  pub others : AreWritable types
+  pub sizes : HaveWrittenSizes types

@@ -1,10 +1,12 @@
 -- The text of a value that is printed.
-use Rattle.std.specs.Prelude.{ℕ, ◌==◌, List, [], ◌∷◌, ◌++◌, codes, if◌then◌else◌}
+use Rattle.std.specs.Prelude.{◌≡◌, true, ℕ, ◌==◌, List, [], ◌∷◌, ◌++◌, codes, if◌then◌else◌}
 use Rattle.std.specs.Fmt.{signed_decimal}
 use Rattle.std.specs.List.{flat_map}
 use Rattle.hume_base.specs.declared.types.Ty.{Ty}
 use Rattle.hume_base.specs.declared.types.Value.{Value}
 use Rattle.hume_base.specs.declared.types.Types.{Types}
+use Rattle.hume_base.specs.Values.{is_value}
+use Rattle.hume_base.specs.Flat.{flat}
 use Rattle.hume_text.specs.Spelling.{Piece, Space, Open, Close, OpenVector, CloseVector, Comma, Name, Number, Letter, spelling}
 
 -- what stands between single quotes for a character: an escape of a newline, a tab, a backslash or a quote, and else its byte
@@ -34,3 +36,8 @@ written pieces = flat_map piece_bytes pieces
 -- the text of a value of a type
 abbrev pub texts : Types → Ty → Value → List ℕ
 texts types ty value = written (spelling types ty value)
+
+-- the words are those of a value of the type
+pub record AreWordsOf (types : Types) (ty : Ty) (words : List ℕ) (value : Value) : Type 0 where
+  pub typed : is_value types ty value ≡ true
+  pub same : flat types ty value ≡ words

@@ -1,11 +1,26 @@
 //! The text of the value that has the given words.
-ghost use Rattle.std.specs.Prelude.{◌≡◌, ◌++◌, take, map, replicate, codes};
+ghost use Rattle.std.specs.Prelude.{◌≡◌, ◌+◌, ◌*◌, ◌≤◌, ◌++◌, length, take, map, replicate, codes};
 ghost use Rattle.hume_base.specs.declared.types.Ty.{out-Ty};
+ghost use Rattle.hume_base.specs.declared.types.Value.{Value};
+ghost use Rattle.hume_base.specs.Sizes.{size_of, HaveTheirSizes};
+ghost use Rattle.hume_text.specs.Printed.{texts, AreWordsOf};
+ghost use Rattle.hume_text.specs.Bounds.{IsPrintable};
 ghost use Rattle.hume_text.specs.inner.Printers.{Printer, print_with, print_named, print_in, print_con, print_fields, print_field, is_compound};
 
 use crate::chunk::Chunk;
 use crate::scalars::{print_bool, print_int, print_letter, print_nat};
 use hume_base::{SumDef, Ty, Types};
+
+/// Appends the text of the value of a type that has these flat words. It takes no memory.
+pub fn print_value(types: &Types, ty: &Ty, words: &[u64], chunk: &mut Chunk)
+    requires sizes { HaveTheirSizes types.now }
+    requires printable { IsPrintable types.now ty.now }
+    requires spare { length chunk.old.filled.items + 512 * size_of types.now ty.now ≤ chunk.old.room }
+    ensures text { (value : Value) → AreWordsOf types.now ty.now words.now value → chunk.new.filled.items ≡ chunk.old.filled.items ++ texts types.now ty.now value }
+    ensures room { chunk.new.room ≡ chunk.old.room }
+{
+    print_front(types, types.sums.len(), ty, words, chunk);
+}
 
 /// Prints the value of a type at the front of the words, and answers the words after it, where only data types of numbers
 /// below the bound are printed.

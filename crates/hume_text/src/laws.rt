@@ -1,0 +1,15 @@
+//! Laws of the definitions, as contracts of functions that do nothing.
+ghost use Rattle.std.specs.Prelude.{◌≡◌, ◌≤◌, ◌*◌, true, length};
+ghost use Rattle.hume_base.specs.declared.types.Ty.{Ty};
+ghost use Rattle.hume_base.specs.declared.types.Types.{Types};
+ghost use Rattle.hume_base.specs.declared.types.Value.{Value};
+ghost use Rattle.hume_base.specs.Sizes.{size_of};
+ghost use Rattle.hume_base.specs.Values.{is_value};
+ghost use Rattle.hume_text.specs.Printed.{texts};
+ghost use Rattle.hume_text.specs.Bounds.{IsPrintable};
+
+/// No printed text is longer than the bound of its type.
+pub fn texts_are_bounded()
+    ensures { (types : Types) (ty : Ty) (value : Value) → IsPrintable types ty → is_value types ty value ≡ true
+        → length (texts types ty value) ≤ 512 * size_of types ty }
+{}
