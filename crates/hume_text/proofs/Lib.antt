@@ -2,3 +2,4 @@ pub mod Ranks
 pub mod Printing
 pub mod ValuePrinting
 pub mod TextLengths
+pub mod Rereading

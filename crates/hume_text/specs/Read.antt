@@ -1,5 +1,6 @@
 -- Which lines are texts of a value.
-use Rattle.std.specs.Prelude.{◌≡◌, ℕ, ◌+◌, ◌*◌, ◌-◌, nat_le, ◌==◌, ◌&&◌, ◌||◌, not, Bool, ℤ, pos, neg_ℤ, List, [], ◌∷◌, fold, Option, Some, None, if◌then◌else◌}
+use Rattle.std.specs.Prelude.{◌≡◌, ℕ, nat_le, ◌==◌, ◌&&◌, ◌||◌, not, Bool, ℤ, pos, neg_ℤ, List, [], ◌∷◌, Option, Some, None, if◌then◌else◌}
+use Rattle.std.specs.Str.Parse.{digits_value}
 use Rattle.hume_base.specs.declared.types.Ty.{Ty}
 use Rattle.hume_base.specs.declared.types.Value.{Value}
 use Rattle.hume_base.specs.declared.types.Types.{Types}
@@ -32,7 +33,7 @@ behind test (byte ∷ bytes) = if test byte then behind test bytes else byte ∷
 
 -- the number that digits write
 abbrev pub number_of : List ℕ → ℕ
-number_of digits = fold (λ n digit. n * 10 + (digit - 48)) 0 digits
+number_of digits = digits_value 10 digits
 
 -- a token at the front of a line, and the bytes behind it
 abbrev pub Cut : Type 0

@@ -16,5 +16,5 @@ mod scalars;
 
 pub use bound::text_bound;
 pub use chunk::Chunk;
-pub use laws::texts_are_bounded;
+pub use laws::{printed_texts_are_texts, texts_are_bounded};
 pub use print::print_value;
