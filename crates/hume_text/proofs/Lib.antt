@@ -3,3 +3,4 @@ pub mod Printing
 pub mod ValuePrinting
 pub mod TextLengths
 pub mod Rereading
+pub mod OneValue

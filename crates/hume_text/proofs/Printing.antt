@@ -30,15 +30,14 @@ print-at types (suc bound) number words below = elim (cases_eq number bound) [
   | inr other ↦ rw (ne_eqb number bound other) (print-at types bound number words (omega arith))
 ]
 
-
 -- a text of one value behind what stands before it, and what comes later
 next-text : (r₀ r₁ r₂ : ℕ) (filled before text later mid last : List ℕ) → r₁ ≡ r₀ → r₂ ≡ r₁ → mid ≡ take r₀ (filled ++ before) → last ≡ take r₁ (mid ++ text)
     → take r₂ (last ++ later) ≡ take r₀ (filled ++ ((before ++ text) ++ later))
 next-text r₀ r₁ r₂ filled before text later mid last s₁ s₂ e₁ e₂ =
     rw (e₂, e₁, s₂, s₁) (take-more r₀ (take r₀ (filled ++ before) ++ text) later
-      ∙ ap (take r₀) (append_assoc (take r₀ (filled ++ before)) text later)
-      ∙ take-more r₀ (filled ++ before) (text ++ later)
-      ∙ ap (take r₀) (append_assoc filled before (text ++ later) ∙ ap (λ bytes. filled ++ bytes) (sym (append_assoc before text later))))
+    ∙ ap (take r₀) (append_assoc (take r₀ (filled ++ before)) text later)
+    ∙ take-more r₀ (filled ++ before) (text ++ later)
+    ∙ ap (take r₀) (append_assoc filled before (text ++ later) ∙ ap (λ bytes. filled ++ bytes) (sym (append_assoc before text later))))
 
 -- one more of several
 pub several-next : (r₀ r₁ r₂ : ℕ) (filled before mid last words rest : List ℕ) (printer : Printer) (printers others : List Printer) (text left : List ℕ)
@@ -57,9 +56,9 @@ closed-text r₀ r₁ r₂ old opening first inside last closing all s₁ s₂ e
     let same : take r₀ (last ++ []) ≡ take r₀ (take r₀ (old ++ opening) ++ inside) = rw (s₂, s₁, e₁) at e₂ in
     let cut : take r₀ last ≡ take r₀ ((old ++ opening) ++ inside) = ap (take r₀) (sym (append-nil last)) ∙ same ∙ take-more r₀ (old ++ opening) inside in
     rw (e, s₂, s₁) (sym (take-more r₀ last closing)
-      ∙ ap (λ bytes. take r₀ (bytes ++ closing)) cut
-      ∙ take-more r₀ ((old ++ opening) ++ inside) closing
-      ∙ ap (take r₀) (append_assoc (old ++ opening) inside closing ∙ append_assoc old opening (inside ++ closing)))
+    ∙ ap (λ bytes. take r₀ (bytes ++ closing)) cut
+    ∙ take-more r₀ ((old ++ opening) ++ inside) closing
+    ∙ ap (take r₀) (append_assoc (old ++ opening) inside closing ∙ append_assoc old opening (inside ++ closing)))
 
 -- the list from a place on begins with what stands there
 pub drop-item : {X : Type 0} (xs : List X) (at : ℕ) (x : X) → at < length xs → x ≡ get_or xs at x → drop at xs ≡ x ∷ drop (at + 1) xs

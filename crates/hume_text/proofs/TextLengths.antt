@@ -155,7 +155,7 @@ module _ (nt : ℕ → Value → Bool) (ns : ℕ → Value → List Piece) (nz :
       → (nat_le 1 (length (map keeps_limits (map of_part ps))) && list_all (λ part. part) (map keeps_limits (map of_part ps))) ≡ true
       → (l : Value-F Value) → is_tuple_of (map (is_value_with nt) (map of_part ps)) l ≡ true
       → long (Open ∷ (with_commas (each_spelled (map (spelling_with ns) (map of_part ps)) (parts_in l)) ++ Close ∷ [])) + 259
-        ≤ 512 * sum (map (size_with nz) (map of_part ps)) + 4 * (1 + greatest (map depth_of (map of_part ps)))
+      ≤ 512 * sum (map (size_with nz) (map of_part ps)) + 4 * (1 + greatest (map depth_of (map of_part ps)))
   tuple_short ps d k (Value-F.Tuple vs) p =
       let ks = and_parts _ _ k in
       let some : 1 ≤ length (map of_part ps) = subst (λ n. 1 ≤ n) (length-map (map of_part ps) keeps_limits) (leb-true _ _ ks.0) in
@@ -174,7 +174,7 @@ module _ (nt : ℕ → Value → Bool) (ns : ℕ → Value → List Piece) (nz :
       let some : 1 ≤ length vs = omega (arith, count, leb-true 1 n ks.0) in
       let items : length (several [] (map (spelling_with ns ty) vs)) + 259 ≤ 512 * (n * size_with nz ty) + 4 * depth_of ty =
       subst (λ m. length (several [] (map (spelling_with ns ty) vs)) + 259 ≤ 512 * (m * size_with nz ty) + 4 * depth_of ty) count
-        (vector_long (is_value_with nt ty) (spelling_with ns ty) (size_with nz ty) (depth_of ty) shallow (λ v. short (omega arith) ks.1 v) vs some ps.1) in
+      (vector_long (is_value_with nt ty) (spelling_with ns ty) (size_with nz ty) (depth_of ty) shallow (λ v. short (omega arith) ks.1 v) vs some ps.1) in
       omega (arith, enclosed_long OpenVector CloseVector (map (spelling_with ns ty) vs), items)
   vector_short n ty short d k (Value-F.Word a) p = cc
   vector_short n ty short d k (Value-F.Tuple vs) p = cc

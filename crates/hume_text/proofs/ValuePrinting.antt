@@ -65,8 +65,8 @@ several_written (part ∷ parts) =
 pub enclosed : (opening closing : Piece) (parts : List (List Piece)) → piece_bytes opening ++ (several [] parts ++ piece_bytes closing) ≡ written (opening ∷ (with_commas parts ++ closing ∷ []))
 enclosed opening closing parts =
     ap (λ bytes. piece_bytes opening ++ bytes) (ap (λ bytes. bytes ++ piece_bytes closing) (several_written parts)
-      ∙ ap (λ bytes. written (with_commas parts) ++ bytes) (append_nothing (piece_bytes closing))
-      ∙ sym (written-append (with_commas parts) (closing ∷ [])))
+    ∙ ap (λ bytes. written (with_commas parts) ++ bytes) (append_nothing (piece_bytes closing))
+    ∙ sym (written-append (with_commas parts) (closing ∷ [])))
 
 -- several parts, each by its own test
 data AllPrint : List (Value → Bool) → List (Value → List ℕ) → List (Value → List Piece) → List Printer → Type 0 where
@@ -102,7 +102,7 @@ items_print t f s printer prints before (suc n) (v ∷ vs) r long p =
 
 vector_prints : (n : ℕ) (t : Value → Bool) (f : Value → List ℕ) (s : Value → List Piece) (printer : Printer) → Prints t f s printer
     → LayerPrints (is_vector_of n t) (λ l. flat_map f (parts_in l)) (λ l. OpenVector ∷ (with_commas (map s (parts_in l)) ++ CloseVector ∷ []))
-      (λ words. print_in (codes "<<") (codes ">>") (replicate {A = Printer} n printer) words)
+    (λ words. print_in (codes "<<") (codes ">>") (replicate {A = Printer} n printer) words)
 vector_prints n t f s printer prints (Value-F.Vector vs) r p =
     let ps = and_parts _ _ p in
     ap (λ printed. then_print (codes "<<") (closed_by (codes ">>") printed)) (items_print t f s printer prints [] n vs r (eqb-true _ _ ps.0) ps.1) ∙ ap (λ bytes. (bytes, r)) (enclosed OpenVector CloseVector (map s vs))
@@ -144,9 +144,9 @@ module _ (types : Types) (t : Ty → Value → Bool) (f : Ty → Value → List 
       ap (λ b. print_field b (printer ty) (f ty v ++ rest)) (compound ty v rest ps.0) ∙ field_printed (has_fields (out-Value v)) (printer ty) (f ty v ++ rest) (s ty v) rest (prints ty v rest ps.0) in
       let others : List Piece = flat_map (λ part. part) (each_spelled (map (λ ty. as_field (s ty)) tys) vs) in
       ap (λ words. print_fields types printer (ty ∷ tys) words) (append_assoc (f ty v) (joined (map f tys) vs) r)
-        ∙ ap (λ (printed : List ℕ × List ℕ). then_print printed.0 (print_fields types printer tys printed.1)) field
-        ∙ ap (then_print (written (as_field (s ty) v))) (fields_printed tys vs r ps.1)
-        ∙ ap (λ bytes. (bytes, r)) (sym (written-append (as_field (s ty) v) others))
+      ∙ ap (λ (printed : List ℕ × List ℕ). then_print printed.0 (print_fields types printer tys printed.1)) field
+      ∙ ap (then_print (written (as_field (s ty) v))) (fields_printed tys vs r ps.1)
+      ∙ ap (λ bytes. (bytes, r)) (sym (written-append (as_field (s ty) v) others))
 
   module _ (size : ℕ) (sum : SumDef) (whole : sum.words ≡ size) where
     abbrev words : ℕ → List Value → List ℕ
@@ -335,9 +335,9 @@ module _ (types : Types) (sizes : HaveTheirSizes types) (small : HaveWrittenSize
       let stands = named_stands types bound in
       by_layer (is_con_of test sum) (λ l. padded size (con_words words_of sum l)) (con_spelled spelled sum) (print_sum types printer (Some sum))
       (con_prints types test words_of spelled printer
-        (ty_prints types (is_named_value types bound) (named_words types bound) (named_spelling types bound) (print_named types bound) named stands)
-        (ty_compound types (is_named_value types bound) (named_words types bound) (named_spelling types bound) (print_named types bound) named stands)
-        size sum whole)
+      (ty_prints types (is_named_value types bound) (named_words types bound) (named_spelling types bound) (print_named types bound) named stands)
+      (ty_compound types (is_named_value types bound) (named_words types bound) (named_spelling types bound) (print_named types bound) named stands)
+      size sum whole)
 
   named_prints : (bound : ℕ) → bound ≤ length types.sums → (k : ℕ) → Prints (is_named_value types bound k) (named_words types bound k) (named_spelling types bound k) (print_named types bound k)
   unfolding is_named_value named_words named_spelling print_named

@@ -1,5 +1,5 @@
 //! Laws of the definitions, as contracts of functions that do nothing.
-ghost use Rattle.std.specs.Prelude.{◌≡◌, ◌≤◌, ◌*◌, true, length};
+ghost use Rattle.std.specs.Prelude.{◌≡◌, ◌≤◌, ◌*◌, ℕ, List, true, length};
 ghost use Rattle.hume_base.specs.declared.types.Ty.{Ty};
 ghost use Rattle.hume_base.specs.declared.types.Types.{Types};
 ghost use Rattle.hume_base.specs.declared.types.Value.{Value};
@@ -20,4 +20,10 @@ pub fn texts_are_bounded()
 pub fn printed_texts_are_texts()
     ensures { (types : Types) (ty : Ty) (value : Value) → IsPrintable types ty → HaveNames types → is_value types ty value ≡ true
         → IsTextOf types ty (texts types ty value) value }
+{}
+
+/// A line is a text of at most one value of a type.
+pub fn one_value_a_line()
+    ensures { (types : Types) (ty : Ty) (line : List ℕ) (v w : Value) → HaveNames types → is_value types ty v ≡ true → is_value types ty w ≡ true
+        → IsTextOf types ty line v → IsTextOf types ty line w → v ≡ w }
 {}
