@@ -1,4 +1,4 @@
-//! The text of a value: printed in one spelling, and told apart from every other text.
+//! The text of a value: the one spelling in which it is printed, and the lines that are texts of it.
 //!
 //! `print_value` appends the text of the value with the given words to a `Chunk`, a buffer that takes no more memory once it is
 //! made. How a value is spelled is said by `specs/Spelling.antt`, its printed text by `specs/Printed.antt`, and which lines are
