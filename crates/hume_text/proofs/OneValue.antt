@@ -173,7 +173,7 @@ inside : (closing : Piece) (parts : List (List Piece)) (r : List Piece) → toke
     → tokens (with_commas parts ++ closing ∷ []) ++ r ≡ first_seps parts ++ (closing ∷ r)
 inside closing parts r token =
     ap (λ ts. ts ++ r) (tokens-append (with_commas parts) (closing ∷ []) ∙ ap (λ ts. tokens (with_commas parts) ++ ts) token
-        ∙ ap (λ ts. ts ++ closing ∷ []) (commas_tokens parts))
+    ∙ ap (λ ts. ts ++ closing ∷ []) (commas_tokens parts))
     ∙ append_assoc (first_seps parts) (closing ∷ []) r
 
 tuple_told : {ts : List (Value → Bool)} {fs : List (Value → List Piece)} → AllTold ts fs
@@ -181,7 +181,7 @@ tuple_told : {ts : List (Value → Bool)} {fs : List (Value → List Piece)} →
 tuple_told {fs = fs} all (Value-F.Tuple vs) (Value-F.Tuple ws) r s p q e =
     let behind_open = (heads Open Open (tokens (with_commas (each_spelled fs vs) ++ Close ∷ []) ++ r) (tokens (with_commas (each_spelled fs ws) ++ Close ∷ []) ++ s) e).1 in
     let h = parts_told all vs ws (Close ∷ r) (Close ∷ s) p q (sym (inside Close (each_spelled fs vs) r refl) ∙ behind_open
-        ∙ inside Close (each_spelled fs ws) s refl) in
+    ∙ inside Close (each_spelled fs ws) s refl) in
     (ap Value-F.Tuple h.0, (heads Close Close r s h.1).1)
 tuple_told all (Value-F.Tuple vs) (Value-F.Word b) r s p q e = cc
 tuple_told all (Value-F.Tuple vs) (Value-F.Vector ws) r s p q e = cc
@@ -250,14 +250,14 @@ field_told : (t : Value → Bool) (f : Value → List Piece) → Told t f → Le
 field_told t f told led v w r s p q e =
     go (has_fields (out-Value v)) (has_fields (out-Value w)) refl refl
     (ap (λ ts. ts ++ r) (sym (field_tokens (has_fields (out-Value v)) (f v))) ∙ e
-        ∙ ap (λ ts. ts ++ s) (field_tokens (has_fields (out-Value w)) (f w)))
+    ∙ ap (λ ts. ts ++ s) (field_tokens (has_fields (out-Value w)) (f w)))
   where
     go : (b c : Bool) → has_fields (out-Value v) ≡ b → has_fields (out-Value w) ≡ c
         → (if b then Open ∷ (tokens (f v) ++ Close ∷ []) else tokens (f v)) ++ r ≡ (if c then Open ∷ (tokens (f w) ++ Close ∷ []) else tokens (f w)) ++ s → (v ≡ w) × (r ≡ s)
     go true true hv hw e' =
         let behind_open = (heads Open Open ((tokens (f v) ++ Close ∷ []) ++ r) ((tokens (f w) ++ Close ∷ []) ++ s) e').1 in
         let h = told v w (Close ∷ r) (Close ∷ s) p q (sym (append_assoc (tokens (f v)) (Close ∷ []) r) ∙ behind_open
-            ∙ append_assoc (tokens (f w)) (Close ∷ []) s) in
+        ∙ append_assoc (tokens (f w)) (Close ∷ []) s) in
         (h.0, (heads Close Close r s h.1).1)
     go false false hv hw e' = told v w r s p q e'
     go true false hv hw e' =

@@ -58,7 +58,7 @@ pub closed-text : (r₀ r₁ r₂ : ℕ) (old opening first inside last closing 
 closed-text r₀ r₁ r₂ old opening first inside last closing all s₁ s₂ e₁ e₂ e =
     let same : take r₀ (last ++ []) ≡ take r₀ (take r₀ (old ++ opening) ++ inside) = rw (s₂, s₁, e₁) at e₂ in
     let cut : take r₀ last ≡ take r₀ ((old ++ opening) ++ inside) = ap (take r₀) (sym (append-nil last)) ∙ same
-        ∙ take-more r₀ (old ++ opening) inside in
+    ∙ take-more r₀ (old ++ opening) inside in
     rw (e, s₂, s₁) (sym (take-more r₀ last closing)
     ∙ ap (λ bytes. take r₀ (bytes ++ closing)) cut
     ∙ take-more r₀ ((old ++ opening) ++ inside) closing

@@ -27,7 +27,7 @@ unfolding rank
 rank-falls types bound number sum found below =
     let small : sum_size sum ≤ most sum_size types.sums = member-most sum_size types.sums number sum found in
     let steps : suc number * (2 + most sum_size types.sums) ≤ bound * (2 + most sum_size types.sums) =
-        mul-le-mul_right (2 + most sum_size types.sums) (omega arith) in
+    mul-le-mul_right (2 + most sum_size types.sums) (omega arith) in
     omega arith
 
 pub some_size : (ty : Ty) → 0 < size-Ty ty

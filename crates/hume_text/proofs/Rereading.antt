@@ -201,9 +201,12 @@ cuts_written (Comma ∷ ps) h = (written ps, refl, cuts_written ps h.2)
 cuts_written (Name name ∷ ps) h = (written ps, name_next name (written ps) h.0 (stops_written ps h.1).0, cuts_written ps h.2)
 cuts_written (Number (pos n) ∷ ps) h = (written ps, number_next n (written ps) h.0 (stops_written ps h.1).1, cuts_written ps h.2)
 cuts_written (Number (negsuc n) ∷ ps) h = (written ps, minus_next n (written ps) h.0 (stops_written ps h.1).1, cuts_written ps h.2)
-cuts_written (Letter byte ∷ ps) h =
-    (written ps, ap (λ bytes. letter_at bytes) (append_assoc (letter_bytes byte) (39 ∷ []) (written ps))
-        ∙ letter_next byte (written ps) h.0, cuts_written ps h.2)
+cuts_written (Letter byte ∷ ps) h = (
+  written ps,
+  ap (λ bytes. letter_at bytes) (append_assoc (letter_bytes byte) (39 ∷ []) (written ps))
+      ∙ letter_next byte (written ps) h.0,
+  cuts_written ps h.2,
+)
 
 -- pieces that may stand before any that stop a name
 abbrev Goes : List Piece → Type 0
@@ -324,8 +327,12 @@ module _ (nt : ℕ → Value → Bool) (ns : ℕ → Value → List Piece) (name
   step_goes (Ty-F.Named m) = λ k v p. named m v p
 
   layer_goes : (y : Ty-F Part) → TyGoes (roll-Ty (map-Ty Part Ty of_part y))
-  layer_goes y = rw (fold-roll-Ty (Value → Bool) (value_step nt), fold-roll-Ty (Value
-      → List Piece) (spelling_step ns), fold-roll-Ty Bool limits_step) (step_goes y)
+  layer_goes y = rw (
+    fold-roll-Ty (Value → Bool) (value_step nt),
+    fold-roll-Ty (Value
+        → List Piece) (spelling_step ns),
+    fold-roll-Ty Bool limits_step,
+  ) (step_goes y)
 
   ty_goes : (ty : Ty) → TyGoes ty
   ty_goes = ind-Ty TyGoes (λ x y is. subst (λ z. TyGoes (roll-Ty z)) is (layer_goes y))

@@ -48,7 +48,7 @@ module _ (test : Ty → Value → Bool) (spelled : Ty → Value → List Piece) 
       let ks = and_parts _ _ k in
       let own : long (spelled ty v) + 259 ≤ 512 * size ty + 4 * depth_of ty = short.0 (omega arith) ks.0 v ps.0 in
       let more : length (several (codes ", ") (each_spelled (map spelled tys) vs)) ≤ 512 * sum (map size tys) =
-          later_tuple tys short.1 vs (omega arith) ks.1 ps.1 in
+      later_tuple tys short.1 vs (omega arith) ks.1 ps.1 in
       omega (arith, sum_more (size ty) (map size tys), length-append (written (spelled ty v)) (several (codes ", ") (each_spelled (map spelled tys) vs)))
 
   tuple_long : (tys : List Ty) → AllByRecursion Short tys → (vs : List Value) → 1 ≤ length tys → 1 + greatest (map depth_of tys) ≤ 64
@@ -61,7 +61,7 @@ module _ (test : Ty → Value → Bool) (spelled : Ty → Value → List Piece) 
       let ks = and_parts _ _ k in
       let own : long (spelled ty v) + 259 ≤ 512 * size ty + 4 * depth_of ty = short.0 (omega arith) ks.0 v ps.0 in
       let more : length (several (codes ", ") (each_spelled (map spelled tys) vs)) ≤ 512 * sum (map size tys) =
-          later_tuple tys short.1 vs (omega arith) ks.1 ps.1 in
+      later_tuple tys short.1 vs (omega arith) ks.1 ps.1 in
       omega (arith, sum_more (size ty) (map size tys), length-append (written (spelled ty v)) (several (codes ", ") (each_spelled (map spelled tys) vs)))
 
   field_long : (b : Bool) (pieces : List Piece) → long (if b then Space ∷ (Open ∷ (pieces ++ Close ∷ [])) else Space ∷ pieces) ≤ long pieces + 3
@@ -206,8 +206,14 @@ module _ (nt : ℕ → Value → Bool) (ns : ℕ → Value → List Piece) (nz :
   step_short (Ty-F.Named m) = λ d k v p. named m v p
 
   layer_short : (y : Ty-F Part) → TyShort (roll-Ty (map-Ty Part Ty of_part y))
-  layer_short y = rw (fold-roll-Ty (Value → Bool) (value_step nt), fold-roll-Ty (Value
-      → List Piece) (spelling_step ns), fold-roll-Ty ℕ (size_step nz), fold-roll-Ty ℕ depth_step, fold-roll-Ty Bool limits_step) (step_short y)
+  layer_short y = rw (
+    fold-roll-Ty (Value → Bool) (value_step nt),
+    fold-roll-Ty (Value
+        → List Piece) (spelling_step ns),
+    fold-roll-Ty ℕ (size_step nz),
+    fold-roll-Ty ℕ depth_step,
+    fold-roll-Ty Bool limits_step,
+  ) (step_short y)
 
   ty_short : (ty : Ty) → TyShort ty
   ty_short = ind-Ty TyShort (λ x y is. subst (λ z. TyShort (roll-Ty z)) is (layer_short y))
@@ -235,7 +241,7 @@ module _ (nt : ℕ → Value → Bool) (ns : ℕ → Value → List Piece) (nz :
       let name : length (name_at sum c) ≤ 32 = at.0 in
       let others : List Piece = flat_map (λ part. part) (each_spelled (map (λ ty. as_field (spelling_with ns ty)) (fields_at sum c)) vs) in
       let fields : long others ≤ 512 * sizes_with nz (fields_at sum c) =
-          fields_long (is_value_with nt) (spelling_with ns) (size_with nz) (ty_short nt ns nz named) (fields_at sum c) vs at.1 ps.1 in
+      fields_long (is_value_with nt) (spelling_with ns) (size_with nz) (ty_short nt ns nz named) (fields_at sum c) vs at.1 ps.1 in
       let largest : sizes_with nz (fields_at sum c) ≤ greatest (map (λ (con : ConDef). sizes_with nz con.fields) sum.cons) = sizes_at nz sum.cons c in
       let whole : long (Name (name_at sum c) ∷ others) ≡ length (name_at sum c) + long others = length-append (name_at sum c) (written others) in
       omega (arith, whole, fields, largest, name)

@@ -57,7 +57,7 @@ later_written : (parts : List (List Piece)) → several (codes ", ") parts ≡ w
 later_written [] = refl
 later_written (part ∷ parts) =
     ap (λ bytes. 44 ∷ (32 ∷ bytes)) (ap (λ bytes. written part ++ bytes) (later_written parts)
-        ∙ sym (written-append part (flat_map (λ later. Comma ∷ (Space ∷ later)) parts)))
+    ∙ sym (written-append part (flat_map (λ later. Comma ∷ (Space ∷ later)) parts)))
 
 pub several_written : (parts : List (List Piece)) → several [] parts ≡ written (with_commas parts)
 several_written [] = refl
@@ -95,7 +95,7 @@ tuple_prints : {ts : List (Value → Bool)} {fs : List (Value → List ℕ)} {ss
     → LayerPrints (is_tuple_of ts) (λ l. joined fs (parts_in l)) (λ l. Open ∷ (with_commas (each_spelled ss (parts_in l)) ++ Close ∷ [])) (λ words. print_in (codes "(") (codes ")") printers words)
 tuple_prints {ss = ss} all (Value-F.Tuple vs) r p =
     ap (λ printed. then_print (codes "(") (closed_by (codes ")") printed)) (parts_print all [] vs r p)
-        ∙ ap (λ bytes. (bytes, r)) (enclosed Open Close (each_spelled ss vs))
+    ∙ ap (λ bytes. (bytes, r)) (enclosed Open Close (each_spelled ss vs))
 tuple_prints all (Value-F.Word a) r p = cc
 tuple_prints all (Value-F.Vector vs) r p = cc
 tuple_prints all (Value-F.Con c vs) r p = cc
@@ -116,7 +116,7 @@ vector_prints : (n : ℕ) (t : Value → Bool) (f : Value → List ℕ) (s : Val
 vector_prints n t f s printer prints (Value-F.Vector vs) r p =
     let ps = and_parts _ _ p in
     ap (λ printed. then_print (codes "<<") (closed_by (codes ">>") printed)) (items_print t f s printer prints [] n vs r (eqb-true _ _ ps.0) ps.1)
-        ∙ ap (λ bytes. (bytes, r)) (enclosed OpenVector CloseVector (map s vs))
+    ∙ ap (λ bytes. (bytes, r)) (enclosed OpenVector CloseVector (map s vs))
 vector_prints n t f s printer prints (Value-F.Word a) r p = cc
 vector_prints n t f s printer prints (Value-F.Tuple vs) r p = cc
 vector_prints n t f s printer prints (Value-F.Con c vs) r p = cc
@@ -126,7 +126,7 @@ field_printed : (b : Bool) (printer : Printer) (words : List ℕ) (pieces : List
     → print_field b printer words ≡ (written (if b then Space ∷ (Open ∷ (pieces ++ Close ∷ [])) else Space ∷ pieces), rest)
 field_printed true printer words pieces rest e =
     ap (λ printed. then_print (codes " (") (closed_by (codes ")") printed)) e
-        ∙ ap (λ bytes. (32 ∷ (40 ∷ bytes), rest)) (sym (written-append pieces (Close ∷ [])))
+    ∙ ap (λ bytes. (32 ∷ (40 ∷ bytes), rest)) (sym (written-append pieces (Close ∷ [])))
 field_printed false printer words pieces rest e = ap (λ printed. then_print (codes " ") printed) e
 
 all_print : (t : Ty → Value → Bool) (f : Ty → Value → List ℕ) (s : Ty → Value → List Piece) (printer : Ty → Printer)
@@ -155,7 +155,7 @@ module _ (types : Types) (t : Ty → Value → Bool) (f : Ty → Value → List 
       let rest : List ℕ = joined (map f tys) vs ++ r in
       let field : print_field (is_compound types (out-Ty ty) (f ty v ++ rest)) (printer ty) (f ty v ++ rest) ≡ (written (as_field (s ty) v), rest) =
       ap (λ b. print_field b (printer ty) (f ty v ++ rest)) (compound ty v rest ps.0)
-          ∙ field_printed (has_fields (out-Value v)) (printer ty) (f ty v ++ rest) (s ty v) rest (prints ty v rest ps.0) in
+      ∙ field_printed (has_fields (out-Value v)) (printer ty) (f ty v ++ rest) (s ty v) rest (prints ty v rest ps.0) in
       let others : List Piece = flat_map (λ part. part) (each_spelled (map (λ ty. as_field (s ty)) tys) vs) in
       ap (λ words. print_fields types printer (ty ∷ tys) words) (append_assoc (f ty v) (joined (map f tys) vs) r)
       ∙ ap (λ (printed : List ℕ × List ℕ). then_print printed.0 (print_fields types printer tys printed.1)) field
@@ -247,8 +247,13 @@ module _ (types : Types) (nt : ℕ → Value → Bool) (nf : ℕ → Value → L
   step_prints (Ty-F.Named k) = named k
 
   layer_prints : (y : Ty-F Part) → TyPrints (roll-Ty (map-Ty Part Ty of_part y))
-  layer_prints y = rw (fold-roll-Ty (Value → Bool) (value_step nt), fold-roll-Ty (Value → List ℕ) (flat_step nf), fold-roll-Ty (Value
-      → List Piece) (spelling_step ns), fold-roll-Ty Printer (print_step np)) (step_prints y)
+  layer_prints y = rw (
+    fold-roll-Ty (Value → Bool) (value_step nt),
+    fold-roll-Ty (Value → List ℕ) (flat_step nf),
+    fold-roll-Ty (Value
+        → List Piece) (spelling_step ns),
+    fold-roll-Ty Printer (print_step np),
+  ) (step_prints y)
 
   ty_prints : (ty : Ty) → TyPrints ty
   ty_prints = ind-Ty TyPrints (λ x y is. subst (λ z. TyPrints (roll-Ty z)) is (layer_prints y))
@@ -344,9 +349,9 @@ module _ (types : Types) (sizes : HaveTheirSizes types) (small : HaveWrittenSize
   sum_prints bound within named None found = λ v r p. cc
   sum_prints bound within named (Some sum) found =
       let own : named_size types (length types.sums) bound ≡ size_of_sum (named_size types bound) (Some sum) =
-          size-at types (length types.sums) bound within ∙ ap (size_of_sum (named_size types bound)) found in
+      size-at types (length types.sums) bound within ∙ ap (size_of_sum (named_size types bound)) found in
       let least : written_size (named_size types (length types.sums) bound) ≡ named_size types (length types.sums) bound =
-          omega (arith, small bound sum found) in
+      omega (arith, small bound sum found) in
       let size = size_of_sum (named_size types bound) (Some sum) in
       let whole : sum.words ≡ size = sizes bound sum found ∙ least ∙ own in
       let test : Ty → Value → Bool = is_value_with (is_named_value types bound) in
@@ -377,4 +382,4 @@ module _ (types : Types) (sizes : HaveTheirSizes types) (small : HaveWrittenSize
       let printed : print_with (print_named types all) ty (flat types ty v ++ []) ≡ (texts types ty v, []) =
       ty_prints types (is_named_value types all) (named_words types all) (named_spelling types all) (print_named types all) (named_prints all (omega arith)) (named_stands types all) ty v [] p in
       ap (λ words. (print_with (print_named types all) ty words).0) (append_nothing (flat types ty v))
-          ∙ ap (λ (printed : List ℕ × List ℕ). printed.0) printed
+      ∙ ap (λ (printed : List ℕ × List ℕ). printed.0) printed

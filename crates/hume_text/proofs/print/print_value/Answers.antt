@@ -17,6 +17,6 @@ returns-clause-text c value is =
     ∙ ap (λ words. (print_with (print_named types (length types.sums)) ty words).0) (sym is.same)
     ∙ value_printed types c.requires.sizes c.requires.printable.sizes ty value is.typed in
     let short : length (texts types ty value) ≤ 512 * size_of types ty =
-        text_short types c.requires.printable.others ty c.requires.printable.own value is.typed in
+    text_short types c.requires.printable.others ty c.requires.printable.own value is.typed in
     c.print_front.ensures.text ∙ ap (λ text. take c.args.chunk.now.room (old ++ text)) own
     ∙ take_all c.args.chunk.now.room (old ++ texts types ty value) (omega (arith, length-append old (texts types ty value), short, c.requires.spare))
