@@ -2,3 +2,5 @@ mod InPlace
 mod TypesOnce
 mod SignaturesOnce
 mod CoresOnce
+mod Stands
+mod CoreTyped

@@ -1,11 +1,17 @@
-//! What stands for a program is one thing.
-ghost use Rattle.std.specs.Prelude.{◌≡◌, ℕ, List};
+//! What stands for a program is one thing, and a program that breaks no rule stands for a well-formed core.
+ghost use Rattle.std.specs.Prelude.{◌≡◌, ℕ, List, Some, slice_get};
 ghost use Rattle.hume_ast.specs.declared.tree.Program.{Program};
+ghost use Rattle.hume_model.specs.declared.core_tree.BoxC.{BoxC};
+ghost use Rattle.hume_model.specs.declared.core_tree.NodeC.TheVariants.{Rules};
 ghost use Rattle.hume_model.specs.declared.core_tree.Core.{Core};
+ghost use Rattle.hume_model.specs.OwnExceptions.{HasOwnExceptions};
+ghost use Rattle.hume_model.specs.Typing.{FunctionsAreTyped};
+ghost use Rattle.hume_model.specs.BoxTyping.{BoxIsTyped};
 ghost use Rattle.hume_typing.specs.declared.signatures.Signatures.{Signatures};
 ghost use Rattle.hume_check.specs.Declared.{Decls};
 ghost use Rattle.hume_check.specs.SignaturesOf.{AreSignatures};
 ghost use Rattle.hume_check.specs.CoreOf.{IsCoreOf};
+ghost use Rattle.hume_check.specs.CheckRules.{IsFine};
 
 /// A program has one list of data types, exceptions and functions at most.
 pub fn signatures_are_unique()
@@ -15,4 +21,16 @@ pub fn signatures_are_unique()
 /// A source stands for one core at most.
 pub fn cores_are_unique()
     ensures { (text : List ℕ) (program : Program) (a b : Core) → IsCoreOf text program a → IsCoreOf text program b → a ≡ b }
+{}
+
+/// The exceptions that every program has stand first in its core.
+pub fn cores_have_their_exceptions()
+    ensures { (text : List ℕ) (program : Program) (core : Core) → IsFine program.decls → IsCoreOf text program core → HasOwnExceptions core }
+{}
+
+/// Functions and boxes of the core of a program that breaks no rule have their types.
+pub fn functions_and_boxes_are_typed()
+    ensures functions { (text : List ℕ) (program : Program) (core : Core) → IsFine program.decls → IsCoreOf text program core → FunctionsAreTyped core }
+    ensures boxes { (text : List ℕ) (program : Program) (core : Core) → IsFine program.decls → IsCoreOf text program core
+        → (n : ℕ) (b : BoxC) → slice_get core.nodes n ≡ Some (Rules b) → BoxIsTyped core b }
 {}

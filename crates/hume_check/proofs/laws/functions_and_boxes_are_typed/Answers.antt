@@ -1,0 +1,8 @@
+use Rattle.hume_check.proofs.CoreTyped.{functions_typed, boxes_typed}
+use Rattle.hume_check.proofs.laws.functions_and_boxes_are_typed.Goals as goal
+
+pub returns-clause-functions : goal.returns-clause-functions
+returns-clause-functions c text program core fine p = functions_typed text program core fine p
+
+pub returns-clause-boxes : goal.returns-clause-boxes
+returns-clause-boxes c text program core fine p = boxes_typed text program core fine p
