@@ -4,3 +4,5 @@ mod SignaturesOnce
 mod CoresOnce
 mod Stands
 mod CoreTyped
+mod OrderedPlaces
+mod Mentioned
