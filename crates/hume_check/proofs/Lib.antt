@@ -6,3 +6,4 @@ mod Stands
 mod CoreTyped
 mod OrderedPlaces
 mod Mentioned
+mod TypesOrdered

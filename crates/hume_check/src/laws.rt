@@ -1,5 +1,7 @@
 //! What stands for a program is one thing, and a program that breaks no rule stands for a well-formed core.
 ghost use Rattle.std.specs.Prelude.{◌≡◌, ℕ, List, Some, slice_get};
+ghost use Rattle.hume_base.specs.Holding.{HoldSmaller};
+ghost use Rattle.hume_base.specs.Sizes.{HaveTheirSizes};
 ghost use Rattle.hume_ast.specs.declared.tree.Program.{Program};
 ghost use Rattle.hume_model.specs.declared.core_tree.BoxC.{BoxC};
 ghost use Rattle.hume_model.specs.declared.core_tree.NodeC.TheVariants.{Rules};
@@ -21,6 +23,12 @@ pub fn signatures_are_unique()
 /// A source stands for one core at most.
 pub fn cores_are_unique()
     ensures { (text : List ℕ) (program : Program) (a b : Core) → IsCoreOf text program a → IsCoreOf text program b → a ≡ b }
+{}
+
+/// Data types of a core hold data types of smaller numbers only, and have their sizes written beside them.
+pub fn cores_hold_smaller()
+    ensures holds { (text : List ℕ) (program : Program) (core : Core) → IsFine program.decls → IsCoreOf text program core → HoldSmaller core.types }
+    ensures sizes { (text : List ℕ) (program : Program) (core : Core) → IsFine program.decls → IsCoreOf text program core → HaveTheirSizes core.types }
 {}
 
 /// The exceptions that every program has stand first in its core.
