@@ -7,3 +7,4 @@ mod CoreTyped
 mod OrderedPlaces
 mod Mentioned
 mod TypesOrdered
+mod BoxFrames

@@ -8,7 +8,7 @@ ghost use Rattle.hume_model.specs.declared.core_tree.NodeC.TheVariants.{Rules};
 ghost use Rattle.hume_model.specs.declared.core_tree.Core.{Core};
 ghost use Rattle.hume_model.specs.OwnExceptions.{HasOwnExceptions};
 ghost use Rattle.hume_model.specs.Typing.{FunctionsAreTyped};
-ghost use Rattle.hume_model.specs.BoxTyping.{BoxIsTyped};
+ghost use Rattle.hume_model.specs.BoxTyping.{BoxHasFrame, BoxIsTyped};
 ghost use Rattle.hume_typing.specs.declared.signatures.Signatures.{Signatures};
 ghost use Rattle.hume_check.specs.Declared.{Decls};
 ghost use Rattle.hume_check.specs.SignaturesOf.{AreSignatures};
@@ -41,4 +41,6 @@ pub fn functions_and_boxes_are_typed()
     ensures functions { (text : List ℕ) (program : Program) (core : Core) → IsFine program.decls → IsCoreOf text program core → FunctionsAreTyped core }
     ensures boxes { (text : List ℕ) (program : Program) (core : Core) → IsFine program.decls → IsCoreOf text program core
         → (n : ℕ) (b : BoxC) → slice_get core.nodes n ≡ Some (Rules b) → BoxIsTyped core b }
+    ensures frames { (text : List ℕ) (program : Program) (core : Core) → IsFine program.decls → IsCoreOf text program core
+        → (n : ℕ) (b : BoxC) → slice_get core.nodes n ≡ Some (Rules b) → BoxHasFrame core b }
 {}
