@@ -8,3 +8,4 @@ mod OrderedPlaces
 mod Mentioned
 mod TypesOrdered
 mod BoxFrames
+mod FormsCall
