@@ -1,16 +1,15 @@
 -- A box of a core has one handler at most for an exception.
-use Rattle.std.proofs.Common.{◌≡◌, ℕ, zero, suc, ◌<◌, ◌≤◌, inl, inr, List, [], ◌∷◌, ◌++◌, map, Option, Some, None, slice_get, refl, ap, sym, subst, ◌∙◌, arith, Bool, ◌||◌, true, false, bytes_eq}
+use Rattle.std.proofs.Common.{◌≡◌, ℕ, zero, suc, ◌<◌, inl, inr, List, [], ◌∷◌, ◌++◌, map, Some, slice_get, refl, ap, sym, subst, ◌∙◌, arith, Bool, ◌||◌, true, false, bytes_eq}
 use Rattle.std.proofs.lemmas.Bool.{cases_lt}
 use Rattle.std.proofs.lemmas.Option.{slice_get-map}
 use Rattle.std.proofs.lemmas.Slice.Eq.{bytes_eq-Decides}
 use Rattle.std.specs.Option.{option_map}
 use Rattle.hume_base.specs.declared.rule.Rule.TheVariants.{C30}
 use Rattle.hume_ast.specs.declared.tree.Decl.{Decl}
-use Rattle.hume_ast.specs.declared.tree.Decl.TheVariants.{BoxD}
 use Rattle.hume_ast.specs.declared.tree.Program.{Program}
-use Rattle.hume_names.specs.Names.{among, repeats, OfDecl}
+use Rattle.hume_names.specs.Names.{among, repeats}
 use Rattle.hume_names.specs.DeclaredNames.{handled_of, ports_of}
-use Rattle.hume_names.specs.Repeated.{repeats_own, RepeatsName}
+use Rattle.hume_names.specs.Repeated.{repeats_own}
 use Rattle.hume_names.specs.Misnamed.{BreaksNames}
 use Rattle.hume_model.specs.declared.core_tree.ExnDef.{ExnDef}
 use Rattle.hume_model.specs.declared.core_tree.HandC.{HandC}
@@ -18,11 +17,10 @@ use Rattle.hume_model.specs.declared.core_tree.BoxC.{BoxC}
 use Rattle.hume_model.specs.declared.core_tree.NodeC.TheVariants.{Rules}
 use Rattle.hume_model.specs.declared.core_tree.Core.{Core}
 use Rattle.hume_model.specs.BoxTyping.{BoxHasFrame}
-use Rattle.hume_typing.specs.Declarations.{InPlaces, CoredHandler, WrittenHandler, IsHandler, cores_alone}
+use Rattle.hume_typing.specs.Declarations.{CoredHandler, WrittenHandler, IsHandler, cores_alone}
 use Rattle.hume_typing.specs.declared.signatures.Signatures.{Signatures}
 use Rattle.hume_typing.proofs.Maybe.{some-same}
 use Rattle.hume_typing.proofs.NamesFound.{first_stands}
-use Rattle.hume_check.specs.Declared.{Decls}
 use Rattle.hume_check.specs.CheckRules.{IsFine, BreaksCheck}
 use Rattle.hume_check.specs.CoreOf.{IsCoreOf}
 use Rattle.hume_check.proofs.Stands.{from_right}

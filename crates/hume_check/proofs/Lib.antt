@@ -9,3 +9,4 @@ mod Mentioned
 mod TypesOrdered
 mod BoxFrames
 mod FormsCall
+mod FunctionsOrdered

@@ -1,5 +1,5 @@
 -- A declaration leads to those that declare the names that it mentions.
-use Rattle.std.proofs.Common.{◌≡◌, ℕ, zero, suc, ◌+◌, ◌<◌, List, [], ◌∷◌, ◌++◌, map, length, get_or, Contains, Option, Some, None, slice_get, refl, ap, sym, subst, ◌∙◌, arith, Bool, true, false, if◌then◌else◌, bytes_eq}
+use Rattle.std.proofs.Common.{◌≡◌, ℕ, zero, suc, ◌+◌, ◌<◌, List, [], ◌∷◌, ◌++◌, map, length, get_or, Contains, Some, slice_get, refl, ap, sym, subst, ◌∙◌, arith, Bool, true, false, if◌then◌else◌, bytes_eq}
 use Rattle.std.specs.List.{flat_map}
 use Rattle.std.proofs.lemmas.List.{length-map}
 use Rattle.std.proofs.lemmas.List.Elements.{Contains-append_left, Contains-append_right}

@@ -1,26 +1,26 @@
 -- Data types hold data types of smaller numbers only.
-use Rattle.std.proofs.Common.{◌≡◌, ℕ, ◌<◌, ◌≤◌, nat_lt, List, [], ◌∷◌, ◌++◌, map, length, take, get_or, Contains, Option, Some, None, slice_get, refl, ap, sym, subst, ◌∙◌, arith, Bool, true}
+use Rattle.std.proofs.Common.{◌≡◌, ℕ, ◌<◌, ◌≤◌, List, [], ◌∷◌, ◌++◌, map, length, take, get_or, Contains, Option, Some, slice_get, refl, ap, sym, subst, ◌∙◌, arith, Bool, true}
 use Rattle.std.specs.List.{list_all, filter_map}
 use Rattle.std.proofs.lemmas.List.Elements.{Contains-append_left, Contains-append_right}
 use Rattle.std.proofs.lemmas.Bool.Decides.{Decides-ltb}
 use Rattle.std.proofs.lemmas.Option.{slice_get_within}
-use Rattle.hume_base.specs.declared.types.Ty.{Ty, roll-Ty, fold-roll-Ty, Bool as BoolTy, Char as CharTy, Int, Nat, Vector, Named, Tuple}
+use Rattle.hume_base.specs.declared.types.Ty.{Ty, roll-Ty, fold-roll-Ty, Int, Nat, Vector, Named, Tuple}
 use Rattle.hume_base.specs.declared.types.Ty.TheOpen.{Ty-F}
 use Rattle.hume_base.specs.declared.types.Ty.TheVariants.{rolls-Bool, rolls-Char, rolls-Int, rolls-Nat, rolls-Vector, rolls-Named, rolls-Tuple}
 use Rattle.hume_base.specs.declared.types.Types.{Types}
 use Rattle.hume_base.specs.declared.types.SumDef.{SumDef}
 use Rattle.hume_base.specs.declared.types.ConDef.{ConDef}
 use Rattle.hume_base.specs.Holding.{holds_step, holds_below, con_holds, HoldSmaller}
-use Rattle.hume_ast.specs.declared.tree.TyExp.{TyExp, roll-TyExp, map-TyExp, fold-TyExp, fold-roll-TyExp, ind-TyExp}
+use Rattle.hume_ast.specs.declared.tree.TyExp.{TyExp, roll-TyExp, map-TyExp, fold-roll-TyExp, ind-TyExp}
 use Rattle.hume_ast.specs.declared.tree.TyExp.TheOpen.{TyExp-F}
 use Rattle.hume_ast.specs.declared.tree.Decl.{Decl}
-use Rattle.hume_ast.specs.declared.tree.Decl.TheVariants.{Sum, Exn, Fun, BoxD, Stream, Wire}
+use Rattle.hume_ast.specs.declared.tree.Decl.TheVariants.{Sum}
 use Rattle.hume_names.specs.declared.mention_list.NameKind.TheVariants.{DataType}
 use Rattle.hume_names.specs.Names.{joined}
 use Rattle.hume_names.specs.Mentions.{Mention, type_step, type_mentions, types_mentions, mentions_of}
-use Rattle.hume_names.specs.Leading.{names_of_kind, graph_of}
-use Rattle.hume_typing.specs.Partial.{given, when}
-use Rattle.hume_typing.specs.Signatures.{first_named, sum_named}
+use Rattle.hume_names.specs.Leading.{names_of_kind}
+use Rattle.hume_typing.specs.Partial.{given}
+use Rattle.hume_typing.specs.Signatures.{sum_named}
 use Rattle.hume_typing.specs.WrittenTypes.{is_width, is_length, all_there, written_step, written, all_written}
 use Rattle.hume_typing.specs.Declarations.{InPlaces}
 use Rattle.hume_typing.proofs.Maybe.{some-same, given-inv, given-at, when-inv}

@@ -7,6 +7,7 @@ ghost use Rattle.hume_model.specs.declared.core_tree.BoxC.{BoxC};
 ghost use Rattle.hume_model.specs.declared.core_tree.NodeC.TheVariants.{Rules};
 ghost use Rattle.hume_model.specs.declared.core_tree.Core.{Core};
 ghost use Rattle.hume_model.specs.OwnExceptions.{HasOwnExceptions};
+ghost use Rattle.hume_model.specs.Calls.{CallsGoDown};
 ghost use Rattle.hume_model.specs.Typing.{FunctionsAreTyped};
 ghost use Rattle.hume_model.specs.BoxTyping.{BoxHasFrame, BoxIsTyped};
 ghost use Rattle.hume_typing.specs.declared.signatures.Signatures.{Signatures};
@@ -43,4 +44,9 @@ pub fn functions_and_boxes_are_typed()
         → (n : ℕ) (b : BoxC) → slice_get core.nodes n ≡ Some (Rules b) → BoxIsTyped core b }
     ensures frames { (text : List ℕ) (program : Program) (core : Core) → IsFine program.decls → IsCoreOf text program core
         → (n : ℕ) (b : BoxC) → slice_get core.nodes n ≡ Some (Rules b) → BoxHasFrame core b }
+{}
+
+/// Functions of a core call functions of smaller numbers only.
+pub fn calls_go_down()
+    ensures { (text : List ℕ) (program : Program) (core : Core) → IsFine program.decls → IsCoreOf text program core → CallsGoDown core }
 {}
