@@ -39,7 +39,7 @@ narrow decls s fine are n d there wide =
     fine (record { rule = C41; declaration = n })
     (BreaksCheck.types (BreaksTypes.out_of_range (refl, record { signatures = s; are = are; decl = d; there = there; wide = wide })))
 
-not_so : (b : Bool) → (true ≡ b → ⊥) → b ≡ false
+pub not_so : (b : Bool) → (true ≡ b → ⊥) → b ≡ false
 not_so true h = absurd (h refl)
 not_so false h = refl
 

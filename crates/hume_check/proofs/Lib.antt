@@ -10,3 +10,4 @@ mod TypesOrdered
 mod BoxFrames
 mod FormsCall
 mod FunctionsOrdered
+mod WiresJoin
