@@ -11,3 +11,4 @@ mod BoxFrames
 mod FormsCall
 mod FunctionsOrdered
 mod WiresJoin
+mod TypesWritten
