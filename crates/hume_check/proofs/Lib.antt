@@ -12,3 +12,4 @@ mod FormsCall
 mod FunctionsOrdered
 mod WiresJoin
 mod TypesWritten
+mod PortsWritten

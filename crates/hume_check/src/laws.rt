@@ -3,12 +3,14 @@ ghost use Rattle.std.specs.Prelude.{◌≡◌, ℕ, List, Some, slice_get};
 ghost use Rattle.hume_base.specs.Holding.{HoldSmaller};
 ghost use Rattle.hume_base.specs.Sizes.{HaveTheirSizes};
 ghost use Rattle.hume_ast.specs.declared.tree.Program.{Program};
+ghost use Rattle.hume_ast.specs.Fits.{IsFit};
 ghost use Rattle.hume_model.specs.declared.core_tree.BoxC.{BoxC};
 ghost use Rattle.hume_model.specs.declared.core_tree.NodeC.TheVariants.{Rules};
 ghost use Rattle.hume_model.specs.declared.core_tree.WireC.{WireC};
 ghost use Rattle.hume_model.specs.declared.core_tree.Core.{Core};
 ghost use Rattle.hume_model.specs.OwnExceptions.{HasOwnExceptions};
 ghost use Rattle.hume_model.specs.Calls.{CallsGoDown};
+ghost use Rattle.hume_model.specs.TypeLimits.{IsWrittenType};
 ghost use Rattle.hume_model.specs.Typing.{FunctionsAreTyped};
 ghost use Rattle.hume_model.specs.BoxTyping.{BoxHasFrame, BoxIsTyped};
 ghost use Rattle.hume_typing.specs.declared.signatures.Signatures.{Signatures};
@@ -57,4 +59,10 @@ pub fn calls_go_down()
 pub fn wires_join_nodes()
     ensures { (text : List ℕ) (program : Program) (core : Core) → IsFine program.decls → IsCoreOf text program core
         → (n : ℕ) (wire : WireC) → slice_get core.wires n ≡ Some wire → JoinsNodes core wire }
+{}
+
+/// Where no type is deeper than the grammar lets it be, wires have types that a source may write.
+pub fn wires_have_written_types()
+    ensures { (text : List ℕ) (program : Program) (core : Core) → IsFine program.decls → IsFit program → IsCoreOf text program core
+        → (n : ℕ) (wire : WireC) → slice_get core.wires n ≡ Some wire → IsWrittenType core.types wire.ty }
 {}
