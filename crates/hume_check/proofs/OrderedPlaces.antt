@@ -1,5 +1,5 @@
 -- What declarations in an order declare, and which of it comes first.
-use Rattle.std.proofs.Common.{◌≡◌, ℕ, zero, suc, ◌+◌, ◌<◌, ◌≤◌, List, [], ◌∷◌, ◌++◌, length, take, drop, get_or, Contains, Option, Some, None, slice_get, refl, ap, sym, ◌∙◌, arith, Bool, true, false, if◌then◌else◌, bytes_eq}
+use Rattle.std.proofs.Common.{◌≡◌, ℕ, zero, suc, ◌+◌, ◌<◌, ◌≤◌, List, [], ◌∷◌, ◌++◌, length, take, drop, get_or, Contains, Option, Some, None, slice_get, refl, ap, sym, subst, ◌∙◌, arith, Bool, true, false, if◌then◌else◌, bytes_eq}
 use Rattle.std.specs.List.{filter_map, cons_option}
 use Rattle.std.proofs.lemmas.List.{take-append-drop}
 use Rattle.std.proofs.lemmas.List.Elements.{filter_map-append}
@@ -81,11 +81,11 @@ module _ {A : Type 0} (name_of : A → List ℕ) (name : List ℕ) where
       by : (b : Bool) → bytes_eq (name_of w) name ≡ b → (o : Option (ℕ × A)) → (i : ℕ) → slice_get (w ∷ ws) i ≡ Some z
           → ((k : ℕ) → slice_get ws k ≡ Some z → (j : ℕ) (s : A) → o ≡ Some (j, s) → j ≤ k)
           → (if b then Some (0, w) else one_further o) ≡ Some (j, s) → j ≤ i
-      by true q o i e rest h = let e : (0, w) ≡ (j, s) = some-same _ _ h in let first : 0 ≡ j = ap (λ (r : ℕ × A). r.0) e in omega arith
+      by true q o i e rest h = let e : (0, w) ≡ (j, s) = some-same _ _ h in subst (λ k. k ≤ i) (ap (λ (r : ℕ × A). r.0) e) (omega arith)
       by false q None i e rest h = cc
       by false q (Some found) zero e rest h =
           let is : name_of w ≡ name = ap name_of (some-same _ _ e) ∙ same in let yes = (bytes_eq-Decides (name_of w) name).1 is in cc
       by false q (Some found) (suc k) e rest h =
           let both : (found.0 + 1, found.1) ≡ (j, s) = some-same _ _ h in
-          let first : found.0 + 1 ≡ j = ap (λ (r : ℕ × A). r.0) both in
-          let le = rest k e found.0 found.1 refl in omega arith
+          let le : found.0 ≤ k = rest k e found.0 found.1 refl in
+          subst (λ n. n ≤ suc k) (ap (λ (r : ℕ × A). r.0) both) (omega arith)
