@@ -13,3 +13,4 @@ mod FunctionsOrdered
 mod WiresJoin
 mod TypesWritten
 mod PortsWritten
+mod CountsWithin

@@ -1,5 +1,6 @@
 //! What stands for a program is one thing, and a program that breaks no rule stands for a well-formed core.
-ghost use Rattle.std.specs.Prelude.{◌≡◌, ℕ, List, Some, slice_get};
+ghost use Rattle.std.specs.Prelude.{◌≡◌, ◌≤◌, ℕ, List, length, Some, slice_get};
+ghost use Rattle.hume_base.specs.declared.limits.TheConstants.{MAX_NODES, MAX_WIRES, MAX_EXCEPTIONS};
 ghost use Rattle.hume_base.specs.Holding.{HoldSmaller};
 ghost use Rattle.hume_base.specs.Sizes.{HaveTheirSizes};
 ghost use Rattle.hume_ast.specs.declared.tree.Program.{Program};
@@ -65,4 +66,12 @@ pub fn wires_join_nodes()
 pub fn wires_have_written_types()
     ensures { (text : List ℕ) (program : Program) (core : Core) → IsFine program.decls → IsFit program → IsCoreOf text program core
         → (n : ℕ) (wire : WireC) → slice_get core.wires n ≡ Some wire → IsWrittenType core.types wire.ty }
+{}
+
+/// A core has no more nodes, wires and exceptions than are allowed.
+pub fn cores_have_few_parts()
+    ensures nodes { (text : List ℕ) (program : Program) (core : Core) → IsFine program.decls → IsCoreOf text program core → length core.nodes ≤ MAX_NODES }
+    ensures wires { (text : List ℕ) (program : Program) (core : Core) → IsFine program.decls → IsCoreOf text program core → length core.wires ≤ MAX_WIRES }
+    ensures exceptions { (text : List ℕ) (program : Program) (core : Core) → IsFine program.decls → IsCoreOf text program core
+        → length core.exns ≤ MAX_EXCEPTIONS }
 {}
