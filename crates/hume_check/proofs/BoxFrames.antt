@@ -103,15 +103,15 @@ module _ (text : List ℕ) (program : Program) (core : Core) (fine : IsFine prog
             let v = from_right (IsHandler p.signatures have.outs) box.handlers box.is.handler_cores have.handlers_have first x.0 x.1 in
             let w = from_right (IsHandler p.signatures have.outs) box.handlers box.is.handler_cores have.handlers_have second y.0 y.1 in
             let exns : v.2.number ≡ w.2.number = ap (λ (c : CoredHandler). c.0.exn) (sym v.2.is) ∙ ap (λ (h : HandC). h.exn) x.2 ∙ same
-                ∙ sym (ap (λ (h : HandC). h.exn) y.2) ∙ ap (λ (c : CoredHandler). c.0.exn) w.2.is in
+            ∙ sym (ap (λ (h : HandC). h.exn) y.2) ∙ ap (λ (c : CoredHandler). c.0.exn) w.2.is in
             let names : w.0.0 ≡ v.0.0 =
-                sym (first_has_name of_name w.0.0 p.signatures.exns w.2.number w.2.exn w.2.known)
-                ∙ sym (name_once p.signatures v.2.number w.2.number v.2.exn w.2.exn
-                (first_stands of_name v.0.0 p.signatures.exns v.2.number v.2.exn v.2.known) (first_stands of_name w.0.0 p.signatures.exns w.2.number w.2.exn w.2.known) exns)
-                ∙ first_has_name of_name v.0.0 p.signatures.exns v.2.number v.2.exn v.2.known in
+            sym (first_has_name of_name w.0.0 p.signatures.exns w.2.number w.2.exn w.2.known)
+            ∙ sym (name_once p.signatures v.2.number w.2.number v.2.exn w.2.exn
+            (first_stands of_name v.0.0 p.signatures.exns v.2.number v.2.exn v.2.known) (first_stands of_name w.0.0 p.signatures.exns w.2.number w.2.exn w.2.known) exns)
+            ∙ first_has_name of_name v.0.0 p.signatures.exns v.2.number v.2.exn v.2.known in
             once (map (λ (handler : WrittenHandler). handler.0) box.handlers)
-                (λ again. not_again c.0.number (c.0.place, c.0.decl) c.1 (subst (λ decl. repeats [] (handled_of decl) ≡ true) (sym box.decl) again))
-                first second v.0.0
-                (slice_get-map (λ (handler : WrittenHandler). handler.0) box.handlers first ∙ ap (option_map (λ (handler : WrittenHandler). handler.0)) v.1)
-                (slice_get-map (λ (handler : WrittenHandler). handler.0) box.handlers second ∙ ap (option_map (λ (handler : WrittenHandler). handler.0)) w.1 ∙ ap Some names);
+            (λ again. not_again c.0.number (c.0.place, c.0.decl) c.1 (subst (λ decl. repeats [] (handled_of decl) ≡ true) (sym box.decl) again))
+            first second v.0.0
+            (slice_get-map (λ (handler : WrittenHandler). handler.0) box.handlers first ∙ ap (option_map (λ (handler : WrittenHandler). handler.0)) v.1)
+            (slice_get-map (λ (handler : WrittenHandler). handler.0) box.handlers second ∙ ap (option_map (λ (handler : WrittenHandler). handler.0)) w.1 ∙ ap Some names);
       }

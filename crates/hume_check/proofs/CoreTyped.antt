@@ -66,8 +66,16 @@ same_box a b e = cc
 
 as_box : (text : List ℕ) (s : Signatures) (d : Numbered) (decl : Decl) (b : BoxC) → d.decl ≡ decl → IsNodeOf text s d decl (Rules b) → DeclaresBox text s d b
 as_box text s d (BoxD name ins outs fair rules handlers) b e h =
-    record { name = name; ins = ins; outs = outs; is_fair = fair; rules = rules; handlers = handlers; decl = e;
-      is = subst (IsBoxOf text s d name ins outs fair rules handlers) (sym (same_box _ _ h.1)) h.2 }
+    record {
+      name = name;
+      ins = ins;
+      outs = outs;
+      is_fair = fair;
+      rules = rules;
+      handlers = handlers;
+      decl = e;
+      is = subst (IsBoxOf text s d name ins outs fair rules handlers) (sym (same_box _ _ h.1)) h.2;
+    }
 as_box text s d (Stream name true port) b e h = cc
 as_box text s d (Stream name false port) b e h = cc
 as_box text s d _ b e h = absurd h
@@ -95,9 +103,9 @@ module _ (text : List ℕ) (program : Program) (core : Core) (fine : IsFine prog
       let d = declared function_of p.are.funs.order program.decls number c.0 c.1 in
       let is = function_is d.1 c.0 d.3 in
       let off : some_so c.2.cores ≡ false = not_so _ (λ wide. narrow program.decls p.signatures fine p.are d.0 d.1 d.2
-          (subst (HasWideLiteral p.signatures) (sym is) (c.2.cores, c.2.typed, wide))) in
+      (subst (HasWideLiteral p.signatures) (sym is) (c.2.cores, c.2.typed, wide))) in
       function_typed p.signatures core has_signatures c.0.name c.0.types c.0.equations c.2.cores _ function c.2.typed off c.2.signature
-          (record { params = refl; gives = refl }) c.2.equations
+      (record { params = refl; gives = refl }) c.2.equations
 
   -- a box of the core is declared
   pub box_declared : (n : ℕ) (b : BoxC) → slice_get core.nodes n ≡ Some (Rules b)
@@ -111,7 +119,7 @@ module _ (text : List ℕ) (program : Program) (core : Core) (fine : IsFine prog
       let c = box_declared n b there in
       let box = c.2 in
       let off : (some_so box.is.rule_cores || some_so box.is.handler_cores) ≡ false = not_so _ (λ wide. narrow program.decls p.signatures fine p.are c.0.number (c.0.place, c.0.decl) c.1
-          (subst (HasWideLiteral p.signatures) (sym box.decl) (box.is.rule_cores, box.is.handler_cores, box.is.typed, wide))) in
+      (subst (HasWideLiteral p.signatures) (sym box.decl) (box.is.rule_cores, box.is.handler_cores, box.is.typed, wide))) in
       let flags = or_parts (some_so box.is.rule_cores) (some_so box.is.handler_cores) off in
       box_typed p.signatures core has_signatures box.ins box.outs box.rules box.handlers box.is.rule_cores box.is.handler_cores b box.is.typed flags.0 flags.1
-          (ports_are p.signatures.types box.ins b.ins box.is.ins) (ports_are p.signatures.types box.outs b.outs box.is.outs) box.is.rules_are box.is.handlers_are
+      (ports_are p.signatures.types box.ins b.ins box.is.ins) (ports_are p.signatures.types box.outs b.outs box.is.outs) box.is.rules_are box.is.handlers_are

@@ -103,9 +103,9 @@ wire_once text s nodes w a b p q =
     let ty : a.ty ≡ b.ty = p.ty ∙ (λ i. type_of_ends (output_type (from_node i) (from_port i)) (input_type (to_node i) (to_port i))) ∙ sym q.ty in
     let depth = p.depth ∙ sym q.depth in
     let theirs = subst (λ (n : NodeC). InitialBetween (is_stream n && is_stream p.to.node) s b.ty w.initial b.initial) (sym from_node)
-        (subst (λ (n : NodeC). InitialBetween (is_stream q.from.node && is_stream n) s b.ty w.initial b.initial) (sym to_node) q.initial) in
+    (subst (λ (n : NodeC). InitialBetween (is_stream q.from.node && is_stream n) s b.ty w.initial b.initial) (sym to_node) q.initial) in
     let initial = between_once _ s a.ty w.initial a.initial b.initial p.initial
-        (subst (λ t. InitialBetween (is_stream p.from.node && is_stream p.to.node) s t w.initial b.initial) (sym ty) theirs) in
+    (subst (λ t. InitialBetween (is_stream p.from.node && is_stream p.to.node) s t w.initial b.initial) (sym ty) theirs) in
     λ i. record {
       line = line i;
       declaration = declaration i;

@@ -1,19 +1,19 @@
 -- A core has no more nodes, wires and exceptions than are allowed.
-use Rattle.std.proofs.Common.{◌≡◌, ℕ, zero, suc, ◌+◌, ◌<◌, ◌≤◌, nat_le, inl, inr, List, [], ◌∷◌, ◌++◌, length, take, Option, Some, None, slice_get, refl, ap, sym, subst, ◌∙◌, arith, Bool, ◌||◌, true, false, cond}
+use Rattle.std.proofs.Common.{◌≡◌, ℕ, zero, suc, ◌+◌, ◌<◌, ◌≤◌, inl, inr, List, [], ◌∷◌, ◌++◌, length, take, Option, Some, None, slice_get, refl, ap, sym, subst, ◌∙◌, arith, Bool, ◌||◌, true, false, cond}
 use Rattle.std.specs.List.{filter_map, cons_option}
 use Rattle.std.proofs.lemmas.Bool.{cases_lt, le-leb}
 use Rattle.std.proofs.lemmas.List.Sums.{sum_by-cons}
 use Rattle.hume_base.specs.declared.limits.TheConstants.{MAX_NODES, MAX_WIRES, MAX_EXCEPTIONS, MAX_DECLARED_EXCEPTIONS}
 use Rattle.hume_base.specs.declared.rule.Rule.TheVariants.{C72}
 use Rattle.hume_ast.specs.declared.tree.Decl.{Decl}
-use Rattle.hume_ast.specs.declared.tree.Decl.TheVariants.{Sum, Exn, Fun, BoxD, Stream, Wire}
+use Rattle.hume_ast.specs.declared.tree.Decl.TheVariants.{Exn, BoxD, Stream, Wire}
 use Rattle.hume_ast.specs.declared.tree.Program.{Program}
-use Rattle.hume_counts.specs.Limits.{is_node, is_wire, is_exception, how_many, tally_of, is_full_for, has_many_parts, PassesLimits}
+use Rattle.hume_counts.specs.Limits.{is_node, is_wire, is_exception, how_many, tally_of, is_full_for, has_many_parts}
 use Rattle.hume_model.specs.declared.core_tree.ExnDef.{ExnDef}
 use Rattle.hume_model.specs.declared.core_tree.Core.{Core}
 use Rattle.hume_model.specs.OwnExceptions.{own_exceptions}
 use Rattle.hume_typing.specs.Declarations.{InPlaces}
-use Rattle.hume_check.specs.Declared.{Decls, ExceptionDecl, WireDecl, exception_of, Numbered, numbered_from, if_node, nodes_in, wire_of, wires_in}
+use Rattle.hume_check.specs.Declared.{Decls, ExceptionDecl, WireDecl, exception_of, Numbered, numbered_from, if_node, wire_of}
 use Rattle.hume_check.specs.CheckRules.{IsFine, BreaksCheck, BreaksLimits}
 use Rattle.hume_check.specs.SignaturesOf.{IsException}
 use Rattle.hume_check.specs.CoreOf.{IsNodeOf, IsWireOf, IsCoreOf}
@@ -73,11 +73,14 @@ within : (decls : Decls) → IsFine decls → (test : Decl → Bool) (most : ℕ
 within decls fine test most full = elim (cases_lt most (how_many test decls)) [
   | inl lt ↦ absurd (
       let r = one_too_many test most decls lt in
-      fine (record { rule = C72; declaration = r.number }) (BreaksCheck.limits (BreaksLimits.passes_limits (refl, record {
-        decl = r.decl;
-        there = r.there;
-        is = or_first _ (has_many_parts r.decl.1) (full (take r.number decls) r.decl.1 r.is r.full);
-      }))))
+      fine (record { rule = C72; declaration = r.number }) (BreaksCheck.limits (BreaksLimits.passes_limits (
+        refl,
+        record {
+          decl = r.decl;
+          there = r.there;
+          is = or_first _ (has_many_parts r.decl.1) (full (take r.number decls) r.decl.1 r.is r.full);
+        },
+      ))))
   | inr le ↦ le
 ]
 
@@ -162,6 +165,6 @@ exceptions_within text program core fine p =
     let a = same_long (IsException p.signatures.types) _ _ are.each in
     let b = exceptions_long program.decls in
     let few : length are.declared ≤ MAX_DECLARED_EXCEPTIONS =
-        subst (λ n. n ≤ MAX_DECLARED_EXCEPTIONS) (sym b ∙ a) (within program.decls fine is_exception MAX_DECLARED_EXCEPTIONS full_exception) in
+    subst (λ n. n ≤ MAX_DECLARED_EXCEPTIONS) (sym b ∙ a) (within program.decls fine is_exception MAX_DECLARED_EXCEPTIONS full_exception) in
     let three : length (own_exceptions ++ are.declared) ≤ MAX_EXCEPTIONS = omega arith in
     subst (λ (exns : List ExnDef). length exns ≤ MAX_EXCEPTIONS) (sym (p.exns ∙ are.all)) three

@@ -60,9 +60,10 @@ module _ (s : Signatures) (bound : ℕ) where
 
   all_known : (es : List Known) (names : List (List ℕ)) → Below (all_in (map mentions (map alone es)) names) → AllGo s bound (map (typing s) (map alone es))
   all_known [] names h = tt
-  all_known (e ∷ es) names h =
-      (e.1 names (below_left (mentions e.0 names) (all_in (map mentions (map alone es)) names) h),
-      all_known es names (below_right (mentions e.0 names) (all_in (map mentions (map alone es)) names) h))
+  all_known (e ∷ es) names h = (
+    e.1 names (below_left (mentions e.0 names) (all_in (map mentions (map alone es)) names) h),
+    all_known es names (below_right (mentions e.0 names) (all_in (map mentions (map alone es)) names) h),
+  )
 
   abbrev expressions : List (Pat × Known) → List (Pat × Exp)
   expressions arms = map (λ arm. (arm.0, arm.1.0)) arms
@@ -74,9 +75,10 @@ module _ (s : Signatures) (bound : ℕ) where
       → AllArmsGo s bound (map (arm_with Exp (typing s)) (expressions arms))
   arms_known [] names h = tt
   arms_known (arm ∷ arms) names h =
-      let first = below_left (pattern_mentions arm.0 ++ mentions arm.1.0 (names ++ variables_of arm.0)) (alternatives_in (by_scopes (expressions arms)) names) h in
-      (arm.1.1 (names ++ variables_of arm.0) (below_right (pattern_mentions arm.0) (mentions arm.1.0 (names ++ variables_of arm.0)) first),
-      arms_known arms names (below_right (pattern_mentions arm.0 ++ mentions arm.1.0 (names ++ variables_of arm.0)) (alternatives_in (by_scopes (expressions arms)) names) h))
+      let first = below_left (pattern_mentions arm.0 ++ mentions arm.1.0 (names ++ variables_of arm.0)) (alternatives_in (by_scopes (expressions arms)) names) h in (
+        arm.1.1 (names ++ variables_of arm.0) (below_right (pattern_mentions arm.0) (mentions arm.1.0 (names ++ variables_of arm.0)) first),
+        arms_known arms names (below_right (pattern_mentions arm.0 ++ mentions arm.1.0 (names ++ variables_of arm.0)) (alternatives_in (by_scopes (expressions arms)) names) h),
+      )
 
   level : (y : Exp-F Known) (names : List (List ℕ)) → Below (exp_step (map-Exp Exp ByScope mentions (parts y)) names)
       → Goes s bound (typing_step s Exp (λ e. e) (typing s) (parts y))
@@ -85,7 +87,7 @@ module _ (s : Signatures) (bound : ℕ) where
   level (Exp-F.If a b d) names h =
       let rest = below_right (mentions a.0 names) (mentions b.0 names ++ mentions d.0 names) h in
       goes_if s bound _ _ (b.1 names (below_left (mentions b.0 names) (mentions d.0 names) rest)) (d.1 names (below_right (mentions b.0 names) (mentions d.0 names) rest))
-          _ (a.1 names (below_left (mentions a.0 names) (mentions b.0 names ++ mentions d.0 names) h))
+      _ (a.1 names (below_left (mentions a.0 names) (mentions b.0 names ++ mentions d.0 names) h))
   level (Exp-F.Case a arms) names h =
       let ms = alternatives_in (by_scopes (expressions arms)) names in
       goes_case s bound _ (a.1 names (below_left (mentions a.0 names) ms h)) _ (arms_known arms names (below_right (mentions a.0 names) ms h))
@@ -102,7 +104,7 @@ module _ (s : Signatures) (bound : ℕ) where
   level (Exp-F.Update a b d) names h =
       let rest = below_right (mentions a.0 names) (mentions b.0 names ++ mentions d.0 names) h in
       goes_update s bound _ _ _ (a.1 names (below_left (mentions a.0 names) (mentions b.0 names ++ mentions d.0 names) h))
-          (b.1 names (below_left (mentions b.0 names) (mentions d.0 names) rest)) (d.1 names (below_right (mentions b.0 names) (mentions d.0 names) rest))
+      (b.1 names (below_left (mentions b.0 names) (mentions d.0 names) rest)) (d.1 names (below_right (mentions b.0 names) (mentions d.0 names) rest))
   level (Exp-F.Num negative n) names h = goes_literal s bound negative n
   level (Exp-F.Letter b) names h = goes_letter s bound b
   level (Exp-F.Truth b) names h = goes_truth s bound b
@@ -162,9 +164,9 @@ module _ (decls : Decls) (s : Signatures) (p : AreFunctions decls s.types s.funs
       let at = declared function_of p.order decls j other.0 other.1 in
       let named : other.0.name ≡ name = sym (signature_name s.types other.0.name other.0.types f other.2) ∙ first_has_name name_of name s.funs j f found in
       let mentioned : Contains (mentions_of own.0.1) (Function, name) =
-          subst (λ decl. Contains (mentions_of decl) (Function, name)) (sym (function_is own.0 d own.2)) mention in
+      subst (λ decl. Contains (mentions_of decl) (Function, name)) (sym (function_is own.0 d own.2)) mention in
       let names : Contains (names_of_kind Function at.1.1) name =
-          subst (λ decl. Contains (names_of_kind Function decl) name) (sym (function_is at.1 other.0 at.3)) (0, omega arith, named) in
+      subst (λ decl. Contains (names_of_kind Function decl) name) (sym (function_is at.1 other.0 at.3)) (0, omega arith, named) in
       let leads_there = leads Function refl decls a at.0 own.0 at.1 name own.1 at.2 mentioned names in
       let earlier : Contains (take place.place p.order) at.0 = (p.numbered.numbering place.place place.within).0.ready at.0 leads_there in
       let i = kept number_at (take place.place p.order) at.0 other.0 earlier (given-at (slice_get decls at.0) function_of at.1 at.2 ∙ at.3) in

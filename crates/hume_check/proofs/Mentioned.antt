@@ -62,10 +62,10 @@ leads kind same decls a m d e name at there mention names =
     let number : Contains (numbers_of name owners) m = subst (λ k. Contains (numbers_of name owners) k) (let e : 0 + m ≡ m = omega arith in e) (owned kind decls 0 m e name there names) in
     let step : Mention → List ℕ = λ mention. if same_kind mention.0 kind then numbers_of mention.1 owners else [] in
     let row : Contains (meant kind owners (mentions_of d.1)) m =
-        flat_at step (mentions_of d.1) mention.0 (kind, name) m mention.1 mention.2 (subst (λ (b : Bool). Contains (if b then numbers_of name owners else []) m) (sym same) number) in
+    flat_at step (mentions_of d.1) mention.0 (kind, name) m mention.1 mention.2 (subst (λ (b : Bool). Contains (if b then numbers_of name owners else []) m) (sym same) number) in
     let is : get_or (graph_of kind decls) a [] ≡ meant kind owners (mentions_of d.1) =
-        get_or_from_slice_get (graph_of kind decls) a (meant kind owners (mentions_of d.1)) []
-        (slice_get-map (λ (d : ℕ × Decl). meant kind owners (mentions_of d.1)) decls a ∙ ap (option_map (λ (d : ℕ × Decl). meant kind owners (mentions_of d.1))) at) in
+    get_or_from_slice_get (graph_of kind decls) a (meant kind owners (mentions_of d.1)) []
+    (slice_get-map (λ (d : ℕ × Decl). meant kind owners (mentions_of d.1)) decls a ∙ ap (option_map (λ (d : ℕ × Decl). meant kind owners (mentions_of d.1))) at) in
     record {
       within = subst (λ n. m < n) (sym (length-map decls (λ (d : ℕ × Decl). meant kind owners (mentions_of d.1)))) (slice_get_within decls m e there);
       listed = subst (λ row. Contains row m) (sym is) row;

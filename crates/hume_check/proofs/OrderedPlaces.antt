@@ -22,13 +22,21 @@ placed {A} g (x ∷ xs) n y e = by (g x) refl (λ m q. placed g xs m y q) n e
         → Placed g (x ∷ xs) n y
     by None q later n e =
         let r = later n e in
-        record { place = suc r.place; within = let w = r.within in omega arith; gives = r.gives;
-          before = r.before ∙ ap (λ o. length (cons_option o (filter_map g (take r.place xs)))) (sym q) }
+        record {
+          place = suc r.place;
+          within = let w = r.within in omega arith;
+          gives = r.gives;
+          before = r.before ∙ ap (λ o. length (cons_option o (filter_map g (take r.place xs)))) (sym q);
+        }
     by (Some w) q later zero e = record { place = 0; within = omega arith; gives = q ∙ e; before = refl }
     by (Some w) q later (suc n) e =
         let r = later n e in
-        record { place = suc r.place; within = let w = r.within in omega arith; gives = r.gives;
-          before = ap suc r.before ∙ ap (λ o. length (cons_option o (filter_map g (take r.place xs)))) (sym q) }
+        record {
+          place = suc r.place;
+          within = let w = r.within in omega arith;
+          gives = r.gives;
+          before = ap suc r.before ∙ ap (λ o. length (cons_option o (filter_map g (take r.place xs)))) (sym q);
+        }
 
 further : {A : Type 0} (o : Option A) (xs : List A) (y : A) → (i : ℕ) × (slice_get xs i ≡ Some y) → (i : ℕ) × (slice_get (cons_option o xs) i ≡ Some y)
 further None xs y r = r
@@ -57,7 +65,7 @@ front (x ∷ xs) ys (suc i) y e = front xs ys i y e
 pub kept_on : {A : Type 0} (g : ℕ → Option A) (order : List ℕ) (k i : ℕ) (y : A) → slice_get (filter_map g (take k order)) i ≡ Some y → slice_get (filter_map g order) i ≡ Some y
 kept_on g order k i y e =
     let all : filter_map g (take k order) ++ filter_map g (drop k order) ≡ filter_map g order =
-        sym (filter_map-append g (take k order) (drop k order)) ∙ ap (filter_map g) (take-append-drop k order) in
+    sym (filter_map-append g (take k order) (drop k order)) ∙ ap (filter_map g) (take-append-drop k order) in
     ap (λ zs. slice_get zs i) (sym all) ∙ front (filter_map g (take k order)) (filter_map g (drop k order)) i y e
 
 module _ {A : Type 0} (name_of : A → List ℕ) (name : List ℕ) where

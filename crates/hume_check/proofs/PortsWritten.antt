@@ -1,5 +1,5 @@
 -- Types of inputs, outputs and wires are ones that a source may write.
-use Rattle.std.proofs.Common.{◌≡◌, ℕ, zero, suc, ◌<◌, ◌≤◌, inl, inr, List, [], ◌∷◌, ◌++◌, map, length, Contains, Option, Some, None, slice_get, refl, ap, sym, subst, ◌∙◌, arith, Bool, ◌||◌, true, false}
+use Rattle.std.proofs.Common.{◌≡◌, ℕ, zero, suc, ◌≤◌, inl, inr, List, [], ◌∷◌, map, length, Contains, Option, Some, None, slice_get, refl, ap, sym, subst, ◌∙◌, arith, Bool, ◌||◌, false}
 use Rattle.std.specs.List.{list_any}
 use Rattle.std.specs.Option.{option_map}
 use Rattle.std.proofs.lemmas.Bool.{or_parts, cases_lt}
@@ -26,10 +26,9 @@ use Rattle.hume_model.specs.declared.core_tree.NodeC.{NodeC}
 use Rattle.hume_model.specs.declared.core_tree.NodeC.TheVariants.{Rules, From, To}
 use Rattle.hume_model.specs.declared.core_tree.WireC.{WireC}
 use Rattle.hume_model.specs.declared.core_tree.Core.{Core}
-use Rattle.hume_model.specs.TypeLimits.{type_step, is_type, depth_step, type_depth, IsWrittenType}
+use Rattle.hume_model.specs.TypeLimits.{type_step, depth_step, IsWrittenType}
 use Rattle.hume_model.specs.WireEnds.{output_type, input_type, type_of_ends}
 use Rattle.hume_typing.specs.WrittenTypes.{written}
-use Rattle.hume_typing.specs.declared.signatures.Signatures.{Signatures}
 use Rattle.hume_typing.proofs.Maybe.{some-same}
 use Rattle.hume_check.specs.CheckRules.{IsFine, BreaksCheck, BreaksCounts, BreaksLimits}
 use Rattle.hume_check.specs.SizeRules.{types_in, IsTypeOf}
@@ -70,8 +69,10 @@ module _ (text : List ℕ) (program : Program) (core : Core) (fine : IsFine prog
 
   small : (n : ℕ) (d : ℕ × Decl) → slice_get program.decls n ≡ Some d → (e : TyExp) → Contains (types_in d.1) e → (ty : Ty) → written types e ≡ Some ty → size_of types ty ≤ MAX_TYPE_WORDS
   small n d there e has ty is = elim (cases_lt MAX_TYPE_WORDS (size_of types ty)) [
-    | inl lt ↦ absurd (fine (record { rule = C73; declaration = n }) (BreaksCheck.limits (BreaksLimits.large_type (refl,
-        record { signatures = p.signatures; are = p.are; decl = d; there = there; ty = ty; of = IsTypeOf.one_written e has is; large = lt }))))
+    | inl lt ↦ absurd (fine (record { rule = C73; declaration = n }) (BreaksCheck.limits (BreaksLimits.large_type (
+      refl,
+      record { signatures = p.signatures; are = p.are; decl = d; there = there; ty = ty; of = IsTypeOf.one_written e has is; large = lt },
+    ))))
     | inr le ↦ le
   ]
 
@@ -103,12 +104,12 @@ module _ (text : List ℕ) (program : Program) (core : Core) (fine : IsFine prog
         ins = λ i port e.
             let w = from_right (IsPort types) box.ins b.ins box.is.ins i port e in
             type_written c.0.number (c.0.place, decl) at w.0.1 (Contains-append_left (map place_type box.ins) _ w.0.1 (type_there box.ins i w.0 w.1))
-                (each_at (TypedNameFits MAX_DEPTH) box.ins fits.0.1 i w.0 w.1) (any_at (λ (place : List ℕ × TyExp). type_miscounts place.1) box.ins flags.0 i w.0 w.1) port.ty w.2.ty;
+            (each_at (TypedNameFits MAX_DEPTH) box.ins fits.0.1 i w.0 w.1) (any_at (λ (place : List ℕ × TyExp). type_miscounts place.1) box.ins flags.0 i w.0 w.1) port.ty w.2.ty;
         outs = λ i port e.
             let w = from_right (IsPort types) box.outs b.outs box.is.outs i port e in
             type_written c.0.number (c.0.place, decl) at w.0.1
-                (Contains-append_right (map place_type box.ins) _ w.0.1 (Contains-append_left (map place_type box.outs) _ w.0.1 (type_there box.outs i w.0 w.1)))
-                (each_at (TypedNameFits MAX_DEPTH) box.outs fits.1.1 i w.0 w.1) (any_at (λ (place : List ℕ × TyExp). type_miscounts place.1) box.outs flags.1 i w.0 w.1) port.ty w.2.ty;
+            (Contains-append_right (map place_type box.ins) _ w.0.1 (Contains-append_left (map place_type box.outs) _ w.0.1 (type_there box.outs i w.0 w.1)))
+            (each_at (TypedNameFits MAX_DEPTH) box.outs fits.1.1 i w.0 w.1) (any_at (λ (place : List ℕ × TyExp). type_miscounts place.1) box.outs flags.1 i w.0 w.1) port.ty w.2.ty;
       }
 
   port_written : (ports : List PortC) → ((i : ℕ) (port : PortC) → slice_get ports i ≡ Some port → IsWrittenType types port.ty)

@@ -38,8 +38,8 @@ pub the_functions : (decls : Decls) (t : Types) (a b : List Signature) → AreFu
 the_functions decls t a b p q =
     let order : q.order ≡ p.order = same_order (graph_of Function decls) q.order p.order q.numbered p.numbered in
     in_place_once (λ (f : FunctionDecl) (s : Signature). signature_written t f.name f.types ≡ Some s) (λ f s r m n. let w = sym m ∙ n in cc)
-        (in_order function_of p.order decls) a b p.each
-        (subst (λ o. InPlaces (λ (f : FunctionDecl) (s : Signature). signature_written t f.name f.types ≡ Some s) (in_order function_of o decls) b) order q.each)
+    (in_order function_of p.order decls) a b p.each
+    (subst (λ o. InPlaces (λ (f : FunctionDecl) (s : Signature). signature_written t f.name f.types ≡ Some s) (in_order function_of o decls) b) order q.each)
 
 pub the_signatures : (decls : Decls) (s t : Signatures) → AreSignatures decls s → AreSignatures decls t → s ≡ t
 the_signatures decls s t p q =

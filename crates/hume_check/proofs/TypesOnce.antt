@@ -109,7 +109,7 @@ same_sizes t u e zero n = refl
 same_sizes t u e (suc bound) n =
     let below : named_size t bound ≡ named_size u bound = λ i k. same_sizes t u e bound k i in
     let here : size_of_sum (named_size t bound) (slice_get t.sums bound) ≡ size_of_sum (named_size u bound) (slice_get u.sums bound) =
-        ap (λ f. size_of_sum f (slice_get t.sums bound)) below ∙ same_sum_size (named_size u bound) _ _ (cons_at t.sums u.sums e bound) in
+    ap (λ f. size_of_sum f (slice_get t.sums bound)) below ∙ same_sum_size (named_size u bound) _ _ (cons_at t.sums u.sums e bound) in
     λ i. if n == bound then here i else below i n
 
 same_lengths : (xs ys : List SumDef) → map sum_name xs ≡ map sum_name ys → length xs ≡ length ys
@@ -128,7 +128,7 @@ same_sums (x ∷ xs) (y ∷ ys) sizes a b p q =
     let cons : x.cons ≡ y.cons = cc in
     let words : x.words ≡ y.words = p 0 x refl ∙ sym (q 0 y refl) in
     let others = same_sums xs ys (λ n. sizes (suc n)) (let r : map sum_name xs ≡ map sum_name ys = cc in r) (let r : map sum_cons xs ≡ map sum_cons ys = cc in r)
-        (λ n s at. p (suc n) s at) (λ n s at. q (suc n) s at) in
+    (λ n s at. p (suc n) s at) (λ n s at. q (suc n) s at) in
     λ i. record { name = name i; cons = cons i; words = words i } ∷ others i
 
 pub types_once : (ds : List DataDecl) (t u : Types) → InPlaces (IsDataType t) ds t.sums → InPlaces (IsDataType u) ds u.sums → HaveTheirSizes t → HaveTheirSizes u → t ≡ u
@@ -137,5 +137,5 @@ types_once ds t u p q a b =
     let cons = seen_once (IsDataType t) (IsDataType u) sum_cons (cons_once t u names) ds t.sums u.sums p q in
     let long = same_lengths t.sums u.sums names in
     let sums = same_sums t.sums u.sums (λ n. written_size (named_size t (length t.sums) n)) names cons a
-        (λ n s at. b n s at ∙ ap written_size (sym (same_sizes t u cons (length u.sums) n) ∙ ap (λ k. named_size t k n) (sym long))) in
+    (λ n s at. b n s at ∙ ap written_size (sym (same_sizes t u cons (length u.sums) n) ∙ ap (λ k. named_size t k n) (sym long))) in
     λ i. record { sums = sums i }

@@ -139,9 +139,9 @@ module _ (decls : Decls) (types : Types) (p : AreTypes decls types) where
       let at = declared data_of p.order decls j other.0 other.1 in
       let named : other.0.0 ≡ name = sym other.2.name ∙ first_has_name name_of name types.sums j s found in
       let mentions : Contains (mentions_of own.0.1) (DataType, name) =
-          subst (λ decl. Contains (mentions_of decl) (DataType, name)) (sym (data_here own.0.0 own.0.1 d own.2)) mention in
+      subst (λ decl. Contains (mentions_of decl) (DataType, name)) (sym (data_here own.0.0 own.0.1 d own.2)) mention in
       let names : Contains (names_of_kind DataType at.1.1) name =
-          subst (λ decl. Contains (names_of_kind DataType decl) name) (sym (data_here at.1.0 at.1.1 other.0 at.3)) (0, omega arith, named) in
+      subst (λ decl. Contains (names_of_kind DataType decl) name) (sym (data_here at.1.0 at.1.1 other.0 at.3)) (0, omega arith, named) in
       let leads_there = leads DataType refl decls a at.0 own.0 at.1 name own.1 at.2 mentions names in
       let earlier : Contains (take place.place p.order) at.0 = (p.numbered.numbering place.place place.within).0.ready at.0 leads_there in
       let i = kept (λ number. given (slice_get decls number) data_of) (take place.place p.order) at.0 other.0 earlier (given-at (slice_get decls at.0) data_of at.1 at.2 ∙ at.3) in

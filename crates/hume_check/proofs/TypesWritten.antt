@@ -1,24 +1,24 @@
 -- A type that is written is one that a source may write.
-use Rattle.std.proofs.Common.{◌≡◌, ℕ, zero, suc, ◌+◌, ◌<◌, ◌≤◌, nat_le, nat_lt, max, inl, inr, List, [], ◌∷◌, ◌++◌, map, length, Contains, Option, Some, None, slice_get, refl, ap, sym, subst, ◌∙◌, arith, Bool, ◌&&◌, ◌||◌, true, false}
+use Rattle.std.proofs.Common.{◌≡◌, ℕ, zero, suc, ◌≤◌, nat_le, nat_lt, inl, inr, List, [], ◌∷◌, map, length, Option, Some, refl, ap, sym, subst, ◌∙◌, arith, Bool, ◌&&◌, true, false}
 use Rattle.std.specs.List.{list_all}
 use Rattle.std.proofs.lemmas.Bool.{or_parts, cases_lt, le-leb}
 use Rattle.std.proofs.lemmas.Bool.Decides.{Decides-ltb}
 use Rattle.std.proofs.lemmas.List.{length-map}
 use Rattle.std.proofs.lemmas.Option.{slice_get_within}
-use Rattle.hume_base.specs.declared.limits.TheConstants.{MAX_WIDTH, MAX_LENGTH, MAX_PARTS}
-use Rattle.hume_base.specs.declared.types.Ty.{Ty, roll-Ty, map-Ty, fold-roll-Ty, Bool as BoolTy, Char as CharTy, Int, Nat, Vector, Named, Tuple}
+use Rattle.hume_base.specs.declared.limits.TheConstants.{MAX_PARTS}
+use Rattle.hume_base.specs.declared.types.Ty.{Ty, roll-Ty, map-Ty, fold-roll-Ty, Int, Nat, Vector, Named, Tuple}
 use Rattle.hume_base.specs.declared.types.Ty.TheOpen.{Ty-F}
 use Rattle.hume_base.specs.declared.types.Ty.TheVariants.{rolls-Bool, rolls-Char, rolls-Int, rolls-Nat, rolls-Vector, rolls-Named, rolls-Tuple}
 use Rattle.hume_base.specs.declared.types.Types.{Types}
 use Rattle.hume_base.specs.declared.types.SumDef.{SumDef}
 use Rattle.hume_base.specs.Sizes.{greatest}
-use Rattle.hume_ast.specs.declared.tree.TyExp.{TyExp, out-TyExp, roll-TyExp, out-roll-TyExp, map-TyExp, fold-roll-TyExp, ind-TyExp}
+use Rattle.hume_ast.specs.declared.tree.TyExp.{TyExp, roll-TyExp, out-roll-TyExp, map-TyExp, fold-roll-TyExp, ind-TyExp}
 use Rattle.hume_ast.specs.declared.tree.TyExp.TheOpen.{TyExp-F}
 use Rattle.hume_ast.specs.Fits.{Each, TypeParts, TypeFits}
 use Rattle.hume_counts.specs.Miscounts.{any_true, has_many, type_miscounts}
 use Rattle.hume_counts.specs.Miscounts as counted
-use Rattle.hume_model.specs.TypeLimits.{is_between, type_step, is_type, depth_step, type_depth}
-use Rattle.hume_typing.specs.Partial.{given, when}
+use Rattle.hume_model.specs.TypeLimits.{type_step, is_type, depth_step, type_depth}
+use Rattle.hume_typing.specs.Partial.{given}
 use Rattle.hume_typing.specs.Signatures.{sum_named}
 use Rattle.hume_typing.specs.WrittenTypes.{is_width, is_length, all_there, written_step, written}
 use Rattle.hume_typing.proofs.Maybe.{some-same, given-inv, when-inv}
@@ -103,7 +103,7 @@ module _ (types : Types) where
       let k = given-inv (sum_named name types) (λ found. Some (Named found.0)) ty h in
       let there = first_stands (λ (sum : SumDef). sum.name) name types.sums k.0.0 k.0.1 k.1 in
       shallow (suc b) (Ty-F.Named k.0.0) ty (rolls-Named k.0.0 ∙ some-same _ _ k.2)
-          ((Decides-ltb k.0.0 (length types.sums)).1 (slice_get_within types.sums k.0.0 k.0.1 there)) (omega arith)
+      ((Decides-ltb k.0.0 (length types.sums)).1 (slice_get_within types.sums k.0.0 k.0.1 there)) (omega arith)
   level (TyExp-F.Tuple es) ty h b fits off =
       let k = given-inv (all_there (map (written types) (map alone es))) (λ tys. Some (Tuple tys)) ty h in
       let flags = or_parts (has_many MAX_PARTS (map type_miscounts (map alone es))) (any_true (map type_miscounts (map alone es))) off in
@@ -111,7 +111,7 @@ module _ (types : Types) where
       let two : 2 ≤ length (map (is_type types) k.0) = let a = fits.0 in let l = all.long in let m = length-map k.0 (is_type types) in omega arith in
       let most : length (map type_miscounts (map alone es)) ≤ MAX_PARTS = few _ flags.0 in
       let some : length (map (is_type types) k.0) ≤ MAX_PARTS =
-          let l = all.long in let m = length-map k.0 (is_type types) in let n = length-map (map alone es) type_miscounts in omega arith in
+      let l = all.long in let m = length-map k.0 (is_type types) in let n = length-map (map alone es) type_miscounts in omega arith in
       let d = all.depth in
       shallow (suc b) (Ty-F.Tuple k.0) ty (rolls-Tuple k.0 ∙ some-same _ _ k.2) (both _ _ (both _ _ (at_least 2 _ two) (at_least _ MAX_PARTS some)) all.each) (omega arith)
 

@@ -1,5 +1,5 @@
 -- Wires of a core join its nodes.
-use Rattle.std.proofs.Common.{◌≡◌, ℕ, ◌<◌, ◌≤◌, List, [], ◌∷◌, length, Option, Some, None, slice_get, refl, ap, sym, subst, ◌∙◌, arith, Bool, ◌&&◌, ◌||◌, not, nat_le, true, false}
+use Rattle.std.proofs.Common.{◌≡◌, ℕ, ◌<◌, ◌≤◌, List, length, Option, Some, None, slice_get, refl, ap, sym, subst, ◌∙◌, arith, Bool, ◌&&◌, ◌||◌, nat_le, true, false}
 use Rattle.std.proofs.lemmas.Bool.{and_parts, leb-true}
 use Rattle.std.proofs.lemmas.Option.{slice_get_within}
 use Rattle.hume_base.specs.declared.limits.TheConstants.{MAX_WIRE_DEPTH}
@@ -11,14 +11,13 @@ use Rattle.hume_ast.specs.declared.tree.Decl.{Decl}
 use Rattle.hume_ast.specs.declared.tree.Decl.TheVariants.{Wire}
 use Rattle.hume_ast.specs.declared.tree.Program.{Program}
 use Rattle.hume_counts.specs.Counted.{counted}
-use Rattle.hume_counts.specs.CountRules.{declaration_miscounts, depth_is_outside, initial_miscounts}
+use Rattle.hume_counts.specs.CountRules.{depth_is_outside, initial_miscounts}
 use Rattle.hume_model.specs.declared.core_tree.PortC.{PortC}
 use Rattle.hume_model.specs.declared.core_tree.NodeC.{NodeC}
 use Rattle.hume_model.specs.declared.core_tree.NodeC.TheVariants.{Rules, From, To}
 use Rattle.hume_model.specs.declared.core_tree.WireC.{WireC}
 use Rattle.hume_model.specs.declared.core_tree.Core.{Core}
 use Rattle.hume_model.specs.Wiring.{inputs_of, outputs_of}
-use Rattle.hume_model.specs.WireEnds.{is_stream}
 use Rattle.hume_typing.specs.Signatures.{first_named}
 use Rattle.hume_typing.specs.declared.signatures.Signatures.{Signatures}
 use Rattle.hume_typing.proofs.Maybe.{some-same, given-inv}
@@ -91,11 +90,14 @@ module _ (text : List ℕ) (program : Program) (core : Core) (fine : IsFine prog
   depth_inside : (n : ℕ) (w : WireDecl) → slice_get (wires_in program.decls) n ≡ Some w → depth_is_outside w.depth ≡ false
   depth_inside n w there = not_so _ (λ outside.
       fine (record { rule = C42; declaration = w.number })
-      (BreaksCheck.counts (BreaksCounts.miscounts (refl, record {
-        decl = (w.place, Wire w.from w.to w.depth w.initial);
-        there = wire_stands program.decls n w there;
-        is = or_first (depth_is_outside w.depth) (initial_miscounts (counted program.decls) w.initial) (sym outside);
-      }))))
+      (BreaksCheck.counts (BreaksCounts.miscounts (
+        refl,
+        record {
+          decl = (w.place, Wire w.from w.to w.depth w.initial);
+          there = wire_stands program.decls n w there;
+          is = or_first (depth_is_outside w.depth) (initial_miscounts (counted program.decls) w.initial) (sym outside);
+        },
+      ))))
 
   pub joins : (n : ℕ) (wire : WireC) → slice_get core.wires n ≡ Some wire → JoinsNodes core wire
   joins n wire there =

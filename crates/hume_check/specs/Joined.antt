@@ -1,5 +1,5 @@
 -- What a wire joins, and how many values it holds.
-use Rattle.std.specs.Prelude.{◌≡◌, ℕ, ◌≤◌, ◌<◌, true, None, Some, slice_get}
+use Rattle.std.specs.Prelude.{◌≡◌, ◌≤◌, ◌<◌, true, None, Some, slice_get}
 use Rattle.hume_base.specs.declared.limits.TheConstants.{MAX_WIRE_DEPTH}
 use Rattle.hume_model.specs.declared.core_tree.NodeC.{NodeC}
 use Rattle.hume_model.specs.declared.core_tree.WireC.{WireC}

@@ -11,6 +11,7 @@ ghost use Rattle.hume_model.specs.declared.core_tree.WireC.{WireC};
 ghost use Rattle.hume_model.specs.declared.core_tree.Core.{Core};
 ghost use Rattle.hume_model.specs.OwnExceptions.{HasOwnExceptions};
 ghost use Rattle.hume_model.specs.Calls.{CallsGoDown};
+ghost use Rattle.hume_model.specs.WellFormed.{HasSoundParts};
 ghost use Rattle.hume_model.specs.TypeLimits.{IsWrittenType};
 ghost use Rattle.hume_model.specs.Typing.{FunctionsAreTyped};
 ghost use Rattle.hume_model.specs.BoxTyping.{BoxHasFrame, BoxIsTyped};
@@ -74,4 +75,9 @@ pub fn cores_have_few_parts()
     ensures wires { (text : List ℕ) (program : Program) (core : Core) → IsFine program.decls → IsCoreOf text program core → length core.wires ≤ MAX_WIRES }
     ensures exceptions { (text : List ℕ) (program : Program) (core : Core) → IsFine program.decls → IsCoreOf text program core
         → length core.exns ≤ MAX_EXCEPTIONS }
+{}
+
+/// What the meaning of an expression rests on: a core of a program that breaks no rule has it.
+pub fn cores_have_sound_parts()
+    ensures { (text : List ℕ) (program : Program) (core : Core) → IsFine program.decls → IsCoreOf text program core → HasSoundParts core }
 {}

@@ -1,3 +1,4 @@
 //! Names, types and the core.
 #![tactic(auto)]
+
 mod laws;
