@@ -1,5 +1,5 @@
 -- Types of inputs, outputs and wires are ones that a source may write.
-use Rattle.std.proofs.Common.{◌≡◌, ℕ, zero, suc, ◌≤◌, inl, inr, List, [], ◌∷◌, map, length, Contains, Option, Some, None, slice_get, refl, ap, sym, subst, ◌∙◌, arith, Bool, ◌||◌, false}
+use Rattle.std.proofs.Common.{true, ◌≡◌, ℕ, zero, suc, ◌≤◌, inl, inr, List, [], ◌∷◌, map, length, Contains, Option, Some, None, slice_get, refl, ap, sym, subst, ◌∙◌, arith, Bool, ◌||◌, false}
 use Rattle.std.specs.List.{list_any}
 use Rattle.std.specs.Option.{option_map}
 use Rattle.std.proofs.lemmas.Bool.{or_parts, cases_lt}
@@ -11,6 +11,8 @@ use Rattle.hume_base.specs.declared.types.Ty.TheOpen.{Ty-F}
 use Rattle.hume_base.specs.declared.types.Ty.TheVariants.{rolls-Bool}
 use Rattle.hume_base.specs.declared.types.Types.{Types}
 use Rattle.hume_base.specs.declared.rule.Rule.TheVariants.{C42, C73}
+use Rattle.hume_base.specs.declared.types.Value.{Value}
+use Rattle.hume_base.specs.Values.{is_value}
 use Rattle.hume_base.specs.Sizes.{named_size, size_step, size_of}
 use Rattle.hume_ast.specs.declared.tree.TyExp.{TyExp}
 use Rattle.hume_ast.specs.declared.tree.Decl.{Decl}
@@ -27,7 +29,7 @@ use Rattle.hume_model.specs.declared.core_tree.NodeC.TheVariants.{Rules, From, T
 use Rattle.hume_model.specs.declared.core_tree.WireC.{WireC}
 use Rattle.hume_model.specs.declared.core_tree.Core.{Core}
 use Rattle.hume_model.specs.TypeLimits.{type_step, depth_step, IsWrittenType}
-use Rattle.hume_model.specs.WireEnds.{output_type, input_type, type_of_ends}
+use Rattle.hume_model.specs.WireEnds.{HasEnds, output_type, input_type, type_of_ends}
 use Rattle.hume_typing.specs.WrittenTypes.{written}
 use Rattle.hume_typing.proofs.Maybe.{some-same}
 use Rattle.hume_check.specs.CheckRules.{IsFine, BreaksCheck, BreaksCounts, BreaksLimits}
@@ -141,3 +143,22 @@ module _ (text : List ℕ) (program : Program) (core : Core) (fine : IsFine prog
       subst (λ t. IsWrittenType t wire.ty) (sym p.types)
       (subst (IsWrittenType types) (sym j.ty)
       (ends_written _ _ (output_written wire.from j.producer j.from wire.from_port) (input_written wire.to j.consumer j.to wire.to_port)))
+
+  -- a wire has its ends, if its first value is one of its type
+  pub ends : (n : ℕ) (wire : WireC) → slice_get core.wires n ≡ Some wire → ((v : Value) → wire.initial ≡ Some v → is_value core.types wire.ty v ≡ true) → HasEnds core wire
+  ends n wire there first =
+      let j = joins text program core fine p n wire there in
+      record {
+        producer = j.producer;
+        consumer = j.consumer;
+        from = j.from;
+        from_port = j.from_port;
+        to = j.to;
+        to_port = j.to_port;
+        ty = j.ty;
+        some_depth = j.some_depth;
+        depth = j.depth;
+        initial = first;
+        no_initial = j.no_initial;
+        written = wire_written n wire there;
+      }
