@@ -1,13 +1,12 @@
 -- A source stands for one core.
-use Rattle.std.proofs.Common.{◌≡◌, ℕ, ◌&&◌, List, [], ◌∷◌, map, Option, Some, None, Bool, true, false, refl, ap, sym, subst, ◌∙◌}
-use Rattle.hume_base.specs.Places.{line_at}
+use Rattle.std.proofs.Common.{◌≡◌, ℕ, ◌&&◌, List, map, Option, Some, None, Bool, true, false, ap, sym, subst, ◌∙◌}
 use Rattle.hume_base.specs.declared.types.Ty.{Ty}
 use Rattle.hume_base.specs.declared.types.Types.{Types}
 use Rattle.hume_base.specs.declared.types.Value.{Value}
 use Rattle.hume_ast.specs.declared.tree.TyExp.{TyExp}
 use Rattle.hume_ast.specs.declared.tree.Exp.{Exp}
 use Rattle.hume_ast.specs.declared.tree.Decl.{Decl}
-use Rattle.hume_ast.specs.declared.tree.Decl.TheVariants.{Sum, Exn, Fun, BoxD, Stream, Wire}
+use Rattle.hume_ast.specs.declared.tree.Decl.TheVariants.{BoxD, Stream}
 use Rattle.hume_ast.specs.declared.tree.Program.{Program}
 use Rattle.hume_graph.proofs.Orders.{same_order}
 use Rattle.hume_names.specs.declared.mention_list.NameKind.TheVariants.{Function}
@@ -15,19 +14,18 @@ use Rattle.hume_names.specs.Leading.{graph_of}
 use Rattle.hume_model.specs.declared.core_tree.PortC.{PortC}
 use Rattle.hume_model.specs.declared.core_tree.BoxC.{BoxC}
 use Rattle.hume_model.specs.declared.core_tree.NodeC.{NodeC}
-use Rattle.hume_model.specs.declared.core_tree.NodeC.TheVariants.{Rules, From, To}
+use Rattle.hume_model.specs.declared.core_tree.NodeC.TheVariants.{Rules}
 use Rattle.hume_model.specs.declared.core_tree.WireC.{WireC}
 use Rattle.hume_model.specs.declared.core_tree.FunC.{FunC}
 use Rattle.hume_model.specs.declared.core_tree.Core.{Core}
 use Rattle.hume_model.specs.WireEnds.{is_stream, output_type, input_type, type_of_ends}
-use Rattle.hume_typing.specs.Declarations.{InPlaces, CoredEquation, CoredRule, CoredHandler, WrittenRule, WrittenHandler, IsFunction, IsBox}
+use Rattle.hume_typing.specs.Declarations.{InPlaces, CoredEquation, CoredRule, CoredHandler, WrittenRule, WrittenHandler, IsFunction}
 use Rattle.hume_typing.specs.inner.DeclarationWalk.{function_walk}
 use Rattle.hume_typing.specs.declared.signatures.Signature.{Signature}
 use Rattle.hume_typing.specs.declared.signatures.Signatures.{Signatures}
 use Rattle.hume_typing.proofs.Maybe.{some-same}
 use Rattle.hume_typing.proofs.DeclarationsAgree.{only_one, finds_function, box_to}
-use Rattle.hume_check.specs.Declared.{Decls, FunctionDecl, function_of, in_order, Numbered, nodes_in, WireDecl, wires_in}
-use Rattle.hume_check.specs.SignaturesOf.{AreSignatures}
+use Rattle.hume_check.specs.Declared.{FunctionDecl, function_of, in_order, Numbered, nodes_in, WireDecl, wires_in}
 use Rattle.hume_check.specs.CoreOf.{IsFunctionOf, IsPort, IsBoxOf, IsNodeOf, IsEnd, output_place, input_place, Initial, InitialBetween, IsWireOf, IsCoreOf}
 use Rattle.hume_check.proofs.InPlace.{in_place_once}
 use Rattle.hume_check.proofs.SignaturesOnce.{the_signatures}

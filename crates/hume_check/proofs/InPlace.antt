@@ -1,5 +1,5 @@
 -- What stands in the places of a list is one list, where one thing belongs in each place.
-use Rattle.std.proofs.Common.{◌≡◌, ℕ, zero, suc, List, [], ◌∷◌, Option, Some, None, slice_get, map, refl, ap, sym, ◌∙◌}
+use Rattle.std.proofs.Common.{◌≡◌, ℕ, suc, List, [], ◌∷◌, slice_get, map, refl}
 use Rattle.hume_typing.specs.Declarations.{InPlaces}
 
 pub in_place_once : {A B : Type 0} (R : A → B → Type 0) → ((x : A) (y z : B) → R x y → R x z → y ≡ z) → (xs : List A) (ys zs : List B) → InPlaces R xs ys → InPlaces R xs zs → ys ≡ zs

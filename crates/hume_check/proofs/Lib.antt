@@ -3,3 +3,15 @@ mod TypesOnce
 mod SignaturesOnce
 mod CoresOnce
 mod OneFinding
+mod Stands
+mod CoreTyped
+mod OrderedPlaces
+mod Mentioned
+mod TypesOrdered
+mod BoxFrames
+mod FormsCall
+mod FunctionsOrdered
+mod WiresJoin
+mod TypesWritten
+mod PortsWritten
+mod CountsWithin

@@ -1,18 +1,17 @@
 -- A program has one list of data types, exceptions and functions.
-use Rattle.std.proofs.Common.{◌≡◌, ℕ, List, ◌++◌, Option, Some, None, refl, ap, sym, subst, ◌∙◌}
+use Rattle.std.proofs.Common.{◌≡◌, List, ◌++◌, Option, Some, None, ap, sym, subst, ◌∙◌}
 use Rattle.hume_base.specs.declared.types.Ty.{Ty}
 use Rattle.hume_base.specs.declared.types.Types.{Types}
 use Rattle.hume_ast.specs.declared.tree.TyExp.{TyExp}
 use Rattle.hume_model.specs.declared.core_tree.ExnDef.{ExnDef}
 use Rattle.hume_model.specs.OwnExceptions.{own_exceptions}
-use Rattle.hume_graph.specs.Orders.{IsOrder}
 use Rattle.hume_graph.proofs.Orders.{same_order}
 use Rattle.hume_names.specs.declared.mention_list.NameKind.TheVariants.{DataType, Function}
 use Rattle.hume_names.specs.Leading.{graph_of}
 use Rattle.hume_typing.specs.Declarations.{InPlaces, signature_written}
 use Rattle.hume_typing.specs.declared.signatures.Signature.{Signature}
 use Rattle.hume_typing.specs.declared.signatures.Signatures.{Signatures}
-use Rattle.hume_check.specs.Declared.{Decls, DataDecl, data_of, ExceptionDecl, exception_of, FunctionDecl, function_of, in_order}
+use Rattle.hume_check.specs.Declared.{Decls, data_of, ExceptionDecl, FunctionDecl, function_of, in_order}
 use Rattle.hume_check.specs.SignaturesOf.{IsDataType, IsException, Carries, AreTypes, AreExceptions, AreFunctions, AreSignatures}
 use Rattle.hume_check.proofs.InPlace.{in_place_once}
 use Rattle.hume_check.proofs.TypesOnce.{types_once}

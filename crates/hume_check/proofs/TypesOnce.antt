@@ -1,5 +1,5 @@
 -- A program has one list of data types.
-use Rattle.std.proofs.Common.{◌≡◌, ℕ, zero, suc, ◌+◌, ◌==◌, List, [], ◌∷◌, Option, Some, None, slice_get, map, length, if◌then◌else◌, refl, ap, sym, subst, ◌∙◌, Bool, true, false, bytes_eq}
+use Rattle.std.proofs.Common.{◌≡◌, ℕ, zero, suc, ◌+◌, ◌==◌, List, [], ◌∷◌, Option, Some, None, slice_get, map, length, if◌then◌else◌, refl, ap, sym, ◌∙◌, Bool, true, false, bytes_eq}
 use Rattle.hume_base.specs.declared.types.Ty.{Ty, Named}
 use Rattle.hume_base.specs.declared.types.ConDef.{ConDef}
 use Rattle.hume_base.specs.declared.types.SumDef.{SumDef}
@@ -13,7 +13,7 @@ use Rattle.hume_typing.specs.WrittenTypes.{written, written_step, all_written, a
 use Rattle.hume_typing.specs.Declarations.{InPlaces}
 use Rattle.hume_check.specs.Declared.{DataDecl}
 use Rattle.hume_check.specs.SignaturesOf.{IsConstructor, IsDataType}
-use Rattle.hume_check.proofs.InPlace.{in_place_once, seen_once, same_lists}
+use Rattle.hume_check.proofs.InPlace.{seen_once}
 
 abbrev sum_name : SumDef → List ℕ
 sum_name sum = sum.name

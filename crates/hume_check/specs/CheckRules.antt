@@ -1,5 +1,4 @@
 -- What a program breaks in its names, counts, types and limits.
-use Rattle.std.specs.Prelude.{ℕ}
 use Rattle.hume_base.specs.declared.finding.Finding.{Finding}
 use Rattle.hume_base.specs.declared.rule.Rule.TheVariants.{C40, C41, C42, C43, C44, C45, C72, C73, C74}
 use Rattle.hume_base.specs.Least.{OfRule}

@@ -1,8 +1,9 @@
 -- Values that are written down: the first values of wires.
-use Rattle.std.specs.Prelude.{◌≡◌, ℕ, ◌==◌, ◌&&◌, Bool, true, false, List, [], ◌∷◌, map, length, Option, Some, None}
+use Rattle.std.specs.Prelude.{◌==◌, ◌&&◌, Bool, true, false, List, [], ◌∷◌, length, Option, Some, None}
 use Rattle.hume_base.specs.declared.types.Ty.{Ty, out-Ty}
 use Rattle.hume_base.specs.declared.types.Ty.TheOpen.{Ty-F}
 use Rattle.hume_base.specs.declared.types.Value.{Value, Word, Tuple, Vector, Con}
+use Rattle.hume_base.specs.Values.{is_char_word}
 use Rattle.hume_ast.specs.declared.tree.Exp.{Exp, fold-Exp}
 use Rattle.hume_ast.specs.declared.tree.Exp.TheOpen.{Exp-F}
 use Rattle.hume_typing.specs.Partial.{given, when}
@@ -56,7 +57,7 @@ vector_value parts _ = None
 abbrev pub value_step : Signatures → Exp-F (Ty → Option Value) → Ty → Option Value
 value_step signatures (Exp-F.Num negative amount) ty =
     when (is_number_of (literal_number negative amount) (out-Ty ty)) (Some (Word (literal_word negative amount)))
-value_step signatures (Exp-F.Letter byte) ty = when (is_char (out-Ty ty)) (Some (Word byte))
+value_step signatures (Exp-F.Letter byte) ty = when (is_char (out-Ty ty) && is_char_word byte) (Some (Word byte))
 value_step signatures (Exp-F.Truth truth) ty = when (is_bool (out-Ty ty)) (Some (Word (word_of_truth truth)))
 value_step signatures (Exp-F.Con name parts) ty = con_value (con_named name signatures) parts ty
 value_step signatures (Exp-F.Paren part) ty = part ty

@@ -1,5 +1,5 @@
 -- Which core a program stands for, in the source of a text.
-use Rattle.std.specs.Prelude.{◌≡◌, ℕ, ◌&&◌, List, [], ◌∷◌, map, Bool, true, false, if◌then◌else◌, Option, Some, None, slice_get, bytes_eq}
+use Rattle.std.specs.Prelude.{◌≡◌, ℕ, ◌&&◌, List, map, Bool, true, false, Option, Some, None}
 use Rattle.hume_base.specs.Places.{line_at}
 use Rattle.hume_base.specs.declared.types.Ty.{Ty}
 use Rattle.hume_base.specs.declared.types.Types.{Types}
@@ -9,7 +9,6 @@ use Rattle.hume_ast.specs.declared.tree.Exp.{Exp}
 use Rattle.hume_ast.specs.declared.tree.Decl.{Decl}
 use Rattle.hume_ast.specs.declared.tree.Decl.TheVariants.{BoxD, Stream}
 use Rattle.hume_ast.specs.declared.tree.Program.{Program}
-use Rattle.hume_graph.specs.Orders.{IsOrder}
 use Rattle.hume_model.specs.declared.core_tree.PortC.{PortC}
 use Rattle.hume_model.specs.declared.core_tree.BoxC.{BoxC}
 use Rattle.hume_model.specs.declared.core_tree.StreamC.{StreamC}
@@ -23,9 +22,8 @@ use Rattle.hume_typing.specs.Partial.{given}
 use Rattle.hume_typing.specs.Signatures.{first_named}
 use Rattle.hume_typing.specs.WrittenTypes.{written}
 use Rattle.hume_typing.specs.Declarations.{InPlaces, CoredEquation, CoredRule, CoredHandler, WrittenRule, WrittenHandler, IsFunction, IsBox, signature_written}
-use Rattle.hume_typing.specs.declared.signatures.Signature.{Signature}
 use Rattle.hume_typing.specs.declared.signatures.Signatures.{Signatures}
-use Rattle.hume_check.specs.Declared.{Decls, FunctionDecl, function_of, in_order, Numbered, nodes_in, WireDecl, wires_in}
+use Rattle.hume_check.specs.Declared.{FunctionDecl, function_of, in_order, Numbered, nodes_in, WireDecl, wires_in}
 use Rattle.hume_check.specs.SignaturesOf.{AreSignatures}
 use Rattle.hume_check.specs.Constants.{constant}
 

@@ -1,5 +1,5 @@
 -- When a declaration has no type, a literal out of range, or a first value that is none.
-use Rattle.std.specs.Prelude.{◌≡◌, ℕ, Bool, false, List, [], Option, Some, None, slice_get}
+use Rattle.std.specs.Prelude.{◌≡◌, ℕ, false, List, [], Option, Some, None, slice_get}
 use Rattle.hume_base.specs.declared.types.Ty.{Ty}
 use Rattle.hume_base.specs.declared.types.Types.{Types}
 use Rattle.hume_ast.specs.declared.tree.TyExp.{TyExp}

@@ -1,14 +1,28 @@
-//! What stands for a program is one thing.
-ghost use Rattle.std.specs.Prelude.{◌≡◌, ℕ, List, Some};
+//! What stands for a program is one thing, and a program that breaks no rule stands for a core of sound parts.
+ghost use Rattle.std.specs.Prelude.{◌≡◌, ◌≤◌, ℕ, List, length, Some, slice_get};
 ghost use Rattle.hume_base.specs.declared.finding.Finding.{Finding};
+ghost use Rattle.hume_base.specs.declared.limits.TheConstants.{MAX_NODES, MAX_WIRES, MAX_EXCEPTIONS};
+ghost use Rattle.hume_base.specs.Holding.{HoldSmaller};
 ghost use Rattle.hume_base.specs.Least.{IsLeast};
+ghost use Rattle.hume_base.specs.Sizes.{HaveTheirSizes};
 ghost use Rattle.hume_ast.specs.declared.tree.Program.{Program};
+ghost use Rattle.hume_ast.specs.Fits.{IsFit};
+ghost use Rattle.hume_model.specs.declared.core_tree.BoxC.{BoxC};
+ghost use Rattle.hume_model.specs.declared.core_tree.NodeC.TheVariants.{Rules};
+ghost use Rattle.hume_model.specs.declared.core_tree.WireC.{WireC};
 ghost use Rattle.hume_model.specs.declared.core_tree.Core.{Core};
+ghost use Rattle.hume_model.specs.OwnExceptions.{HasOwnExceptions};
+ghost use Rattle.hume_model.specs.Calls.{CallsGoDown};
+ghost use Rattle.hume_model.specs.WellFormed.{HasSoundParts};
+ghost use Rattle.hume_model.specs.TypeLimits.{IsWrittenType};
+ghost use Rattle.hume_model.specs.Typing.{FunctionsAreTyped};
+ghost use Rattle.hume_model.specs.BoxTyping.{BoxHasFrame, BoxIsTyped};
 ghost use Rattle.hume_typing.specs.declared.signatures.Signatures.{Signatures};
 ghost use Rattle.hume_check.specs.Declared.{Decls};
 ghost use Rattle.hume_check.specs.SignaturesOf.{AreSignatures};
 ghost use Rattle.hume_check.specs.CoreOf.{IsCoreOf};
-ghost use Rattle.hume_check.specs.CheckRules.{BreaksCheck};
+ghost use Rattle.hume_check.specs.Joined.{JoinsNodes};
+ghost use Rattle.hume_check.specs.CheckRules.{BreaksCheck, IsFine};
 
 /// A program has one list of data types, exceptions and functions at most.
 pub fn signatures_are_unique()
@@ -23,4 +37,52 @@ pub fn cores_are_unique()
 /// Of the rules that a program breaks in its names, counts, types and limits one at most is the least.
 pub fn least_broken_rule_is_one()
     ensures { (decls : Decls) (x y : Finding) → IsLeast (BreaksCheck decls) (Some x) → IsLeast (BreaksCheck decls) (Some y) → x ≡ y }
+/// Data types of a core hold data types of smaller numbers only, and have their sizes written beside them.
+pub fn cores_hold_smaller()
+    ensures holds { (text : List ℕ) (program : Program) (core : Core) → IsFine program.decls → IsCoreOf text program core → HoldSmaller core.types }
+    ensures sizes { (text : List ℕ) (program : Program) (core : Core) → IsFine program.decls → IsCoreOf text program core → HaveTheirSizes core.types }
+{}
+
+/// The exceptions that every program has stand first in its core.
+pub fn cores_have_their_exceptions()
+    ensures { (text : List ℕ) (program : Program) (core : Core) → IsFine program.decls → IsCoreOf text program core → HasOwnExceptions core }
+{}
+
+/// Functions and boxes of the core of a program that breaks no rule have their types.
+pub fn functions_and_boxes_are_typed()
+    ensures functions { (text : List ℕ) (program : Program) (core : Core) → IsFine program.decls → IsCoreOf text program core → FunctionsAreTyped core }
+    ensures boxes { (text : List ℕ) (program : Program) (core : Core) → IsFine program.decls → IsCoreOf text program core
+        → (n : ℕ) (b : BoxC) → slice_get core.nodes n ≡ Some (Rules b) → BoxIsTyped core b }
+    ensures frames { (text : List ℕ) (program : Program) (core : Core) → IsFine program.decls → IsCoreOf text program core
+        → (n : ℕ) (b : BoxC) → slice_get core.nodes n ≡ Some (Rules b) → BoxHasFrame core b }
+{}
+
+/// Functions of a core call functions of smaller numbers only.
+pub fn calls_go_down()
+    ensures { (text : List ℕ) (program : Program) (core : Core) → IsFine program.decls → IsCoreOf text program core → CallsGoDown core }
+{}
+
+/// Wires of a core join its nodes.
+pub fn wires_join_nodes()
+    ensures { (text : List ℕ) (program : Program) (core : Core) → IsFine program.decls → IsCoreOf text program core
+        → (n : ℕ) (wire : WireC) → slice_get core.wires n ≡ Some wire → JoinsNodes core wire }
+{}
+
+/// Where no type is deeper than the grammar lets it be, wires have types that a source may write.
+pub fn wires_have_written_types()
+    ensures { (text : List ℕ) (program : Program) (core : Core) → IsFine program.decls → IsFit program → IsCoreOf text program core
+        → (n : ℕ) (wire : WireC) → slice_get core.wires n ≡ Some wire → IsWrittenType core.types wire.ty }
+{}
+
+/// A core has no more nodes, wires and exceptions than are allowed.
+pub fn cores_have_few_parts()
+    ensures nodes { (text : List ℕ) (program : Program) (core : Core) → IsFine program.decls → IsCoreOf text program core → length core.nodes ≤ MAX_NODES }
+    ensures wires { (text : List ℕ) (program : Program) (core : Core) → IsFine program.decls → IsCoreOf text program core → length core.wires ≤ MAX_WIRES }
+    ensures exceptions { (text : List ℕ) (program : Program) (core : Core) → IsFine program.decls → IsCoreOf text program core
+        → length core.exns ≤ MAX_EXCEPTIONS }
+{}
+
+/// What the meaning of an expression rests on: a core of a program that breaks no rule has it.
+pub fn cores_have_sound_parts()
+    ensures { (text : List ℕ) (program : Program) (core : Core) → IsFine program.decls → IsCoreOf text program core → HasSoundParts core }
 {}

@@ -1,0 +1,11 @@
+use Rattle.hume_check.proofs.CountsWithin.{nodes_within, wires_within, exceptions_within}
+use Rattle.hume_check.proofs.laws.cores_have_few_parts.Goals as goal
+
+pub returns-clause-nodes : goal.returns-clause-nodes
+returns-clause-nodes c text program core fine p = nodes_within text program core fine p
+
+pub returns-clause-wires : goal.returns-clause-wires
+returns-clause-wires c text program core fine p = wires_within text program core fine p
+
+pub returns-clause-exceptions : goal.returns-clause-exceptions
+returns-clause-exceptions c text program core fine p = exceptions_within text program core fine p
