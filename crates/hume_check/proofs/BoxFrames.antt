@@ -7,7 +7,8 @@ use Rattle.std.specs.Option.{option_map}
 use Rattle.hume_base.specs.declared.rule.Rule.TheVariants.{C30}
 use Rattle.hume_ast.specs.declared.tree.Decl.{Decl}
 use Rattle.hume_ast.specs.declared.tree.Program.{Program}
-use Rattle.hume_names.specs.Names.{among, repeats}
+use Rattle.name_table.specs.Names.{among}
+use Rattle.hume_names.specs.Names.{repeats}
 use Rattle.hume_names.specs.DeclaredNames.{handled_of, ports_of}
 use Rattle.hume_names.specs.Repeated.{repeats_own}
 use Rattle.hume_names.specs.Misnamed.{BreaksNames}

@@ -77,8 +77,8 @@ within decls fine test most full = elim (cases_lt most (how_many test decls)) [
         refl,
         record {
           decl = r.decl;
-          there = r.there;
-          is = or_first _ (has_many_parts r.decl.1) (full (take r.number decls) r.decl.1 r.is r.full);
+          at = r.there;
+          holds = or_first _ (has_many_parts r.decl.1) (full (take r.number decls) r.decl.1 r.is r.full);
         },
       ))))
   | inr le ↦ le

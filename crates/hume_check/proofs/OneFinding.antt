@@ -1,5 +1,5 @@
 -- A program has one least broken rule.
-use Rattle.std.proofs.Common.{◌≡◌, ℕ, ◌==◌, Bool, true, Option, Some, if◌then◌else◌, refl, ap, sym, ◌∙◌, arith}
+use Rattle.std.proofs.Common.{◌≡◌, ℕ, ◌==◌, true, Some, if◌then◌else◌, refl, ap, sym, ◌∙◌, arith}
 use Rattle.std.proofs.lemmas.Bool.Decides.{nat_tests}
 use Rattle.hume_base.specs.declared.rule.Rule.{Rule}
 use Rattle.hume_base.specs.declared.rule.Rule.TheVariants.{C10, C11, C12, C20, NotBuilt, C30, C31, C32, C33, C40, C41, C42, C43, C44, C45, C50, C51, C52, C53, C54, C55, C60, C61, C70, C71, C72, C73, C74, C75, C76, C77, C78, C79}

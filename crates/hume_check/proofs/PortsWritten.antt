@@ -87,7 +87,7 @@ module _ (text : List ℕ) (program : Program) (core : Core) (fine : IsFine prog
 
   counts : (n : ℕ) (d : ℕ × Decl) → slice_get program.decls n ≡ Some d → declaration_miscounts (counted program.decls) d.1 ≡ false
   counts n d there = not_so _ (λ wrong. fine (record { rule = C42; declaration = n })
-      (BreaksCheck.counts (BreaksCounts.miscounts (refl, record { decl = d; there = there; is = sym wrong }))))
+      (BreaksCheck.counts (BreaksCounts.miscounts (refl, record { decl = d; at = there; holds = sym wrong }))))
 
   -- types of the inputs and outputs of a box
   pub record HasWrittenPorts (b : BoxC) : Type 0 where

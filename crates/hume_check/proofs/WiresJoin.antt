@@ -94,8 +94,8 @@ module _ (text : List ℕ) (program : Program) (core : Core) (fine : IsFine prog
         refl,
         record {
           decl = (w.place, Wire w.from w.to w.depth w.initial);
-          there = wire_stands program.decls n w there;
-          is = or_first (depth_is_outside w.depth) (initial_miscounts (counted program.decls) w.initial) (sym outside);
+          at = wire_stands program.decls n w there;
+          holds = or_first (depth_is_outside w.depth) (initial_miscounts (counted program.decls) w.initial) (sym outside);
         },
       ))))
 

@@ -37,6 +37,8 @@ pub fn cores_are_unique()
 /// Of the rules that a program breaks in its names, counts, types and limits one at most is the least.
 pub fn least_broken_rule_is_one()
     ensures { (decls : Decls) (x y : Finding) → IsLeast (BreaksCheck decls) (Some x) → IsLeast (BreaksCheck decls) (Some y) → x ≡ y }
+{}
+
 /// Data types of a core hold data types of smaller numbers only, and have their sizes written beside them.
 pub fn cores_hold_smaller()
     ensures holds { (text : List ℕ) (program : Program) (core : Core) → IsFine program.decls → IsCoreOf text program core → HoldSmaller core.types }
