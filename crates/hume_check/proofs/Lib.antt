@@ -15,3 +15,6 @@ mod WiresJoin
 mod TypesWritten
 mod PortsWritten
 mod CountsWithin
+mod DataWritten
+mod FirstValues
+mod WiresEnd

@@ -15,13 +15,13 @@ ghost use Rattle.hume_model.specs.OwnExceptions.{HasOwnExceptions};
 ghost use Rattle.hume_model.specs.Calls.{CallsGoDown};
 ghost use Rattle.hume_model.specs.WellFormed.{HasSoundParts};
 ghost use Rattle.hume_model.specs.TypeLimits.{IsWrittenType};
+ghost use Rattle.hume_model.specs.WireEnds.{HasEnds};
 ghost use Rattle.hume_model.specs.Typing.{FunctionsAreTyped};
 ghost use Rattle.hume_model.specs.BoxTyping.{BoxHasFrame, BoxIsTyped};
 ghost use Rattle.hume_typing.specs.declared.signatures.Signatures.{Signatures};
 ghost use Rattle.hume_check.specs.Declared.{Decls};
 ghost use Rattle.hume_check.specs.SignaturesOf.{AreSignatures};
 ghost use Rattle.hume_check.specs.CoreOf.{IsCoreOf};
-ghost use Rattle.hume_check.specs.Joined.{JoinsNodes};
 ghost use Rattle.hume_check.specs.CheckRules.{BreaksCheck, IsFine};
 
 /// A program has one list of data types, exceptions and functions at most.
@@ -64,16 +64,16 @@ pub fn calls_go_down()
     ensures { (text : List ℕ) (program : Program) (core : Core) → IsFine program.decls → IsCoreOf text program core → CallsGoDown core }
 {}
 
-/// Wires of a core join its nodes.
-pub fn wires_join_nodes()
-    ensures { (text : List ℕ) (program : Program) (core : Core) → IsFine program.decls → IsCoreOf text program core
-        → (n : ℕ) (wire : WireC) → slice_get core.wires n ≡ Some wire → JoinsNodes core wire }
-{}
-
 /// Where no type is deeper than the grammar lets it be, wires have types that a source may write.
 pub fn wires_have_written_types()
     ensures { (text : List ℕ) (program : Program) (core : Core) → IsFine program.decls → IsFit program → IsCoreOf text program core
         → (n : ℕ) (wire : WireC) → slice_get core.wires n ≡ Some wire → IsWrittenType core.types wire.ty }
+{}
+
+/// Wires of a core have their ends, their types from them, and first values of their types.
+pub fn wires_have_their_ends()
+    ensures { (text : List ℕ) (program : Program) (core : Core) → IsFine program.decls → IsFit program → IsCoreOf text program core
+        → (n : ℕ) (wire : WireC) → slice_get core.wires n ≡ Some wire → HasEnds core wire }
 {}
 
 /// A core has no more nodes, wires and exceptions than are allowed.
