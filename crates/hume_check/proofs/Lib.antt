@@ -18,3 +18,4 @@ mod CountsWithin
 mod DataWritten
 mod FirstValues
 mod WiresEnd
+mod FunctionsWithin

@@ -1,7 +1,7 @@
 //! What stands for a program is one thing, and a program that breaks no rule stands for a core of sound parts.
 ghost use Rattle.std.specs.Prelude.{◌≡◌, ◌≤◌, ℕ, List, length, Some, slice_get};
 ghost use Rattle.hume_base.specs.declared.finding.Finding.{Finding};
-ghost use Rattle.hume_base.specs.declared.limits.TheConstants.{MAX_NODES, MAX_WIRES, MAX_EXCEPTIONS};
+ghost use Rattle.hume_base.specs.declared.limits.TheConstants.{MAX_FUNCTIONS, MAX_NODES, MAX_WIRES, MAX_EXCEPTIONS};
 ghost use Rattle.hume_base.specs.Holding.{HoldSmaller};
 ghost use Rattle.hume_base.specs.Least.{IsLeast};
 ghost use Rattle.hume_base.specs.Sizes.{HaveTheirSizes};
@@ -76,8 +76,10 @@ pub fn wires_have_their_ends()
         → (n : ℕ) (wire : WireC) → slice_get core.wires n ≡ Some wire → HasEnds core wire }
 {}
 
-/// A core has no more nodes, wires and exceptions than are allowed.
+/// A core has no more functions, nodes, wires and exceptions than are allowed.
 pub fn cores_have_few_parts()
+    ensures functions { (text : List ℕ) (program : Program) (core : Core) → IsFine program.decls → IsCoreOf text program core
+        → length core.funs ≤ MAX_FUNCTIONS }
     ensures nodes { (text : List ℕ) (program : Program) (core : Core) → IsFine program.decls → IsCoreOf text program core → length core.nodes ≤ MAX_NODES }
     ensures wires { (text : List ℕ) (program : Program) (core : Core) → IsFine program.decls → IsCoreOf text program core → length core.wires ≤ MAX_WIRES }
     ensures exceptions { (text : List ℕ) (program : Program) (core : Core) → IsFine program.decls → IsCoreOf text program core

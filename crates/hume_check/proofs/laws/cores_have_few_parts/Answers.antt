@@ -1,5 +1,9 @@
 use Rattle.hume_check.proofs.CountsWithin.{nodes_within, wires_within, exceptions_within}
+use Rattle.hume_check.proofs.FunctionsWithin.{functions_within}
 use Rattle.hume_check.proofs.laws.cores_have_few_parts.Goals as goal
+
+pub returns-clause-functions : goal.returns-clause-functions
+returns-clause-functions c text program core fine p = functions_within text program core fine p
 
 pub returns-clause-nodes : goal.returns-clause-nodes
 returns-clause-nodes c text program core fine p = nodes_within text program core fine p
