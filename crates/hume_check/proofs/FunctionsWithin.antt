@@ -35,12 +35,15 @@ all_apart [] h = tt
 all_apart (x ∷ xs) h = (lacks_all x xs (λ j lt e. h 0 (suc j) (omega arith) (omega arith) e), all_apart xs (λ i j lt within e. h (suc i) (suc j) (omega arith) (omega arith) e))
 
 -- an order has each number once
-order_apart : (graph : List (List ℕ)) (order : List ℕ) → IsOrder graph order → Apart order
-order_apart graph order is = all_apart order (λ i j lt within e.
+pub order_once : (graph : List (List ℕ)) (order : List ℕ) → IsOrder graph order → (i j : ℕ) → i < j → j < length order → get_or order i 0 ≡ get_or order j 0 → ⊥
+order_once graph order is i j lt within e =
     let here = get_or order j 0 in
     let below : i < length (take j order) = omega (arith, length-take j order) in
     let same : get_or (take j order) i here ≡ here = get_or-take j order i here lt ∙ get_or_default order i here 0 (omega arith) ∙ e in
-    (is.numbering j within).0.new' (i, below, same))
+    (is.numbering j within).0.new' (i, below, same)
+
+order_apart : (graph : List (List ℕ)) (order : List ℕ) → IsOrder graph order → Apart order
+order_apart graph order is = all_apart order (order_once graph order is)
 
 -- the numbers but 0, each one smaller
 abbrev before : ℕ → Option ℕ

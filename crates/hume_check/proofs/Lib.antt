@@ -15,7 +15,9 @@ mod WiresJoin
 mod TypesWritten
 mod PortsWritten
 mod CountsWithin
+mod DataOnce
 mod DataWritten
 mod FirstValues
 mod WiresEnd
 mod FunctionsWithin
+mod SmallParts

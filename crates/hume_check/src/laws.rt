@@ -1,5 +1,5 @@
 //! What stands for a program is one thing, and a program that breaks no rule stands for a core of sound parts.
-ghost use Rattle.std.specs.Prelude.{◌≡◌, ◌≤◌, ℕ, List, length, Some, slice_get};
+ghost use Rattle.std.specs.Prelude.{◌≡◌, ◌≤◌, ℕ, All, List, length, Some, slice_get};
 ghost use Rattle.hume_base.specs.declared.finding.Finding.{Finding};
 ghost use Rattle.hume_base.specs.declared.limits.TheConstants.{MAX_FUNCTIONS, MAX_NODES, MAX_WIRES, MAX_EXCEPTIONS};
 ghost use Rattle.hume_base.specs.Holding.{HoldSmaller};
@@ -14,6 +14,8 @@ ghost use Rattle.hume_model.specs.declared.core_tree.Core.{Core};
 ghost use Rattle.hume_model.specs.OwnExceptions.{HasOwnExceptions};
 ghost use Rattle.hume_model.specs.Calls.{CallsGoDown};
 ghost use Rattle.hume_model.specs.WellFormed.{HasSoundParts};
+ghost use Rattle.hume_base.specs.declared.types.SumDef.{SumDef};
+ghost use Rattle.hume_model.specs.Limits.{IsSmallData, IsSmallException};
 ghost use Rattle.hume_model.specs.TypeLimits.{IsWrittenType};
 ghost use Rattle.hume_model.specs.WireEnds.{HasEnds};
 ghost use Rattle.hume_model.specs.Typing.{FunctionsAreTyped};
@@ -22,6 +24,7 @@ ghost use Rattle.hume_typing.specs.declared.signatures.Signatures.{Signatures};
 ghost use Rattle.hume_check.specs.Declared.{Decls};
 ghost use Rattle.hume_check.specs.SignaturesOf.{AreSignatures};
 ghost use Rattle.hume_check.specs.CoreOf.{IsCoreOf};
+ghost use Rattle.hume_check.specs.OfTokens.{IsOfTokens};
 ghost use Rattle.hume_check.specs.CheckRules.{BreaksCheck, IsFine};
 
 /// A program has one list of data types, exceptions and functions at most.
@@ -84,6 +87,14 @@ pub fn cores_have_few_parts()
     ensures wires { (text : List ℕ) (program : Program) (core : Core) → IsFine program.decls → IsCoreOf text program core → length core.wires ≤ MAX_WIRES }
     ensures exceptions { (text : List ℕ) (program : Program) (core : Core) → IsFine program.decls → IsCoreOf text program core
         → length core.exns ≤ MAX_EXCEPTIONS }
+{}
+
+/// Data types and exceptions of a core are within their limits.
+pub fn types_and_exceptions_are_small()
+    ensures types { (text : List ℕ) (program : Program) (core : Core) → IsFine program.decls → IsFit program → IsOfTokens program → IsCoreOf text program core
+        → (n : ℕ) (sum_type : SumDef) → slice_get core.types.sums n ≡ Some sum_type → IsSmallData core n sum_type }
+    ensures exceptions { (text : List ℕ) (program : Program) (core : Core) → IsFine program.decls → IsFit program → IsOfTokens program
+        → IsCoreOf text program core → All (IsSmallException core.types) core.exns }
 {}
 
 /// What the meaning of an expression rests on: a core of a program that breaks no rule has it.

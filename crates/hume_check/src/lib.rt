@@ -16,6 +16,6 @@ mod laws;
 pub use laws::{
     calls_go_down, cores_are_unique, cores_have_few_parts, cores_have_sound_parts,
     cores_have_their_exceptions, cores_hold_smaller, functions_and_boxes_are_typed,
-    least_broken_rule_is_one, signatures_are_unique, wires_have_their_ends,
-    wires_have_written_types,
+    least_broken_rule_is_one, signatures_are_unique, types_and_exceptions_are_small,
+    wires_have_their_ends, wires_have_written_types,
 };
