@@ -21,3 +21,5 @@ mod FirstValues
 mod WiresEnd
 mod FunctionsWithin
 mod SmallParts
+mod SmallNodes
+mod WordsWithin

@@ -1,7 +1,7 @@
 //! What stands for a program is one thing, and a program that breaks no rule stands for a core of sound parts.
-ghost use Rattle.std.specs.Prelude.{◌≡◌, ◌≤◌, ℕ, All, List, length, Some, slice_get};
+ghost use Rattle.std.specs.Prelude.{◌≡◌, ◌≤◌, ℕ, All, List, length, map, sum, Some, slice_get};
 ghost use Rattle.hume_base.specs.declared.finding.Finding.{Finding};
-ghost use Rattle.hume_base.specs.declared.limits.TheConstants.{MAX_FUNCTIONS, MAX_NODES, MAX_WIRES, MAX_EXCEPTIONS};
+ghost use Rattle.hume_base.specs.declared.limits.TheConstants.{MAX_FUNCTIONS, MAX_NODES, MAX_WIRES, MAX_EXCEPTIONS, MAX_WIRE_WORDS};
 ghost use Rattle.hume_base.specs.Holding.{HoldSmaller};
 ghost use Rattle.hume_base.specs.Least.{IsLeast};
 ghost use Rattle.hume_base.specs.Sizes.{HaveTheirSizes};
@@ -15,7 +15,7 @@ ghost use Rattle.hume_model.specs.OwnExceptions.{HasOwnExceptions};
 ghost use Rattle.hume_model.specs.Calls.{CallsGoDown};
 ghost use Rattle.hume_model.specs.WellFormed.{HasSoundParts};
 ghost use Rattle.hume_base.specs.declared.types.SumDef.{SumDef};
-ghost use Rattle.hume_model.specs.Limits.{IsSmallData, IsSmallException};
+ghost use Rattle.hume_model.specs.Limits.{IsSmallData, IsSmallException, wire_words};
 ghost use Rattle.hume_model.specs.TypeLimits.{IsWrittenType};
 ghost use Rattle.hume_model.specs.WireEnds.{HasEnds};
 ghost use Rattle.hume_model.specs.Typing.{FunctionsAreTyped};
@@ -79,7 +79,7 @@ pub fn wires_have_their_ends()
         → (n : ℕ) (wire : WireC) → slice_get core.wires n ≡ Some wire → HasEnds core wire }
 {}
 
-/// A core has no more functions, nodes, wires and exceptions than are allowed.
+/// A core has no more functions, nodes, wires and exceptions than are allowed, and no more words on its wires.
 pub fn cores_have_few_parts()
     ensures functions { (text : List ℕ) (program : Program) (core : Core) → IsFine program.decls → IsCoreOf text program core
         → length core.funs ≤ MAX_FUNCTIONS }
@@ -87,6 +87,8 @@ pub fn cores_have_few_parts()
     ensures wires { (text : List ℕ) (program : Program) (core : Core) → IsFine program.decls → IsCoreOf text program core → length core.wires ≤ MAX_WIRES }
     ensures exceptions { (text : List ℕ) (program : Program) (core : Core) → IsFine program.decls → IsCoreOf text program core
         → length core.exns ≤ MAX_EXCEPTIONS }
+    ensures words { (text : List ℕ) (program : Program) (core : Core) → IsFine program.decls → IsCoreOf text program core
+        → sum (map (wire_words core) core.wires) ≤ MAX_WIRE_WORDS }
 {}
 
 /// Data types and exceptions of a core are within their limits.
