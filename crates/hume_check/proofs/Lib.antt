@@ -23,3 +23,9 @@ mod FunctionsWithin
 mod SmallParts
 mod SmallNodes
 mod WordsWithin
+mod PatternsWritten
+mod FormsWritten
+mod ExpressionsWritten
+mod ResultsWritten
+mod DeclarationsWritten
+mod WellFormed

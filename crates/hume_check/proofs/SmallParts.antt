@@ -69,7 +69,7 @@ leb_false most n h = elim (cases_lt most n) [
   | inr le ↦ le
 ]
 
-last : {A : Type 0} (xs : List A) (y : A) → slice_get (xs ++ y ∷ []) (length xs) ≡ Some y
+pub last : {A : Type 0} (xs : List A) (y : A) → slice_get (xs ++ y ∷ []) (length xs) ≡ Some y
 last [] y = refl
 last (x ∷ xs) y = last xs y
 
@@ -113,9 +113,6 @@ module _ (text : List ℕ) (program : Program) (core : Core) (fine : IsFine prog
     refl,
     record { decl = d; at = there; holds = or_right (is_full_for (tally_of (take n program.decls)) d.1) (has_many_parts d.1) (sym many) },
   ))))
-
-  abbrev con_fields : List ℕ × List TyExp → List TyExp
-  con_fields con = con.1
 
   small_constructor : (k : ℕ) (sum : SumDef) → slice_get types.sums k ≡ Some sum → (place : ℕ) (con : ConDef) → slice_get sum.cons place ≡ Some con → IsSmallConstructor types con
   small_constructor k sum there place con e =

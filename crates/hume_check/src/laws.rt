@@ -1,5 +1,5 @@
 //! What stands for a program is one thing, and a program that breaks no rule stands for a core of sound parts.
-ghost use Rattle.std.specs.Prelude.{◌≡◌, ◌≤◌, ℕ, All, List, length, map, sum, Some, slice_get};
+ghost use Rattle.std.specs.Prelude.{◌≡◌, ◌≤◌, ℕ, List, length, map, sum, Some, slice_get};
 ghost use Rattle.hume_base.specs.declared.finding.Finding.{Finding};
 ghost use Rattle.hume_base.specs.declared.limits.TheConstants.{MAX_FUNCTIONS, MAX_NODES, MAX_WIRES, MAX_EXCEPTIONS, MAX_WIRE_WORDS};
 ghost use Rattle.hume_base.specs.Holding.{HoldSmaller};
@@ -13,9 +13,8 @@ ghost use Rattle.hume_model.specs.declared.core_tree.WireC.{WireC};
 ghost use Rattle.hume_model.specs.declared.core_tree.Core.{Core};
 ghost use Rattle.hume_model.specs.OwnExceptions.{HasOwnExceptions};
 ghost use Rattle.hume_model.specs.Calls.{CallsGoDown};
-ghost use Rattle.hume_model.specs.WellFormed.{HasSoundParts};
-ghost use Rattle.hume_base.specs.declared.types.SumDef.{SumDef};
-ghost use Rattle.hume_model.specs.Limits.{IsSmallData, IsSmallException, wire_words};
+ghost use Rattle.hume_model.specs.WellFormed.{HasSoundParts, IsWellFormed};
+ghost use Rattle.hume_model.specs.Limits.{wire_words};
 ghost use Rattle.hume_model.specs.TypeLimits.{IsWrittenType};
 ghost use Rattle.hume_model.specs.WireEnds.{HasEnds};
 ghost use Rattle.hume_model.specs.Typing.{FunctionsAreTyped};
@@ -91,15 +90,13 @@ pub fn cores_have_few_parts()
         → sum (map (wire_words core) core.wires) ≤ MAX_WIRE_WORDS }
 {}
 
-/// Data types and exceptions of a core are within their limits.
-pub fn types_and_exceptions_are_small()
-    ensures types { (text : List ℕ) (program : Program) (core : Core) → IsFine program.decls → IsFit program → IsOfTokens program → IsCoreOf text program core
-        → (n : ℕ) (sum_type : SumDef) → slice_get core.types.sums n ≡ Some sum_type → IsSmallData core n sum_type }
-    ensures exceptions { (text : List ℕ) (program : Program) (core : Core) → IsFine program.decls → IsFit program → IsOfTokens program
-        → IsCoreOf text program core → All (IsSmallException core.types) core.exns }
-{}
-
 /// What the meaning of an expression rests on: a core of a program that breaks no rule has it.
 pub fn cores_have_sound_parts()
     ensures { (text : List ℕ) (program : Program) (core : Core) → IsFine program.decls → IsCoreOf text program core → HasSoundParts core }
+{}
+
+/// The core of a program that breaks no rule is well-formed, if the program is one of the grammar that tokens make.
+pub fn cores_are_well_formed()
+    ensures { (text : List ℕ) (program : Program) (core : Core) → IsFine program.decls → IsFit program → IsOfTokens program → IsCoreOf text program core
+        → IsWellFormed core }
 {}
