@@ -63,7 +63,7 @@ one_too_many test most (d ∷ decls) h = by (test d.1) refl most h (λ m lt. one
         let full : most ≤ how_many test (take r.number decls) = r.full in
         record { number = suc r.number; decl = r.decl; there = r.there; is = r.is; full = omega arith }
 
-pub or_first : (a b : Bool) → a ≡ true → (a || b) ≡ true
+or_first : (a b : Bool) → a ≡ true → (a || b) ≡ true
 or_first true b h = refl
 or_first false b h = cc
 

@@ -59,7 +59,8 @@ found_named {A} name_of name (y ∷ ys) n x e h = by (bytes_eq (name_of y) name)
 
 module _ (decls : Decls) (fine : IsFine decls) (types : Types) (p : AreTypes decls types) where
   -- no two declarations are of a data type of one name
-  declared_once : (a b : ℕ) (d e : ℕ × Decl) (x y : DataDecl) → a < b → slice_get decls a ≡ Some d → slice_get decls b ≡ Some e → d.1 ≡ Sum x.0 x.1 → e.1 ≡ Sum y.0 y.1 → x.0 ≡ y.0 → ⊥
+  declared_once : (a b : ℕ) (d e : ℕ × Decl) (x y : DataDecl) → a < b → slice_get decls a ≡ Some d → slice_get decls b ≡ Some e
+      → d.1 ≡ Sum x.0 x.1 → e.1 ≡ Sum y.0 y.1 → x.0 ≡ y.0 → ⊥
   declared_once a b d e x y lt at there is other same =
       let names : types_of d.1 ≡ y.0 ∷ [] = ap types_of is ∙ ap (λ name. name ∷ []) same in
       let again = among_before decls a b d y.0 lt at names in
@@ -68,7 +69,8 @@ module _ (decls : Decls) (fine : IsFine decls) (types : Types) (p : AreTypes dec
       (BreaksCheck.names (BreaksNames.repeats (record { rule = C30; declaration = b })
       (refl, record { decl = (e.0, Sum y.0 y.1); at = here; holds = or_left _ _ (or_left _ _ (or_left _ false again)) })))
 
-  same_place : (j n : ℕ) (x y : DataDecl) → Placed (λ number. given (slice_get decls number) data_of) p.order j x → Placed (λ number. given (slice_get decls number) data_of) p.order n y
+  same_place : (j n : ℕ) (x y : DataDecl) → Placed (λ number. given (slice_get decls number) data_of) p.order j x
+      → Placed (λ number. given (slice_get decls number) data_of) p.order n y
       → x.0 ≡ y.0 → j < n → ⊥
   same_place j n x y at there same lt =
       let a = get_or p.order at.place 0 in
@@ -97,7 +99,8 @@ module _ (decls : Decls) (fine : IsFine decls) (types : Types) (p : AreTypes dec
       ]
 
   -- the data type of a number is the one that its name means
-  pub first_of_name : (n : ℕ) (sum : SumDef) → slice_get types.sums n ≡ Some sum → (found : ℕ × SumDef) × (sum_named sum.name types ≡ Some found) × (found.0 ≡ n)
+  pub first_of_name : (n : ℕ) (sum : SumDef) → slice_get types.sums n ≡ Some sum
+      → (found : ℕ × SumDef) × (sum_named sum.name types ≡ Some found) × (found.0 ≡ n)
   first_of_name n sum there =
       let f = found_named (λ (sum : SumDef). sum.name) sum.name types.sums n sum there refl in
       let le : f.0.0 ≤ n = first_before (λ (sum : SumDef). sum.name) sum.name types.sums n sum there refl f.0.0 f.0.1 f.1 in (

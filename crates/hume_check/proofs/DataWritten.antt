@@ -47,7 +47,8 @@ all_in_places types (x ∷ es) tys h =
 pub contains_at : {A : Type 0} (xs : List A) (n : ℕ) (x : A) → slice_get xs n ≡ Some x → Contains xs x
 contains_at xs n x e = (n, slice_get_within xs n x e, get_or_from_slice_get xs n x x e)
 
-pub contains_flat : {A B : Type 0} (f : A → List B) (xs : List A) (n : ℕ) (x : A) → slice_get xs n ≡ Some x → (b : B) → Contains (f x) b → Contains (flat_map f xs) b
+pub contains_flat : {A B : Type 0} (f : A → List B) (xs : List A) (n : ℕ) (x : A) → slice_get xs n ≡ Some x → (b : B) → Contains (f x) b
+    → Contains (flat_map f xs) b
 contains_flat f [] n x e b c = cc
 contains_flat f (y ∷ ys) zero x e b c =
     subst (λ bs. Contains bs b) (sym (flat_map-cons f y ys)) (Contains-append_left (f y) (flat_map f ys) b (subst (λ z. Contains (f z) b) (sym (some-same _ _ e)) c))
@@ -67,7 +68,8 @@ module _ (text : List ℕ) (program : Program) (core : Core) (fine : IsFine prog
   types = p.signatures.types
 
   -- types that are written in a declaration
-  pub types_written : (n : ℕ) (d : ℕ × Decl) → slice_get program.decls n ≡ Some d → (es : List TyExp) → ((e : TyExp) → Contains es e → Contains (types_in d.1) e)
+  pub types_written : (n : ℕ) (d : ℕ × Decl) → slice_get program.decls n ≡ Some d → (es : List TyExp)
+      → ((e : TyExp) → Contains es e → Contains (types_in d.1) e)
       → Each (TypeFits MAX_DEPTH) es → some_type_miscounts es ≡ false → (tys : List Ty) → all_written types es ≡ Some tys → EachWritten types tys
   types_written n d there es has fits off tys h i ty e =
       let w = from_right (IsWritten types) es tys (all_in_places types es tys h) i ty e in
@@ -96,7 +98,8 @@ module _ (text : List ℕ) (program : Program) (core : Core) (fine : IsFine prog
   abbrev fields : List ℕ × List TyExp → List TyExp
   fields con = con.1
 
-  pub fields_written : (k : ℕ) (sum : SumDef) → slice_get types.sums k ≡ Some sum → (place : ℕ) (con : ConDef) → slice_get sum.cons place ≡ Some con → EachWritten types con.fields
+  pub fields_written : (k : ℕ) (sum : SumDef) → slice_get types.sums k ≡ Some sum → (place : ℕ) (con : ConDef)
+      → slice_get sum.cons place ≡ Some con → EachWritten types con.fields
   fields_written k sum there place con e =
       let d = data_declared k sum there in
       let decl = Sum d.declares.0 d.declares.1 in
@@ -108,7 +111,8 @@ module _ (text : List ℕ) (program : Program) (core : Core) (fine : IsFine prog
       con.fields c.2.fields
 
   -- the fields at any place have types
-  pub fields_are_types : (k : ℕ) (sum : SumDef) → slice_get types.sums k ≡ Some sum → (place : ℕ) → list_all (λ b. b) (map (is_type types) (fields_at sum place)) ≡ true
+  pub fields_are_types : (k : ℕ) (sum : SumDef) → slice_get types.sums k ≡ Some sum → (place : ℕ)
+      → list_all (λ b. b) (map (is_type types) (fields_at sum place)) ≡ true
   fields_are_types k sum there place = by (slice_get sum.cons place) refl
     where
       by : (o : Option ConDef) → slice_get sum.cons place ≡ o → list_all (λ b. b) (map (is_type types) (fields_of o)) ≡ true

@@ -57,8 +57,10 @@ each_alike ps h = sym (by ps) ∙ h
     by (p ∷ ps) = ap (λ b. is_written_pattern p && b) (by ps)
 
 module _ (s : Signatures) (have : HaveTypes s) (numbers : Counts) where
-  equation_written : (signature : Signature) → AreTys s signature.params → IsTy s signature.gives → (count : ℕ) (equation : WrittenEquation) (c : CoredEquation)
-      → IsEquation s signature equation c → EquationFits MAX_DEPTH equation → equation_miscounts numbers count equation ≡ false → is_written_equation s.types c.0 ≡ true
+  equation_written : (signature : Signature) → AreTys s signature.params → IsTy s signature.gives
+      → (count : ℕ) (equation : WrittenEquation) (c : CoredEquation)
+      → IsEquation s signature equation c → EquationFits MAX_DEPTH equation → equation_miscounts numbers count equation ≡ false
+      → is_written_equation s.types c.0 ≡ true
   equation_written signature are gives count equation c h proper off =
       let flags = or_parts (not (length equation.1 == count)) (list_any (pattern_miscounts numbers) equation.1 || miscounts numbers equation.2) off in
       let body = or_parts (list_any (pattern_miscounts numbers) equation.1) (miscounts numbers equation.2) flags.1 in
@@ -66,8 +68,10 @@ module _ (s : Signatures) (have : HaveTypes s) (numbers : Counts) where
       ap (λ (c : CoredEquation). is_written_equation s.types c.0) h.is
       ∙ both _ _ (each_alike _ bound.pats) ((expression_written s have numbers equation.2 MAX_DEPTH 1 proper.1 body.1).checked h.vars signature.gives h.body bound.vars gives h.typed)
 
-  equations_written : (signature : Signature) → AreTys s signature.params → IsTy s signature.gives → (count : ℕ) (equations : List WrittenEquation) (cs : List CoredEquation)
-      → InPlaces (IsEquation s signature) equations cs → Each (EquationFits MAX_DEPTH) equations → list_any (equation_miscounts numbers count) equations ≡ false
+  equations_written : (signature : Signature) → AreTys s signature.params → IsTy s signature.gives
+      → (count : ℕ) (equations : List WrittenEquation) (cs : List CoredEquation)
+      → InPlaces (IsEquation s signature) equations cs → Each (EquationFits MAX_DEPTH) equations
+      → list_any (equation_miscounts numbers count) equations ≡ false
       → list_all (is_written_equation s.types) (map (λ (c : CoredEquation). c.0) cs) ≡ true
   equations_written signature are gives count [] [] h proper off = refl
   equations_written signature are gives count [] (c ∷ cs) h proper off = absurd h
@@ -97,19 +101,22 @@ module _ (s : Signatures) (have : HaveTypes s) (numbers : Counts) where
       both _ _ (rule_written ins outs ins_are outs_are m n x c h.0 proper.0 flags.0) (rules_written ins outs ins_are outs_are m n xs cs h.1 proper.1 flags.1)
 
   -- a variable of what an exception carries has its type
-  layer_typed : (carried : Ty) → IsTy s carried → (layer : Pat-F Pat) (vars : Scope) (bound : Bool) → carried_layer carried layer ≡ Some (vars, bound) → HasTypes s vars
+  layer_typed : (carried : Ty) → IsTy s carried → (layer : Pat-F Pat) (vars : Scope) (bound : Bool)
+      → carried_layer carried layer ≡ Some (vars, bound) → HasTypes s vars
   layer_typed carried is (Pat-F.Name name) vars bound h = subst (λ (r : Scope × Bool). HasTypes s r.0) (some-same ((name, carried) ∷ [], true) (vars, bound) h) (is, tt)
   layer_typed carried is Pat-F.Any vars bound h = subst (λ (r : Scope × Bool). HasTypes s r.0) (some-same ([], false) (vars, bound) h) tt
   layer_typed carried is _ vars bound h = cc
 
-  vars_typed : (carries : Option Ty) → ((t : Ty) → carries ≡ Some t → IsTy s t) → (pat : Option Pat) (vars : Scope) (bound : Bool) → carried_vars carries pat ≡ Some (vars, bound) → HasTypes s vars
+  vars_typed : (carries : Option Ty) → ((t : Ty) → carries ≡ Some t → IsTy s t) → (pat : Option Pat) (vars : Scope) (bound : Bool)
+      → carried_vars carries pat ≡ Some (vars, bound) → HasTypes s vars
   vars_typed None is None vars bound h = subst (λ (r : Scope × Bool). HasTypes s r.0) (some-same ([], false) (vars, bound) h) tt
   vars_typed None is (Some pat) vars bound h = cc
   vars_typed (Some carried) is None vars bound h = cc
   vars_typed (Some carried) is (Some pat) vars bound h = layer_typed carried (is carried refl) (out-Pat pat) vars bound h
 
   handler_written : (outs : List Ty) → AreTys s outs → (n : ℕ) (handler : WrittenHandler) (c : CoredHandler)
-      → IsHandler s outs handler c → HandlerFits MAX_DEPTH handler → handler_miscounts numbers n handler ≡ false → is_written_result s.types c.0.result ≡ true
+      → IsHandler s outs handler c → HandlerFits MAX_DEPTH handler → handler_miscounts numbers n handler ≡ false
+      → is_written_result s.types c.0.result ≡ true
   handler_written outs outs_are n handler c h proper off =
       let flags = or_parts (is_other numbers.exceptions handler.0 (bound_values handler.1)) (result_miscounts numbers n handler.2) off in
       let inner = or_parts (miscounts numbers handler.2) _ flags.1 in
@@ -127,7 +134,8 @@ module _ (s : Signatures) (have : HaveTypes s) (numbers : Counts) where
       let flags = or_parts (handler_miscounts numbers n x) (list_any (handler_miscounts numbers n) xs) off in
       both _ _ (handler_written outs outs_are n x c h.0 proper.0 flags.0) (handlers_written outs outs_are n xs cs h.1 proper.1 flags.1)
 
-ports_types : (s : Signatures) (ports : List PortC) → ((i : ℕ) (port : PortC) → slice_get ports i ≡ Some port → IsWrittenType s.types port.ty) → AreTys s (port_types ports)
+ports_types : (s : Signatures) (ports : List PortC) → ((i : ℕ) (port : PortC) → slice_get ports i ≡ Some port → IsWrittenType s.types port.ty)
+    → AreTys s (port_types ports)
 ports_types s [] all = refl
 ports_types s (port ∷ ports) all = both _ _ (all 0 port refl).parts (ports_types s ports (λ i port e. all (suc i) port e))
 
@@ -145,7 +153,8 @@ module _ (text : List ℕ) (program : Program) (core : Core) (fine : IsFine prog
   signature_is n f there =
       let c = from_right (λ (f : FunctionDecl) (s : Signature). signature_written types f.name f.types ≡ Some s) _ _ p.are.funs.each n f there in
       let d = declared function_of p.are.funs.order program.decls n c.0 c.1 in
-      let at : slice_get program.decls d.0 ≡ Some (d.1.0, Fun c.0.name c.0.types c.0.equations) = d.2 ∙ ap (λ decl. Some (d.1.0, decl)) (function_is d.1 c.0 d.3) in
+      let at : slice_get program.decls d.0 ≡ Some (d.1.0, Fun c.0.name c.0.types c.0.equations) =
+      d.2 ∙ ap (λ decl. Some (d.1.0, decl)) (function_is d.1 c.0 d.3) in
       let parts = signature_parts types c.0.name c.0.types f c.2 in
       subst (EachWritten types) parts.is (signature_types text program core fine fit tokens p d.0 d.1.0 c.0.name c.0.types c.0.equations at parts.all parts.are)
 
@@ -157,7 +166,8 @@ module _ (text : List ℕ) (program : Program) (core : Core) (fine : IsFine prog
     gives = λ n f there. (signature_is n f there (length f.params) f.gives (last f.params f.gives)).parts;
   }
 
-  pub function_written : (k : ℕ) (function : FunC) → slice_get core.funs k ≡ Some function → list_all (is_written_equation types) function.equations ≡ true
+  pub function_written : (k : ℕ) (function : FunC) → slice_get core.funs k ≡ Some function
+      → list_all (is_written_equation types) function.equations ≡ true
   function_written k function there =
       let d = function_declared text program core fine fit tokens p k function there in
       let f = d.f in

@@ -30,7 +30,8 @@ module _ (s : Signatures) (have : HaveTypes s) (counts : Counts) where
   abbrev exps : Exp-F Known → Exp-F Exp
   exps y = map-Exp Known Exp alone y
 
-  all_known : (es : List Known) (depth level : ℕ) → Each (ExpFits MAX_DEPTH depth level) (map alone es) → any_true (map (miscounts counts) (map alone es)) ≡ false
+  all_known : (es : List Known) (depth level : ℕ) → Each (ExpFits MAX_DEPTH depth level) (map alone es)
+      → any_true (map (miscounts counts) (map alone es)) ≡ false
       → AllGood s have (map (typing s) (map alone es))
   all_known [] depth level fits off = tt
   all_known (e ∷ es) depth level fits off =
@@ -43,7 +44,8 @@ module _ (s : Signatures) (have : HaveTypes s) (counts : Counts) where
   abbrev pub counted_arms : List (Pat × Exp) → List (Pat × Bool)
   counted_arms arms = map (λ arm. (arm.0, miscounts counts arm.1)) arms
 
-  arms_known : (arms : List (Pat × Known)) (depth : ℕ) → Each (λ (alternative : Pat × Exp). PatFits MAX_DEPTH 1 alternative.0 × ExpFits MAX_DEPTH depth 1 alternative.1) (expressions arms)
+  arms_known : (arms : List (Pat × Known)) (depth : ℕ)
+      → Each (λ (alternative : Pat × Exp). PatFits MAX_DEPTH 1 alternative.0 × ExpFits MAX_DEPTH depth 1 alternative.1) (expressions arms)
       → list_any (arm_miscounts counts) (counted_arms (expressions arms)) ≡ false
       → AllArmsGood s have (map (arm_with Exp (typing s)) (expressions arms))
   arms_known [] depth fits off = tt
@@ -77,7 +79,8 @@ module _ (s : Signatures) (have : HaveTypes s) (counts : Counts) where
       good_if s have _ _ (b.1 depth 1 fits.1 flags.0) (d.1 depth 1 fits.2 flags.1) _ (a.1 depth 1 fits.0 first.0)
   level (Exp-F.Case a arms) depth fits off =
       let flags = or_parts (miscounts counts a.0) (list_any (arm_miscounts counts) (counted_arms (expressions arms))) off in
-      let one : 1 ≤ length (map (arm_with Exp (typing s)) (expressions arms)) = let l = length-map (expressions arms) (arm_with Exp (typing s)) in let f = fits.1 in omega arith in
+      let one : 1 ≤ length (map (arm_with Exp (typing s)) (expressions arms)) =
+      let l = length-map (expressions arms) (arm_with Exp (typing s)) in let f = fits.1 in omega arith in
       good_case s have _ (a.1 depth 1 fits.0 flags.0) _ (arms_known arms depth fits.2 flags.1) one
   level (Exp-F.Raise x None) depth fits off = good_raise s have x
   level (Exp-F.Raise x (Some a)) depth fits off = good_raise_with s have x _ (a.1 depth 10 fits (or_parts (is_other counts.exceptions x 1) (miscounts counts a.0) off).1)

@@ -161,7 +161,8 @@ module _ (s : Signatures) (have : HaveTypes s) where
       checked = branches test r;
     }
 
-    operation : (o : Op) (t : Ty) (scope : Scope) (left right : Cored) → HasTypes s scope → IsTy s t → a.checked scope t left → b.checked scope t right → Written (Prim o t (left.0 ∷ right.0 ∷ []))
+    operation : (o : Op) (t : Ty) (scope : Scope) (left right : Cored) → HasTypes s scope → IsTy s t → a.checked scope t left
+        → b.checked scope t right → Written (Prim o t (left.0 ∷ right.0 ∷ []))
     operation o t scope left right vars is x y =
         w_prim o t (left.0 ∷ right.0 ∷ []) is (both _ _ (p.checked scope t left vars is x) (both _ true (q.checked scope t right vars is y) refl))
 
@@ -273,7 +274,8 @@ module _ (s : Signatures) (have : HaveTypes s) where
     each : AllWritten (cores cs)
     long : length cs ≡ count
 
-  all_checked : (js : List Judged) → AllGood js → (scope : Scope) (ts : List Ty) (cs : List Cored) → HasTypes s scope → AreTys s ts → AllChecked scope js ts cs → AreChecked (length ts) cs
+  all_checked : (js : List Judged) → AllGood js → (scope : Scope) (ts : List Ty) (cs : List Cored) → HasTypes s scope → AreTys s ts
+      → AllChecked scope js ts cs → AreChecked (length ts) cs
   all_checked [] g scope [] [] vars are h = record { each = refl; long = refl }
   all_checked [] g scope (t ∷ ts) cs vars are h = absurd h
   all_checked [] g scope [] (c ∷ cs) vars are h = absurd h
@@ -290,7 +292,8 @@ module _ (s : Signatures) (have : HaveTypes s) where
     types_long : length ts ≡ count
     long : length cs ≡ count
 
-  all_have : (js : List Judged) → AllGood js → (scope : Scope) (ts : List Ty) (cs : List Cored) → HasTypes s scope → AllHave scope js ts cs → DoHave (length js) ts cs
+  all_have : (js : List Judged) → AllGood js → (scope : Scope) (ts : List Ty) (cs : List Cored) → HasTypes s scope → AllHave scope js ts cs
+      → DoHave (length js) ts cs
   all_have [] g scope [] [] vars h = record { are = refl; each = refl; types_long = refl; long = refl }
   all_have [] g scope (t ∷ ts) cs vars h = absurd h
   all_have [] g scope [] (c ∷ cs) vars h = absurd h
@@ -301,7 +304,8 @@ module _ (s : Signatures) (have : HaveTypes s) where
   all_have (j ∷ js) g scope [] cs vars h = absurd h
   all_have (j ∷ js) g scope (t ∷ ts) [] vars h = absurd h
 
-  each_checked : (js : List Judged) → AllGood js → (scope : Scope) (t : Ty) (cs : List Cored) → HasTypes s scope → IsTy s t → EachChecked scope js t cs → AreChecked (length js) cs
+  each_checked : (js : List Judged) → AllGood js → (scope : Scope) (t : Ty) (cs : List Cored) → HasTypes s scope → IsTy s t
+      → EachChecked scope js t cs → AreChecked (length js) cs
   each_checked [] g scope t [] vars is h = record { each = refl; long = refl }
   each_checked [] g scope t (c ∷ cs) vars is h = absurd h
   each_checked (j ∷ js) g scope t (c ∷ cs) vars is h =
@@ -357,7 +361,8 @@ module _ (s : Signatures) (have : HaveTypes s) where
           shown c (tuple_core h.1) h.4 (tuple h.1 (subst (λ n. is_between 2 MAX_PARTS n ≡ true) (length-map h.0 (is_type types) ∙ sym r.long) hs.0) r.each);
     }
 
-    elements : (scope : Scope) (item t : Ty) (c : Cored) → HasTypes s scope → IsTy s item → is_length (length js) ≡ true → Elements js scope item t c → Written c.0
+    elements : (scope : Scope) (item t : Ty) (c : Cored) → HasTypes s scope → IsTy s item → is_length (length js) ≡ true
+        → Elements js scope item t c → Written c.0
     elements scope item t c vars is few h =
         let r = each_checked js g scope item h.0 vars is h.2 in
         shown c (vector_core h.0) h.3
@@ -395,7 +400,8 @@ module _ (s : Signatures) (have : HaveTypes s) where
     each : list_all (λ (arm : PatC × Bool). is_written_pattern arm.0 && arm.1) (answers (arm_cores cs)) ≡ true
     long : length (answers (arm_cores cs)) ≡ count
 
-  arms_written : (scope : Scope) (u t : Ty) (arms : List Arm) → AllArmsGood arms → HasTypes s scope → IsTy s u → IsTy s t → (cs : List CoredArm) → ArmsChecked s scope u arms t cs → AreArms (length arms) cs
+  arms_written : (scope : Scope) (u t : Ty) (arms : List Arm) → AllArmsGood arms → HasTypes s scope → IsTy s u → IsTy s t → (cs : List CoredArm)
+      → ArmsChecked s scope u arms t cs → AreArms (length arms) cs
   arms_written scope u t [] g vars of is [] h = record { each = refl; long = refl }
   arms_written scope u t [] g vars of is (c ∷ cs) h = absurd h
   arms_written scope u t (arm ∷ arms) g vars of is (c ∷ cs) h =

@@ -35,7 +35,8 @@ all_apart [] h = tt
 all_apart (x ∷ xs) h = (lacks_all x xs (λ j lt e. h 0 (suc j) (omega arith) (omega arith) e), all_apart xs (λ i j lt within e. h (suc i) (suc j) (omega arith) (omega arith) e))
 
 -- an order has each number once
-pub order_once : (graph : List (List ℕ)) (order : List ℕ) → IsOrder graph order → (i j : ℕ) → i < j → j < length order → get_or order i 0 ≡ get_or order j 0 → ⊥
+pub order_once : (graph : List (List ℕ)) (order : List ℕ) → IsOrder graph order → (i j : ℕ) → i < j → j < length order
+    → get_or order i 0 ≡ get_or order j 0 → ⊥
 order_once graph order is i j lt within e =
     let here = get_or order j 0 in
     let below : i < length (take j order) = omega (arith, length-take j order) in
@@ -79,16 +80,19 @@ none_first [] d decls h = refl
 none_first (zero ∷ xs) d decls h = absurd (h.0 refl)
 none_first (suc x ∷ xs) d decls h = ap (cons_option (given (slice_get decls x) function_of)) (none_first xs d decls h.1)
 
-same_more : (o : Option FunctionDecl) (xs ys : List FunctionDecl) (n : ℕ) → length xs ≤ n + length ys → length (cons_option o xs) ≤ n + length (cons_option o ys)
+same_more : (o : Option FunctionDecl) (xs ys : List FunctionDecl) (n : ℕ) → length xs ≤ n + length ys
+    → length (cons_option o xs) ≤ n + length (cons_option o ys)
 same_more None xs ys n le = le
 same_more (Some f) xs ys n le = omega arith
 
-first_more : (xs : List ℕ) (d : ℕ × Decl) (decls : Decls) → Apart xs → length (told xs (d ∷ decls)) ≤ one_if (is_function d.1) + length (told (lowered xs) decls)
+first_more : (xs : List ℕ) (d : ℕ × Decl) (decls : Decls) → Apart xs
+    → length (told xs (d ∷ decls)) ≤ one_if (is_function d.1) + length (told (lowered xs) decls)
 first_more [] d decls h = omega arith
 first_more (zero ∷ xs) d decls h =
     let e : length (told (zero ∷ xs) (d ∷ decls)) ≡ one_if (is_function d.1) + length (told xs (d ∷ decls)) =
     cons_long (function_of d) (is_function d.1) (told xs (d ∷ decls)) (function_none d.0 d.1) (function_some d.0 d.1) in
-    let f : length (told xs (d ∷ decls)) ≡ length (told (lowered xs) decls) = ap (λ (fs : List FunctionDecl). length fs) (none_first xs d decls h.0) in
+    let f : length (told xs (d ∷ decls)) ≡ length (told (lowered xs) decls) =
+    ap (λ (fs : List FunctionDecl). length fs) (none_first xs d decls h.0) in
     omega arith
 first_more (suc x ∷ xs) d decls h =
     same_more (given (slice_get decls x) function_of) (told xs (d ∷ decls)) (told (lowered xs) decls) (one_if (is_function d.1)) (first_more xs d decls h.1)
@@ -103,14 +107,17 @@ told_within xs [] h = let n = none_told xs in omega arith
 told_within xs (d ∷ decls) h =
     let first = first_more xs d decls h in
     let others : length (told (lowered xs) decls) ≤ how_many is_function decls = told_within (lowered xs) decls (apart_lowered xs h) in
-    let e : how_many is_function (d ∷ decls) ≡ one_if (is_function d.1) + how_many is_function decls = one_more is_function d decls (is_function d.1) refl in
+    let e : how_many is_function (d ∷ decls) ≡ one_if (is_function d.1) + how_many is_function decls =
+    one_more is_function d decls (is_function d.1) refl in
     omega arith
 
-full_function : (before : Decls) (decl : Decl) → is_function decl ≡ true → MAX_FUNCTIONS ≤ how_many is_function before → is_full_for (tally_of before) decl ≡ true
+full_function : (before : Decls) (decl : Decl) → is_function decl ≡ true → MAX_FUNCTIONS ≤ how_many is_function before
+    → is_full_for (tally_of before) decl ≡ true
 full_function before (Fun name tys equations) is le = le-leb _ _ le
 full_function before _ is le = cc
 
-pub functions_within : (text : List ℕ) (program : Program) (core : Core) → IsFine program.decls → IsCoreOf text program core → length core.funs ≤ MAX_FUNCTIONS
+pub functions_within : (text : List ℕ) (program : Program) (core : Core) → IsFine program.decls → IsCoreOf text program core
+    → length core.funs ≤ MAX_FUNCTIONS
 functions_within text program core fine p =
     let order = p.are.funs.order in
     let a : length (told order program.decls) ≡ length core.funs = same_long (IsFunctionOf text p.signatures) _ _ p.funs in

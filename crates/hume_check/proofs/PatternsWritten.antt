@@ -29,7 +29,8 @@ use Rattle.hume_typing.proofs.NamesFound.{con_stands}
 use Rattle.hume_check.proofs.TypesWritten.{both}
 
 -- an answer of a pattern's core
-rolled : (x : PatC-F PatC) (p : PatC) → roll-PatC x ≡ p → model.pattern_step (map-PatC PatC Bool is_written_pattern x) ≡ true → is_written_pattern p ≡ true
+rolled : (x : PatC-F PatC) (p : PatC) → roll-PatC x ≡ p → model.pattern_step (map-PatC PatC Bool is_written_pattern x) ≡ true
+    → is_written_pattern p ≡ true
 rolled x p r h = ap is_written_pattern (sym r) ∙ fold-roll-PatC Bool model.pattern_step x ∙ h
 
 module _ (s : Signatures) where
@@ -74,7 +75,8 @@ module _ (s : Signatures) where
     AllWritten [] = Unit {0}
     AllWritten (p ∷ ps) = Written p × AllWritten ps
 
-    all_written : (ps : List (Ty → Option Bound)) → AllWritten ps → (ts : List Ty) (b : Scope × List CoredPat) → AreTys ts → all_bound ps ts ≡ Some b → AreFineBound (length ts) b
+    all_written : (ps : List (Ty → Option Bound)) → AllWritten ps → (ts : List Ty) (b : Scope × List CoredPat) → AreTys ts
+        → all_bound ps ts ≡ Some b → AreFineBound (length ts) b
     all_written [] g [] b are h = subst (AreFineBound 0) (some-same ([], []) b h) (record { vars = tt; pats = refl; long = refl })
     all_written [] g (t ∷ ts) b are h = cc
     all_written (p ∷ ps) g [] b are h = cc
@@ -90,7 +92,8 @@ module _ (s : Signatures) where
           long = ap suc others.long;
         })
 
-    con_written : (o : Option Constructor) → ((con : Constructor) → o ≡ Some con → AreTys con.fields) → (ps : List (Ty → Option Bound)) → AllWritten ps → Written (con_bound o ps)
+    con_written : (o : Option Constructor) → ((con : Constructor) → o ≡ Some con → AreTys con.fields) → (ps : List (Ty → Option Bound))
+        → AllWritten ps → Written (con_bound o ps)
     con_written None found ps g t b is h = cc
     con_written (Some con) found ps g t b is h =
         let k = when-inv (is_named con.sum (out-Ty t)) (given (all_bound ps con.fields) (λ all. Some (all.0, (Con con.place (pat_cores all.1), some_pat_too_wide all.1)))) b h in
@@ -101,7 +104,8 @@ module _ (s : Signatures) where
           pat = rolled (PatC-F.Con con.place (pat_cores m.0.1)) _ (rolls-Con con.place (pat_cores m.0.1)) parts.pats;
         })
 
-    tuple_written : (ps : List (Ty → Option Bound)) → AllWritten ps → (layer : Ty-F Ty) (b : Bound) → type_step (length s.types.sums) (map-Ty Ty Bool (is_type s.types) layer) ≡ true
+    tuple_written : (ps : List (Ty → Option Bound)) → AllWritten ps → (layer : Ty-F Ty) (b : Bound)
+        → type_step (length s.types.sums) (map-Ty Ty Bool (is_type s.types) layer) ≡ true
         → tuple_bound ps layer ≡ Some b → IsFineBound b
     tuple_written ps g (Ty-F.Tuple ts) b is h =
         let k = given-inv (all_bound ps ts) (λ all. Some (all.0, (Tuple (pat_cores all.1), some_pat_too_wide all.1))) b h in
@@ -156,7 +160,8 @@ module _ (s : Signatures) where
     several [] = tt
     several (p ∷ ps) = (pattern_written p, several ps)
 
-    pub patterns_written : (ps : List Pat) (ts : List Ty) (b : Scope × List CoredPat) → AreTys ts → patterns s ps ts ≡ Some b → AreFineBound (length ts) b
+    pub patterns_written : (ps : List Pat) (ts : List Ty) (b : Scope × List CoredPat) → AreTys ts → patterns s ps ts ≡ Some b
+        → AreFineBound (length ts) b
     patterns_written ps ts b are h = all_written (map (pattern s) ps) (several ps) ts b are h
 
     -- positions of a rule
@@ -164,7 +169,8 @@ module _ (s : Signatures) where
       pub vars : HasTypes r.0
       pub pat : is_written_position r.1.0 ≡ true
 
-    position_at : (bound : Option Bound) → ((b : Bound) → bound ≡ Some b → IsFineBound b) → (layer : Pat-F Pat) (r : Scope × CoredPosition) → position_step bound layer ≡ Some r → IsFinePosition r
+    position_at : (bound : Option Bound) → ((b : Bound) → bound ≡ Some b → IsFineBound b) → (layer : Pat-F Pat) (r : Scope × CoredPosition)
+        → position_step bound layer ≡ Some r → IsFinePosition r
     position_at bound fine layer r h = by layer h
       where
         as_built : built bound ≡ Some r → IsFinePosition r
@@ -183,7 +189,8 @@ module _ (s : Signatures) where
       pub vars : HasTypes b.0
       pub pats : list_all is_written_position (map (λ (p : CoredPosition). p.0) b.1) ≡ true
 
-    pub positions_written : (ps : List Pat) (ts : List Ty) (b : Scope × List CoredPosition) → AreTys ts → positions s ps ts ≡ Some b → AreFinePositions b
+    pub positions_written : (ps : List Pat) (ts : List Ty) (b : Scope × List CoredPosition) → AreTys ts → positions s ps ts ≡ Some b
+        → AreFinePositions b
     positions_written [] [] b are h = subst AreFinePositions (some-same ([], []) b h) (record { vars = tt; pats = refl })
     positions_written [] (t ∷ ts) b are h = cc
     positions_written (p ∷ ps) [] b are h = cc

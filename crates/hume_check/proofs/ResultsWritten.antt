@@ -82,7 +82,8 @@ module _ (s : Signatures) (have : HaveTypes s) where
   AllGoodResults [] = Unit {0}
   AllGoodResults (r ∷ rs) = IsGoodResult r × AllGoodResults rs
 
-  all_outs : (rs : List AsResult) → AllGoodResults rs → (scope : Scope) (ts : List Ty) (outs : List CoredOut) → HasTypes s scope → AreTys s ts → AllOutputs scope rs ts outs
+  all_outs : (rs : List AsResult) → AllGoodResults rs → (scope : Scope) (ts : List Ty) (outs : List CoredOut) → HasTypes s scope → AreTys s ts
+      → AllOutputs scope rs ts outs
       → list_all (is_written_if_there s.types) (outs_of outs) ≡ true
   all_outs [] g scope [] [] vars are h = refl
   all_outs [] g scope (t ∷ ts) outs vars are h = absurd h
@@ -104,7 +105,8 @@ module _ (s : Signatures) (have : HaveTypes s) where
     each : list_all (λ (arm : PatC × Bool). is_written_pattern arm.0 && arm.1) (arm_answers (result_arm_cores cs)) ≡ true
     long : length (arm_answers (result_arm_cores cs)) ≡ count
 
-  arms_written : (scope : Scope) (u : Ty) (tys : List Ty) (arms : List ResultArm) → AllGoodArms arms → HasTypes s scope → IsTy s u → AreTys s tys → (cs : List CoredResArm)
+  arms_written : (scope : Scope) (u : Ty) (tys : List Ty) (arms : List ResultArm) → AllGoodArms arms → HasTypes s scope → IsTy s u → AreTys s tys
+      → (cs : List CoredResArm)
       → ArmsResult s scope u arms tys cs → AreResultArms (length arms) cs
   arms_written scope u tys [] g vars of are [] h = record { each = refl; long = refl }
   arms_written scope u tys [] g vars of are (c ∷ cs) h = absurd h
@@ -176,7 +178,8 @@ module _ (s : Signatures) (have : HaveTypes s) where
     abbrev answers : List Known → List Bool
     answers es = map (miscounts counts) (map alone es)
 
-    all_known : (es : List Known) (depth level : ℕ) → Each (ExpFits MAX_DEPTH depth level) (map alone es) → any_true (answers es) ≡ false → AllGoodResults (map (as_result s) (map alone es))
+    all_known : (es : List Known) (depth level : ℕ) → Each (ExpFits MAX_DEPTH depth level) (map alone es) → any_true (answers es) ≡ false
+        → AllGoodResults (map (as_result s) (map alone es))
     all_known [] depth level fits off = tt
     all_known (e ∷ es) depth level fits off =
         let flags = or_parts (miscounts counts e.0) (any_true (answers es)) off in (e.1 depth level fits.0 flags.0, all_known es depth level fits.1 flags.1)
@@ -184,8 +187,10 @@ module _ (s : Signatures) (have : HaveTypes s) where
     abbrev expressions : List (Pat × Known) → List (Pat × Exp)
     expressions arms = map (λ arm. (arm.0, arm.1.0)) arms
 
-    arms_known : (arms : List (Pat × Known)) (depth : ℕ) → Each (λ (alternative : Pat × Exp). PatFits MAX_DEPTH 1 alternative.0 × ExpFits MAX_DEPTH depth 1 alternative.1) (expressions arms)
-        → list_any (arm_miscounts counts) (counted_arms s have counts (expressions arms)) ≡ false → AllGoodArms (map (result_arm_with Exp (as_result s)) (expressions arms))
+    arms_known : (arms : List (Pat × Known)) (depth : ℕ)
+        → Each (λ (alternative : Pat × Exp). PatFits MAX_DEPTH 1 alternative.0 × ExpFits MAX_DEPTH depth 1 alternative.1) (expressions arms)
+        → list_any (arm_miscounts counts) (counted_arms s have counts (expressions arms)) ≡ false
+        → AllGoodArms (map (result_arm_with Exp (as_result s)) (expressions arms))
     arms_known [] depth fits off = tt
     arms_known (arm ∷ arms) depth fits off =
         let flags = or_parts (pattern_miscounts counts arm.0 || miscounts counts arm.1.0) (list_any (arm_miscounts counts) (counted_arms s have counts (expressions arms))) off in
@@ -196,7 +201,8 @@ module _ (s : Signatures) (have : HaveTypes s) where
     part e depth level fits off = expression_written s have counts e depth level fits off
 
     level : (y : Exp-F Known) (depth : ℕ) → ExpParts (TypeFits MAX_DEPTH) (PatFits MAX_DEPTH 1) (ExpFits MAX_DEPTH depth) (exps y)
-        → expression_step counts (map-Exp Exp Bool (miscounts counts) (exps y)) ≡ false → (j : Judged) → IsGood s have j → IsGoodResult (result_step s Exp (λ e. e) (as_result s) j (exps y))
+        → expression_step counts (map-Exp Exp Bool (miscounts counts) (exps y)) ≡ false → (j : Judged) → IsGood s have j
+        → IsGoodResult (result_step s Exp (λ e. e) (as_result s) j (exps y))
     level (Exp-F.Let x a b) depth fits off j w =
         let flags = or_parts (miscounts counts a.0) (miscounts counts b.0) off in
         good_let j w _ (part a.0 depth 1 fits.0 flags.0) x _ (b.1 depth 1 fits.1 flags.1)

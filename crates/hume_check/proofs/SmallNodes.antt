@@ -52,7 +52,8 @@ module _ (text : List ℕ) (program : Program) (core : Core) (fine : IsFine prog
       let flags = or_parts (has_many MAX_OUTPUTS box.outs) (has_many MAX_RULES box.rules) first.1 in
       let ins = same_long (IsPort types) box.ins b.ins box.is.ins in
       let outs = same_long (IsPort types) box.outs b.outs box.is.outs in
-      let cores : length box.rules ≡ length box.is.rule_cores = same_long (IsRule p.signatures box.is.typed.ins box.is.typed.outs) box.rules box.is.rule_cores box.is.typed.rules_have in
+      let cores : length box.rules ≡ length box.is.rule_cores =
+      same_long (IsRule p.signatures box.is.typed.ins box.is.typed.outs) box.rules box.is.rule_cores box.is.typed.rules_have in
       let rules : length box.rules ≡ length b.rules =
       cores ∙ sym (ap (λ (rules : List RuleC). length rules) box.is.rules_are ∙ length-map box.is.rule_cores (λ (c : CoredRule). c.0)) in
       record {

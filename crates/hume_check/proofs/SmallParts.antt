@@ -79,7 +79,8 @@ pub record HasParts (types : Types) (tys : List TyExp) (params : List Ty) (gives
   pub are : all_written types tys ≡ Some all
   pub is : all ≡ params ++ gives ∷ []
 
-pub signature_parts : (types : Types) (name : List ℕ) (tys : List TyExp) (signature : Signature) → signature_written types name tys ≡ Some signature → HasParts types tys signature.params signature.gives
+pub signature_parts : (types : Types) (name : List ℕ) (tys : List TyExp) (signature : Signature)
+    → signature_written types name tys ≡ Some signature → HasParts types tys signature.params signature.gives
 signature_parts types name tys signature h =
     let k = given-inv (all_written types tys) (λ all. given (parted all) (λ p. Some (record { name = name; params = p.0; gives = p.1 }))) signature h in
     let m = given-inv (parted k.0) (λ p. Some (record { name = name; params = p.0; gives = p.1 })) signature k.2 in
@@ -114,7 +115,8 @@ module _ (text : List ℕ) (program : Program) (core : Core) (fine : IsFine prog
     record { decl = d; at = there; holds = or_right (is_full_for (tally_of (take n program.decls)) d.1) (has_many_parts d.1) (sym many) },
   ))))
 
-  small_constructor : (k : ℕ) (sum : SumDef) → slice_get types.sums k ≡ Some sum → (place : ℕ) (con : ConDef) → slice_get sum.cons place ≡ Some con → IsSmallConstructor types con
+  small_constructor : (k : ℕ) (sum : SumDef) → slice_get types.sums k ≡ Some sum → (place : ℕ) (con : ConDef)
+      → slice_get sum.cons place ≡ Some con → IsSmallConstructor types con
   small_constructor k sum there place con e =
       let d = data_declared text program core fine fit p k sum there in
       let decl = Sum d.declares.0 d.declares.1 in
@@ -161,7 +163,8 @@ module _ (text : List ℕ) (program : Program) (core : Core) (fine : IsFine prog
         words = subst (λ t. size_of t (Named n) ≤ MAX_TYPE_WORDS) (sym p.types) (small_words n sum at);
       }
 
-  carried_written : (n : ℕ) (place : ℕ) (name : List ℕ) (e : Option TyExp) → slice_get program.decls n ≡ Some (place, Exn name e) → (carried : Option Ty) → Carries types e carried
+  carried_written : (n : ℕ) (place : ℕ) (name : List ℕ) (e : Option TyExp) → slice_get program.decls n ≡ Some (place, Exn name e)
+      → (carried : Option Ty) → Carries types e carried
       → (ty : Ty) → carried ≡ Some ty → IsWrittenType types ty
   carried_written n place name None there carried h ty q = absurd (not_some ty (sym h ∙ q))
   carried_written n place name (Some e) there carried h ty q =
@@ -174,7 +177,8 @@ module _ (text : List ℕ) (program : Program) (core : Core) (fine : IsFine prog
   small_declared n exn there =
       let c = from_right (IsException types) _ _ p.are.exns.each n exn there in
       let d = source exception_of program.decls n c.0 c.1 in
-      let at : slice_get program.decls d.0 ≡ Some (d.1.0, Exn c.0.0 c.0.1) = d.2 ∙ ap (λ decl. Some (d.1.0, decl)) (exception_here d.1.0 d.1.1 c.0 d.3) in
+      let at : slice_get program.decls d.0 ≡ Some (d.1.0, Exn c.0.0 c.0.1) =
+      d.2 ∙ ap (λ decl. Some (d.1.0, decl)) (exception_here d.1.0 d.1.1 c.0 d.3) in
       record {
         name = subst IsName (sym c.2.name) (named d.0 (d.1.0, Exn c.0.0 c.0.1) at);
         carries = carried_written d.0 d.1.0 c.0.0 c.0.1 at exn.carries c.2.carries;
@@ -200,14 +204,16 @@ module _ (text : List ℕ) (program : Program) (core : Core) (fine : IsFine prog
       let d = declared function_of p.are.funs.order program.decls k c.0 c.1 in
       record { number = d.0; f = c.0; place = d.1.0; there = d.2 ∙ ap (λ decl. Some (d.1.0, decl)) (function_is d.1 c.0 d.3); is = c.2 }
 
-  pub signature_types : (number place : ℕ) (name : List ℕ) (tys : List TyExp) (equations : List WrittenEquation) → slice_get program.decls number ≡ Some (place, Fun name tys equations)
+  pub signature_types : (number place : ℕ) (name : List ℕ) (tys : List TyExp) (equations : List WrittenEquation)
+      → slice_get program.decls number ≡ Some (place, Fun name tys equations)
       → (all : List Ty) → all_written types tys ≡ Some all → EachWritten types all
   signature_types number place name tys equations there all is =
       let decl = Fun name tys equations in
       types_written text program core fine fit p number (place, decl) there tys (λ e has. Contains-append_left tys _ e has)
       (fits number (place, decl) there).1 (or_parts (some_type_miscounts tys) _ (counts text program core fine fit p number (place, decl) there)).0 all is
 
-  small_function : (k : ℕ) (function : FunC) → slice_get core.funs k ≡ Some function → list_all (is_written_equation types) function.equations ≡ true → IsSmallFunction types function
+  small_function : (k : ℕ) (function : FunC) → slice_get core.funs k ≡ Some function
+      → list_all (is_written_equation types) function.equations ≡ true → IsSmallFunction types function
   small_function k function there equations =
       let d = function_declared k function there in
       let f = d.f in
@@ -221,7 +227,8 @@ module _ (text : List ℕ) (program : Program) (core : Core) (fine : IsFine prog
       let most : parameters f.types ≤ MAX_PARAMETERS = leb_false MAX_PARAMETERS (parameters f.types) (few_parts d.number (d.place, decl) d.there) in
       let some : 1 ≤ length f.equations = (fits d.number (d.place, decl) d.there).2.0 in
       let cores : length f.equations ≡ length d.is.cores = same_long (IsEquation p.signatures d.is.typed.signature) f.equations d.is.cores d.is.typed.have in
-      let count : length function.equations ≡ length d.is.cores = ap (λ (es : List EqC). length es) d.is.equations ∙ length-map d.is.cores (λ (c : CoredEquation). c.0) in
+      let count : length function.equations ≡ length d.is.cores =
+      ap (λ (es : List EqC). length es) d.is.equations ∙ length-map d.is.cores (λ (c : CoredEquation). c.0) in
       record {
         name = subst IsName (sym d.is.name) (named d.number (d.place, decl) d.there);
         some_params = omega arith;

@@ -23,14 +23,16 @@ use Rattle.hume_check.proofs.DataWritten.{fields_are_types}
 use Rattle.hume_check.proofs.FirstValues.{constant_value}
 
 -- a first value is one that is written
-initial_written : (between : Bool) (s : Signatures) (ty : Ty) (e : Option Exp) (value : Option Value) (v : Value) → InitialBetween between s ty e value → value ≡ Some v
+initial_written : (between : Bool) (s : Signatures) (ty : Ty) (e : Option Exp) (value : Option Value) (v : Value)
+    → InitialBetween between s ty e value → value ≡ Some v
     → (e : Exp) × (constant s e ty ≡ Some v)
 initial_written true s ty e value v h q = absurd (not_some v (sym h ∙ q))
 initial_written false s ty None value v h q = absurd (not_some v (sym h ∙ q))
 initial_written false s ty (Some e) value v h q = (e, h.1 ∙ sym h.2 ∙ q)
 
 module _ (text : List ℕ) (program : Program) (core : Core) (fine : IsFine program.decls) (fit : IsFit program) (p : IsCoreOf text program core) where
-  initial_value : (n : ℕ) (wire : WireC) → slice_get core.wires n ≡ Some wire → (v : Value) → wire.initial ≡ Some v → is_value core.types wire.ty v ≡ true
+  initial_value : (n : ℕ) (wire : WireC) → slice_get core.wires n ≡ Some wire → (v : Value) → wire.initial ≡ Some v
+      → is_value core.types wire.ty v ≡ true
   initial_value n wire there v q =
       let c = from_right (IsWireOf text p.signatures core.nodes) (wires_in program.decls) core.wires p.wires n wire there in
       let e = initial_written (is_stream c.2.from.node && is_stream c.2.to.node) p.signatures wire.ty c.0.initial wire.initial v c.2.initial q in

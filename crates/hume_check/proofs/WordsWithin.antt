@@ -34,8 +34,10 @@ use Rattle.hume_check.specs.SizeRules.{words_of, words_on}
 use Rattle.hume_check.specs.CoreOf.{IsPort, IsNodeOf, node_name, port_place, output_place, input_place, depth_or_one, IsWireOf, IsCoreOf}
 
 -- what is first of its name on the one side belongs to what is first of it on the other
-first_in_places : {A B : Type 0} (R : A → B → Type 0) (name_of : A → List ℕ) (title : B → List ℕ) → ((x : A) (y : B) → R x y → title y ≡ name_of x) → (name : List ℕ)
-    → (xs : List A) (ys : List B) → InPlaces R xs ys → (n : ℕ) (y : B) → first_named title name ys ≡ Some (n, y) → (x : A) × (first_named name_of name xs ≡ Some (n, x)) × R x y
+first_in_places : {A B : Type 0} (R : A → B → Type 0) (name_of : A → List ℕ) (title : B → List ℕ)
+    → ((x : A) (y : B) → R x y → title y ≡ name_of x) → (name : List ℕ)
+    → (xs : List A) (ys : List B) → InPlaces R xs ys → (n : ℕ) (y : B) → first_named title name ys ≡ Some (n, y)
+    → (x : A) × (first_named name_of name xs ≡ Some (n, x)) × R x y
 first_in_places R name_of title same name [] [] h n y e = cc
 first_in_places R name_of title same name [] (z ∷ ys) h n y e = absurd h
 first_in_places R name_of title same name (x ∷ xs) [] h n y e = absurd h
@@ -46,7 +48,8 @@ first_in_places {A} {B} R name_of title same name (x ∷ xs) (z ∷ ys) h n y e 
     Found : Bool → ℕ → B → Type 0
     Found b n y = (w : A) × ((if b then Some (0, x) else one_further (first_named name_of name xs)) ≡ Some (n, w)) × R w y
 
-    by : (a b : Bool) → a ≡ b → (o : Option (ℕ × B)) → ((m : ℕ) (w : B) → o ≡ Some (m, w) → (v : A) × (first_named name_of name xs ≡ Some (m, v)) × R v w)
+    by : (a b : Bool) → a ≡ b → (o : Option (ℕ × B))
+        → ((m : ℕ) (w : B) → o ≡ Some (m, w) → (v : A) × (first_named name_of name xs ≡ Some (m, v)) × R v w)
         → (if a then Some (0, z) else one_further o) ≡ Some (n, y) → Found b n y
     by true true q o later e =
         let both : (0, z) ≡ (n, y) = some-same _ _ e in
@@ -67,7 +70,8 @@ is_none None = true
 is_none (Some ty) = false
 
 -- the type at a place of a list of ports is the one that is written
-port_agrees : (types : Types) (name : List ℕ) (places : List (List ℕ × TyExp)) (ports : List PortC) → InPlaces (IsPort types) places ports → (n : ℕ) → port_place name ports ≡ Some n
+port_agrees : (types : Types) (name : List ℕ) (places : List (List ℕ × TyExp)) (ports : List PortC) → InPlaces (IsPort types) places ports
+    → (n : ℕ) → port_place name ports ≡ Some n
     → (ty : Ty) × (type_named types (Some name) places ≡ Some ty) × (option_map port_type (slice_get ports n) ≡ Some ty)
 port_agrees types name places ports h n e =
     let k = given-inv (first_named (λ (port : PortC). port.name) name ports) (λ found. Some found.0) n e in
@@ -85,7 +89,8 @@ no_stream : (declared found : Option Ty) (b : BoxC) (ty : Ty) → declared ≡ S
 no_stream declared found b ty p q = record { same = p ∙ sym q; missing = sym (ap is_none q) }
 
 module _ (text : List ℕ) (s : Signatures) where
-  output_agrees : (d : Numbered) (decl : Decl) (node : NodeC) → IsNodeOf text s d decl node → (port : Option (List ℕ)) (place : ℕ) → output_place port node ≡ Some place
+  output_agrees : (d : Numbered) (decl : Decl) (node : NodeC) → IsNodeOf text s d decl node → (port : Option (List ℕ)) (place : ℕ)
+      → output_place port node ≡ Some place
       → EndAgrees (output_of s.types port decl) node (output_type node place)
   output_agrees d (BoxD name ins outs fair rules handlers) node h (Some port) place e =
       let r = port_agrees s.types port outs h.0.outs h.2.outs place (ap (output_place (Some port)) (sym h.1) ∙ e) in
@@ -97,7 +102,8 @@ module _ (text : List ℕ) (s : Signatures) where
       subst (λ node. EndAgrees None node (output_type node place)) (sym h) (record { same = refl; missing = refl })
   output_agrees d _ node h port place e = absurd h
 
-  input_agrees : (d : Numbered) (decl : Decl) (node : NodeC) → IsNodeOf text s d decl node → (port : Option (List ℕ)) (place : ℕ) → input_place port node ≡ Some place
+  input_agrees : (d : Numbered) (decl : Decl) (node : NodeC) → IsNodeOf text s d decl node → (port : Option (List ℕ)) (place : ℕ)
+      → input_place port node ≡ Some place
       → EndAgrees (input_of s.types port decl) node (input_type node place)
   input_agrees d (BoxD name ins outs fair rules handlers) node h (Some port) place e =
       let r = port_agrees s.types port ins h.0.ins h.2.ins place (ap (input_place (Some port)) (sym h.1) ∙ e) in
@@ -115,7 +121,8 @@ module _ (text : List ℕ) (s : Signatures) where
   node_titled d (Stream name false outside) node h = ap node_name h
   node_titled d _ node h = absurd h
 
-words_agree : (types : Types) (a b : Option Ty) (depth : ℕ) → words_of types (or_else a b) depth ≡ (if is_none a && is_none b then 0 else size_of types (type_of_ends a b) * depth)
+words_agree : (types : Types) (a b : Option Ty) (depth : ℕ)
+    → words_of types (or_else a b) depth ≡ (if is_none a && is_none b then 0 else size_of types (type_of_ends a b) * depth)
 words_agree types (Some ty) b depth = refl
 words_agree types None (Some ty) depth = refl
 words_agree types None None depth = refl
@@ -125,7 +132,8 @@ sum_more f x xs = sum-map f (x ∷ xs) ∙ sum_by-cons f x xs ∙ ap (λ n. f x 
 
 -- a sum that isn't passed at any place isn't passed
 sum_within : {A : Type 0} (f : A → ℕ) (most : ℕ) (xs : List A) (so_far : ℕ) → so_far ≤ most
-    → ((n : ℕ) (x : A) → slice_get xs n ≡ Some x → so_far + sum (map f (take n xs)) ≤ most → most < so_far + sum (map f (take n xs)) + f x → ⊥) → so_far + sum (map f xs) ≤ most
+    → ((n : ℕ) (x : A) → slice_get xs n ≡ Some x → so_far + sum (map f (take n xs)) ≤ most → most < so_far + sum (map f (take n xs)) + f x → ⊥)
+    → so_far + sum (map f xs) ≤ most
 sum_within f most [] so_far le never = omega arith
 sum_within f most (x ∷ xs) so_far le never = elim (cases_lt most (so_far + f x)) [
   | inl lt ↦ absurd (never 0 x refl (omega arith) (omega arith))
@@ -161,8 +169,10 @@ module _ (text : List ℕ) (program : Program) (core : Core) (fine : IsFine prog
       let into = input_agrees text p.signatures to.0 to.0.decl is.to.node to.2 w.to.1 wire.to_port is.to.at in
       let a = output_type is.from.node wire.from_port in
       let b = input_type is.to.node wire.to_port in
-      let first : given (node_named w.from.0 program.decls) (output_of types w.from.1) ≡ a = given-at (node_named w.from.0 program.decls) (output_of types w.from.1) from.0.decl from.1 ∙ out.same in
-      let second : given (node_named w.to.0 program.decls) (input_of types w.to.1) ≡ b = given-at (node_named w.to.0 program.decls) (input_of types w.to.1) to.0.decl to.1 ∙ into.same in
+      let first : given (node_named w.from.0 program.decls) (output_of types w.from.1) ≡ a =
+      given-at (node_named w.from.0 program.decls) (output_of types w.from.1) from.0.decl from.1 ∙ out.same in
+      let second : given (node_named w.to.0 program.decls) (input_of types w.to.1) ≡ b =
+      given-at (node_named w.to.0 program.decls) (input_of types w.to.1) to.0.decl to.1 ∙ into.same in
       let type : wire_type types program.decls w ≡ or_else a b = λ i. or_else (first i) (second i) in
       let starts : is_stream_there (slice_get core.nodes wire.from) ≡ is_none a =
       ap is_stream_there (first_stands node_name w.from.0 core.nodes wire.from is.from.node is.from.found) ∙ out.missing in
@@ -172,7 +182,8 @@ module _ (text : List ℕ) (program : Program) (core : Core) (fine : IsFine prog
       λ i. if starts i && ends i then 0 else size_of (p.types i) (is.ty i) * is.depth i in
       same ∙ sym (words_agree types a b (depth_or_one w.depth)) ∙ ap (λ ty. words_of types ty (depth_or_one w.depth)) (sym type)
 
-  wires_agree : (ws : List WireDecl) (wires : List WireC) → InPlaces (IsWireOf text p.signatures core.nodes) ws wires → map (wire_words core) wires ≡ map (words_on types program.decls) ws
+  wires_agree : (ws : List WireDecl) (wires : List WireC) → InPlaces (IsWireOf text p.signatures core.nodes) ws wires
+      → map (wire_words core) wires ≡ map (words_on types program.decls) ws
   wires_agree [] [] h = refl
   wires_agree [] (wire ∷ wires) h = absurd h
   wires_agree (w ∷ ws) [] h = absurd h
