@@ -28,11 +28,11 @@ use Rattle.hume_check.proofs.Stands.{from_right}
 use Rattle.hume_check.proofs.OrderedPlaces.{first_has_name}
 use Rattle.hume_check.proofs.CoreTyped.{box_declared, boxes_typed}
 
-or_left : (a b : Bool) → a ≡ true → (a || b) ≡ true
+pub or_left : (a b : Bool) → a ≡ true → (a || b) ≡ true
 or_left true b h = refl
 or_left false b h = cc
 
-or_right : (a b : Bool) → b ≡ true → (a || b) ≡ true
+pub or_right : (a b : Bool) → b ≡ true → (a || b) ≡ true
 or_right true b h = refl
 or_right false b h = h
 

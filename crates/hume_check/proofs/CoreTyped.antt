@@ -43,7 +43,7 @@ pub not_so : (b : Bool) → (true ≡ b → ⊥) → b ≡ false
 not_so true h = absurd (h refl)
 not_so false h = refl
 
-ports_are : (types : Types) (places : List (List ℕ × TyExp)) (ports : List PortC) → InPlaces (IsPort types) places ports → ports_written types places ≡ Some (port_types ports)
+pub ports_are : (types : Types) (places : List (List ℕ × TyExp)) (ports : List PortC) → InPlaces (IsPort types) places ports → ports_written types places ≡ Some (port_types ports)
 ports_are types [] [] h = refl
 ports_are types [] (port ∷ ports) h = absurd h
 ports_are types (place ∷ places) [] h = absurd h

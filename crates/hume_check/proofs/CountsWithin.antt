@@ -18,13 +18,13 @@ use Rattle.hume_check.specs.CheckRules.{IsFine, BreaksCheck, BreaksLimits}
 use Rattle.hume_check.specs.SignaturesOf.{IsException}
 use Rattle.hume_check.specs.CoreOf.{IsNodeOf, IsWireOf, IsCoreOf}
 
-same_long : {A B : Type 0} (R : A → B → Type 0) (xs : List A) (ys : List B) → InPlaces R xs ys → length xs ≡ length ys
+pub same_long : {A B : Type 0} (R : A → B → Type 0) (xs : List A) (ys : List B) → InPlaces R xs ys → length xs ≡ length ys
 same_long R [] [] h = refl
 same_long R [] (y ∷ ys) h = absurd h
 same_long R (x ∷ xs) [] h = absurd h
 same_long R (x ∷ xs) (y ∷ ys) h = ap suc (same_long R xs ys h.1)
 
-abbrev one_if : Bool → ℕ
+abbrev pub one_if : Bool → ℕ
 one_if true = 1
 one_if false = 0
 
@@ -32,7 +32,7 @@ as_number : (b : Bool) → cond b 1 0 ≡ one_if b
 as_number true = refl
 as_number false = refl
 
-one_more : (test : Decl → Bool) (d : ℕ × Decl) (decls : Decls) (b : Bool) → test d.1 ≡ b → how_many test (d ∷ decls) ≡ one_if b + how_many test decls
+pub one_more : (test : Decl → Bool) (d : ℕ × Decl) (decls : Decls) (b : Bool) → test d.1 ≡ b → how_many test (d ∷ decls) ≡ one_if b + how_many test decls
 one_more test d decls b q = sum_by-cons (λ (d : ℕ × Decl). cond (test d.1) 1 0) d decls ∙ ap (λ n. n + how_many test decls) (as_number (test d.1) ∙ ap one_if q)
 
 -- one of so many that the ones before it are as many as there may be
@@ -68,7 +68,7 @@ or_first true b h = refl
 or_first false b h = cc
 
 -- none is one too many
-within : (decls : Decls) → IsFine decls → (test : Decl → Bool) (most : ℕ)
+pub within : (decls : Decls) → IsFine decls → (test : Decl → Bool) (most : ℕ)
     → ((before : Decls) (decl : Decl) → test decl ≡ true → most ≤ how_many test before → is_full_for (tally_of before) decl ≡ true) → how_many test decls ≤ most
 within decls fine test most full = elim (cases_lt most (how_many test decls)) [
   | inl lt ↦ absurd (
@@ -97,7 +97,7 @@ full_exception : (before : Decls) (decl : Decl) → is_exception decl ≡ true �
 full_exception before (Exn name ty) is le = le-leb _ _ le
 full_exception before _ is le = cc
 
-cons_long : {A : Type 0} (o : Option A) (b : Bool) (xs : List A) → (o ≡ None → b ≡ false) → ((x : A) → o ≡ Some x → b ≡ true) → length (cons_option o xs) ≡ one_if b + length xs
+pub cons_long : {A : Type 0} (o : Option A) (b : Bool) (xs : List A) → (o ≡ None → b ≡ false) → ((x : A) → o ≡ Some x → b ≡ true) → length (cons_option o xs) ≡ one_if b + length xs
 cons_long None b xs p q = let e : one_if b ≡ 0 = ap one_if (p refl) in omega arith
 cons_long (Some x) b xs p q = let e : one_if b ≡ 1 = ap one_if (q x refl) in omega arith
 

@@ -15,3 +15,17 @@ mod WiresJoin
 mod TypesWritten
 mod PortsWritten
 mod CountsWithin
+mod DataOnce
+mod DataWritten
+mod FirstValues
+mod WiresEnd
+mod FunctionsWithin
+mod SmallParts
+mod SmallNodes
+mod WordsWithin
+mod PatternsWritten
+mod FormsWritten
+mod ExpressionsWritten
+mod ResultsWritten
+mod DeclarationsWritten
+mod WellFormed

@@ -45,7 +45,7 @@ each_at P [] h n x e = cc
 each_at P (y ∷ ys) h zero x e = subst P (some-same _ _ e) h.0
 each_at P (y ∷ ys) h (suc n) x e = each_at P ys h.1 n x e
 
-any_at : {A : Type 0} (test : A → Bool) (xs : List A) → list_any test xs ≡ false → (n : ℕ) (x : A) → slice_get xs n ≡ Some x → test x ≡ false
+pub any_at : {A : Type 0} (test : A → Bool) (xs : List A) → list_any test xs ≡ false → (n : ℕ) (x : A) → slice_get xs n ≡ Some x → test x ≡ false
 any_at test [] h n x e = cc
 any_at test (y ∷ ys) h zero x e = ap test (sym (some-same _ _ e)) ∙ (or_parts (test y) (list_any test ys) h).0
 any_at test (y ∷ ys) h (suc n) x e = any_at test ys (or_parts (test y) (list_any test ys) h).1 n x e
@@ -85,7 +85,7 @@ module _ (text : List ℕ) (program : Program) (core : Core) (fine : IsFine prog
       let s = written_shallow types e ty is MAX_DEPTH fits off in
       record { parts = s.parts; depth = s.depth; words = small n d there e has ty is }
 
-  counts : (n : ℕ) (d : ℕ × Decl) → slice_get program.decls n ≡ Some d → declaration_miscounts (counted program.decls) d.1 ≡ false
+  pub counts : (n : ℕ) (d : ℕ × Decl) → slice_get program.decls n ≡ Some d → declaration_miscounts (counted program.decls) d.1 ≡ false
   counts n d there = not_so _ (λ wrong. fine (record { rule = C42; declaration = n })
       (BreaksCheck.counts (BreaksCounts.miscounts (refl, record { decl = d; at = there; holds = sym wrong }))))
 

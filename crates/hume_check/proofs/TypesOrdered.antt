@@ -117,7 +117,7 @@ module _ (types : Types) (bound : ℕ) where
       let others = constructors_hold ds cons h.1 (below_right (types_mentions d.1) _ below) in
       rw (first, others) refl
 
-data_here : (p : ℕ) (decl : Decl) (d : DataDecl) → data_of (p, decl) ≡ Some d → decl ≡ Sum d.0 d.1
+pub data_here : (p : ℕ) (decl : Decl) (d : DataDecl) → data_of (p, decl) ≡ Some d → decl ≡ Sum d.0 d.1
 data_here p (Sum name cons) d h = ap (λ (d : DataDecl). Sum d.0 d.1) (some-same (name, cons) d h)
 data_here p _ d h = cc
 

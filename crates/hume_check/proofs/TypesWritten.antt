@@ -24,7 +24,7 @@ use Rattle.hume_typing.specs.WrittenTypes.{is_width, is_length, all_there, writt
 use Rattle.hume_typing.proofs.Maybe.{some-same, given-inv, when-inv}
 use Rattle.hume_typing.proofs.NamesFound.{first_stands}
 
-both : (a b : Bool) → a ≡ true → b ≡ true → (a && b) ≡ true
+pub both : (a b : Bool) → a ≡ true → b ≡ true → (a && b) ≡ true
 both true b p q = q
 both false b p q = cc
 

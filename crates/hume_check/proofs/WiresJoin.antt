@@ -18,6 +18,7 @@ use Rattle.hume_model.specs.declared.core_tree.NodeC.TheVariants.{Rules, From, T
 use Rattle.hume_model.specs.declared.core_tree.WireC.{WireC}
 use Rattle.hume_model.specs.declared.core_tree.Core.{Core}
 use Rattle.hume_model.specs.Wiring.{inputs_of, outputs_of}
+use Rattle.hume_model.specs.WireEnds.{is_stream, output_type, input_type, type_of_ends}
 use Rattle.hume_typing.specs.Signatures.{first_named}
 use Rattle.hume_typing.specs.declared.signatures.Signatures.{Signatures}
 use Rattle.hume_typing.proofs.Maybe.{some-same, given-inv}
@@ -25,10 +26,23 @@ use Rattle.hume_typing.proofs.NamesFound.{first_stands}
 use Rattle.hume_typing.proofs.LiteralTypes.{unnegated}
 use Rattle.hume_check.specs.Declared.{Decls, Numbered, numbered_from, WireDecl, wire_of, wires_in}
 use Rattle.hume_check.specs.CheckRules.{IsFine, BreaksCheck, BreaksCounts}
-use Rattle.hume_check.specs.Joined.{JoinsNodes}
 use Rattle.hume_check.specs.CoreOf.{node_name, port_place, output_place, input_place, depth_or_one, InitialBetween, IsWireOf, IsCoreOf}
 use Rattle.hume_check.proofs.Stands.{source, from_right, numbered_at}
 use Rattle.hume_check.proofs.CoreTyped.{not_so}
+
+-- The wire comes from an output of a node and leads to an input of one, and has its type from them. It holds at least one
+-- value, and no more than a wire may; between two streams none from the start.
+pub record JoinsNodes (core : Core) (wire : WireC) : Type 0 where
+  pub producer : NodeC
+  pub consumer : NodeC
+  pub from : slice_get core.nodes wire.from ≡ Some producer
+  pub from_port : wire.from_port < outputs_of producer
+  pub to : slice_get core.nodes wire.to ≡ Some consumer
+  pub to_port : wire.to_port < inputs_of consumer
+  pub ty : wire.ty ≡ type_of_ends (output_type producer wire.from_port) (input_type consumer wire.to_port)
+  pub some_depth : 1 ≤ wire.depth
+  pub depth : wire.depth ≤ MAX_WIRE_DEPTH
+  pub no_initial : is_stream producer ≡ true → is_stream consumer ≡ true → wire.initial ≡ None
 
 abbrev port_name : PortC → List ℕ
 port_name port = port.name

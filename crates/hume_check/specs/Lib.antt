@@ -2,7 +2,7 @@ pub mod CheckRules
 pub mod Constants
 pub mod CoreOf
 pub mod Declared
-pub mod Joined
+pub mod OfTokens
 pub mod SignaturesOf
 pub mod SizeRules
 pub mod TypeRules

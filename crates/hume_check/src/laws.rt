@@ -1,7 +1,7 @@
 //! What stands for a program is one thing, and a program that breaks no rule stands for a core of sound parts.
-ghost use Rattle.std.specs.Prelude.{◌≡◌, ◌≤◌, ℕ, List, length, Some, slice_get};
+ghost use Rattle.std.specs.Prelude.{◌≡◌, ◌≤◌, ℕ, List, length, map, sum, Some, slice_get};
 ghost use Rattle.hume_base.specs.declared.finding.Finding.{Finding};
-ghost use Rattle.hume_base.specs.declared.limits.TheConstants.{MAX_NODES, MAX_WIRES, MAX_EXCEPTIONS};
+ghost use Rattle.hume_base.specs.declared.limits.TheConstants.{MAX_FUNCTIONS, MAX_NODES, MAX_WIRES, MAX_EXCEPTIONS, MAX_WIRE_WORDS};
 ghost use Rattle.hume_base.specs.Holding.{HoldSmaller};
 ghost use Rattle.hume_base.specs.Least.{IsLeast};
 ghost use Rattle.hume_base.specs.Sizes.{HaveTheirSizes};
@@ -13,15 +13,17 @@ ghost use Rattle.hume_model.specs.declared.core_tree.WireC.{WireC};
 ghost use Rattle.hume_model.specs.declared.core_tree.Core.{Core};
 ghost use Rattle.hume_model.specs.OwnExceptions.{HasOwnExceptions};
 ghost use Rattle.hume_model.specs.Calls.{CallsGoDown};
-ghost use Rattle.hume_model.specs.WellFormed.{HasSoundParts};
+ghost use Rattle.hume_model.specs.WellFormed.{HasSoundParts, IsWellFormed};
+ghost use Rattle.hume_model.specs.Limits.{wire_words};
 ghost use Rattle.hume_model.specs.TypeLimits.{IsWrittenType};
+ghost use Rattle.hume_model.specs.WireEnds.{HasEnds};
 ghost use Rattle.hume_model.specs.Typing.{FunctionsAreTyped};
 ghost use Rattle.hume_model.specs.BoxTyping.{BoxHasFrame, BoxIsTyped};
 ghost use Rattle.hume_typing.specs.declared.signatures.Signatures.{Signatures};
 ghost use Rattle.hume_check.specs.Declared.{Decls};
 ghost use Rattle.hume_check.specs.SignaturesOf.{AreSignatures};
 ghost use Rattle.hume_check.specs.CoreOf.{IsCoreOf};
-ghost use Rattle.hume_check.specs.Joined.{JoinsNodes};
+ghost use Rattle.hume_check.specs.OfTokens.{IsOfTokens};
 ghost use Rattle.hume_check.specs.CheckRules.{BreaksCheck, IsFine};
 
 /// A program has one list of data types, exceptions and functions at most.
@@ -64,27 +66,37 @@ pub fn calls_go_down()
     ensures { (text : List ℕ) (program : Program) (core : Core) → IsFine program.decls → IsCoreOf text program core → CallsGoDown core }
 {}
 
-/// Wires of a core join its nodes.
-pub fn wires_join_nodes()
-    ensures { (text : List ℕ) (program : Program) (core : Core) → IsFine program.decls → IsCoreOf text program core
-        → (n : ℕ) (wire : WireC) → slice_get core.wires n ≡ Some wire → JoinsNodes core wire }
-{}
-
 /// Where no type is deeper than the grammar lets it be, wires have types that a source may write.
 pub fn wires_have_written_types()
     ensures { (text : List ℕ) (program : Program) (core : Core) → IsFine program.decls → IsFit program → IsCoreOf text program core
         → (n : ℕ) (wire : WireC) → slice_get core.wires n ≡ Some wire → IsWrittenType core.types wire.ty }
 {}
 
-/// A core has no more nodes, wires and exceptions than are allowed.
+/// Wires of a core have their ends, their types from them, and first values of their types.
+pub fn wires_have_their_ends()
+    ensures { (text : List ℕ) (program : Program) (core : Core) → IsFine program.decls → IsFit program → IsCoreOf text program core
+        → (n : ℕ) (wire : WireC) → slice_get core.wires n ≡ Some wire → HasEnds core wire }
+{}
+
+/// A core has no more functions, nodes, wires and exceptions than are allowed, and no more words on its wires.
 pub fn cores_have_few_parts()
+    ensures functions { (text : List ℕ) (program : Program) (core : Core) → IsFine program.decls → IsCoreOf text program core
+        → length core.funs ≤ MAX_FUNCTIONS }
     ensures nodes { (text : List ℕ) (program : Program) (core : Core) → IsFine program.decls → IsCoreOf text program core → length core.nodes ≤ MAX_NODES }
     ensures wires { (text : List ℕ) (program : Program) (core : Core) → IsFine program.decls → IsCoreOf text program core → length core.wires ≤ MAX_WIRES }
     ensures exceptions { (text : List ℕ) (program : Program) (core : Core) → IsFine program.decls → IsCoreOf text program core
         → length core.exns ≤ MAX_EXCEPTIONS }
+    ensures words { (text : List ℕ) (program : Program) (core : Core) → IsFine program.decls → IsCoreOf text program core
+        → sum (map (wire_words core) core.wires) ≤ MAX_WIRE_WORDS }
 {}
 
 /// What the meaning of an expression rests on: a core of a program that breaks no rule has it.
 pub fn cores_have_sound_parts()
     ensures { (text : List ℕ) (program : Program) (core : Core) → IsFine program.decls → IsCoreOf text program core → HasSoundParts core }
+{}
+
+/// The core of a program that breaks no rule is well-formed, if the program is one of the grammar that tokens make.
+pub fn cores_are_well_formed()
+    ensures { (text : List ℕ) (program : Program) (core : Core) → IsFine program.decls → IsFit program → IsOfTokens program → IsCoreOf text program core
+        → IsWellFormed core }
 {}
