@@ -1,4 +1,5 @@
 pub mod Ranks
+pub mod Fronts
 pub mod Printing
 pub mod ValuePrinting
 pub mod TextLengths
