@@ -1,8 +1,7 @@
 -- What is taken from the front of a line where a token of one kind is wanted.
 use Rattle.std.specs.Prelude.{ℕ, ◌==◌, ◌^◌, min, Bool, true, false, List, [], ◌∷◌, Option, Some, None, if◌then◌else◌}
 use Rattle.std.specs.Str.Parse.{digits_value}
-use Rattle.hume_text.specs.Spelling.{Letter}
-use Rattle.hume_text.specs.Read.{Cut, is_blank, is_digit, is_letter, is_name_byte, front, behind, letter_at}
+use Rattle.hume_text.specs.Read.{is_blank, is_digit, is_letter, is_name_byte, front, behind}
 
 -- the bytes behind this one
 abbrev pub byte_at : ℕ → List ℕ → Option (List ℕ)
