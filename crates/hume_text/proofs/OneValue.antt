@@ -71,7 +71,8 @@ same_cut x y a b e =
 none_some : (x : Piece) (a : List ℕ) → ◌≡◌ {A = Cut} None (Some (x, a)) → ⊥
 none_some x a e = cc
 
-same_tokens : (xs ys : List Piece) (line r s : List ℕ) → CutsAll line xs r → CutsAll line ys s → behind is_blank r ≡ [] → behind is_blank s ≡ [] → xs ≡ ys
+same_tokens : (xs ys : List Piece) (line r s : List ℕ) → CutsAll line xs r → CutsAll line ys s → behind is_blank r ≡ [] → behind is_blank s ≡ []
+    → xs ≡ ys
 same_tokens [] [] line r s h k p q = refl
 same_tokens [] (y ∷ ys) line r s h k p q = absurd (none_some y k.0 (sym (no_token line (ap (behind is_blank) h ∙ p)) ∙ k.1))
 same_tokens (x ∷ xs) [] line r s h k p q = absurd (none_some x h.0 (sym (no_token line (ap (behind is_blank) k ∙ q)) ∙ h.1))
@@ -82,12 +83,15 @@ same_tokens (x ∷ xs) (y ∷ ys) line r s h k p q =
 
 -- the values that pass a test are told apart by the tokens with which a list begins
 abbrev Told : (Value → Bool) → (Value → List Piece) → Type 0
-Told test spelled = (v w : Value) (r s : List Piece) → test v ≡ true → test w ≡ true → tokens (spelled v) ++ r ≡ tokens (spelled w) ++ s → (v ≡ w) × (r ≡ s)
+Told test spelled = (v w : Value) (r s : List Piece) → test v ≡ true → test w ≡ true → tokens (spelled v) ++ r ≡ tokens (spelled w) ++ s
+    → (v ≡ w) × (r ≡ s)
 
 abbrev LayerTold : (Value-F Value → Bool) → (Value-F Value → List Piece) → Type 0
-LayerTold test spelled = (v w : Value-F Value) (r s : List Piece) → test v ≡ true → test w ≡ true → tokens (spelled v) ++ r ≡ tokens (spelled w) ++ s → (v ≡ w) × (r ≡ s)
+LayerTold test spelled = (v w : Value-F Value) (r s : List Piece) → test v ≡ true → test w ≡ true → tokens (spelled v) ++ r ≡ tokens (spelled w) ++ s
+    → (v ≡ w) × (r ≡ s)
 
-by_layer : (test : Value-F Value → Bool) (spelled : Value-F Value → List Piece) → LayerTold test spelled → Told (λ v. test (out-Value v)) (λ v. spelled (out-Value v))
+by_layer : (test : Value-F Value → Bool) (spelled : Value-F Value → List Piece) → LayerTold test spelled
+    → Told (λ v. test (out-Value v)) (λ v. spelled (out-Value v))
 by_layer test spelled told v w r s p q e =
     let same = told (out-Value v) (out-Value w) r s p q e in
     (sym (roll-out-Value v) ∙ ap roll-Value same.0 ∙ roll-out-Value w, same.1)
@@ -95,7 +99,8 @@ by_layer test spelled told v w r s p q e =
 heads : (a b : Piece) (r s : List Piece) → a ∷ r ≡ b ∷ s → (a ≡ b) × (r ≡ s)
 heads a b r s e = (cc, cc)
 
-word_told : (test : ℕ → Bool) (piece : ℕ → Piece) → ((a : ℕ) (ps : List Piece) → tokens (piece a ∷ ps) ≡ piece a ∷ tokens ps) → ((a b : ℕ) → test a ≡ true → test b ≡ true → piece a ≡ piece b → a ≡ b)
+word_told : (test : ℕ → Bool) (piece : ℕ → Piece) → ((a : ℕ) (ps : List Piece) → tokens (piece a ∷ ps) ≡ piece a ∷ tokens ps)
+    → ((a b : ℕ) → test a ≡ true → test b ≡ true → piece a ≡ piece b → a ≡ b)
     → LayerTold (is_word_of test) (λ l. piece (word_in l) ∷ [])
 word_told test piece token one (Value-F.Word a) (Value-F.Word b) r s p q e =
     let h = heads (piece a) (piece b) r s (ap (λ ts. ts ++ r) (sym (token a [])) ∙ e ∙ ap (λ ts. ts ++ s) (token b [])) in
@@ -114,7 +119,8 @@ seps (part ∷ parts) = Comma ∷ (tokens part ++ seps parts)
 
 later_tokens : (parts : List (List Piece)) → tokens (flat_map (λ later. Comma ∷ (Space ∷ later)) parts) ≡ seps parts
 later_tokens [] = refl
-later_tokens (part ∷ parts) = ap (λ ts. Comma ∷ ts) (tokens-append part (flat_map (λ later. Comma ∷ (Space ∷ later)) parts) ∙ ap (λ ts. tokens part ++ ts) (later_tokens parts))
+later_tokens (part ∷ parts) = ap (λ ts. Comma ∷ ts) (tokens-append part (flat_map (λ later. Comma ∷ (Space ∷ later)) parts)
+    ∙ ap (λ ts. tokens part ++ ts) (later_tokens parts))
 
 abbrev first_seps : List (List Piece) → List Piece
 first_seps [] = []
@@ -122,11 +128,13 @@ first_seps (part ∷ parts) = tokens part ++ seps parts
 
 commas_tokens : (parts : List (List Piece)) → tokens (with_commas parts) ≡ first_seps parts
 commas_tokens [] = refl
-commas_tokens (part ∷ parts) = tokens-append part (flat_map (λ later. Comma ∷ (Space ∷ later)) parts) ∙ ap (λ ts. tokens part ++ ts) (later_tokens parts)
+commas_tokens (part ∷ parts) = tokens-append part (flat_map (λ later. Comma ∷ (Space ∷ later)) parts)
+    ∙ ap (λ ts. tokens part ++ ts) (later_tokens parts)
 
 data AllTold : List (Value → Bool) → List (Value → List Piece) → Type 0 where
   none : AllTold [] []
-  one : {t : Value → Bool} {f : Value → List Piece} {ts : List (Value → Bool)} {fs : List (Value → List Piece)} → Told t f → AllTold ts fs → AllTold (t ∷ ts) (f ∷ fs)
+  one : {t : Value → Bool} {f : Value → List Piece} {ts : List (Value → Bool)} {fs : List (Value → List Piece)} → Told t f → AllTold ts fs
+      → AllTold (t ∷ ts) (f ∷ fs)
 
 later_told : {ts : List (Value → Bool)} {fs : List (Value → List Piece)} → AllTold ts fs → (vs ws : List Value) (r s : List Piece)
     → all_pass ts vs ≡ true → all_pass ts ws ≡ true → seps (each_spelled fs vs) ++ r ≡ seps (each_spelled fs ws) ++ s → (vs ≡ ws) × (r ≡ s)
@@ -145,7 +153,8 @@ later_told (one {f = f} {fs = fs} told more) (v ∷ vs) (w ∷ ws) r s p q e =
     (λ i. first.0 i ∷ rest.0 i, rest.1)
 
 parts_told : {ts : List (Value → Bool)} {fs : List (Value → List Piece)} → AllTold ts fs → (vs ws : List Value) (r s : List Piece)
-    → all_pass ts vs ≡ true → all_pass ts ws ≡ true → first_seps (each_spelled fs vs) ++ r ≡ first_seps (each_spelled fs ws) ++ s → (vs ≡ ws) × (r ≡ s)
+    → all_pass ts vs ≡ true → all_pass ts ws ≡ true → first_seps (each_spelled fs vs) ++ r ≡ first_seps (each_spelled fs ws) ++ s
+    → (vs ≡ ws) × (r ≡ s)
 parts_told none [] [] r s p q e = (refl, e)
 parts_told none [] (w ∷ ws) r s p q e = cc
 parts_told none (v ∷ vs) ws r s p q e = cc
@@ -160,16 +169,19 @@ parts_told (one {f = f} {fs = fs} told more) (v ∷ vs) (w ∷ ws) r s p q e =
     (λ i. first.0 i ∷ rest.0 i, rest.1)
 
 -- behind the opening bracket, and up to the closing one
-inside : (closing : Piece) (parts : List (List Piece)) (r : List Piece) → tokens (closing ∷ []) ≡ closing ∷ [] → tokens (with_commas parts ++ closing ∷ []) ++ r ≡ first_seps parts ++ (closing ∷ r)
+inside : (closing : Piece) (parts : List (List Piece)) (r : List Piece) → tokens (closing ∷ []) ≡ closing ∷ []
+    → tokens (with_commas parts ++ closing ∷ []) ++ r ≡ first_seps parts ++ (closing ∷ r)
 inside closing parts r token =
-    ap (λ ts. ts ++ r) (tokens-append (with_commas parts) (closing ∷ []) ∙ ap (λ ts. tokens (with_commas parts) ++ ts) token ∙ ap (λ ts. ts ++ closing ∷ []) (commas_tokens parts))
+    ap (λ ts. ts ++ r) (tokens-append (with_commas parts) (closing ∷ []) ∙ ap (λ ts. tokens (with_commas parts) ++ ts) token
+        ∙ ap (λ ts. ts ++ closing ∷ []) (commas_tokens parts))
     ∙ append_assoc (first_seps parts) (closing ∷ []) r
 
 tuple_told : {ts : List (Value → Bool)} {fs : List (Value → List Piece)} → AllTold ts fs
     → LayerTold (is_tuple_of ts) (λ l. Open ∷ (with_commas (each_spelled fs (parts_in l)) ++ Close ∷ []))
 tuple_told {fs = fs} all (Value-F.Tuple vs) (Value-F.Tuple ws) r s p q e =
     let behind_open = (heads Open Open (tokens (with_commas (each_spelled fs vs) ++ Close ∷ []) ++ r) (tokens (with_commas (each_spelled fs ws) ++ Close ∷ []) ++ s) e).1 in
-    let h = parts_told all vs ws (Close ∷ r) (Close ∷ s) p q (sym (inside Close (each_spelled fs vs) r refl) ∙ behind_open ∙ inside Close (each_spelled fs ws) s refl) in
+    let h = parts_told all vs ws (Close ∷ r) (Close ∷ s) p q (sym (inside Close (each_spelled fs vs) r refl) ∙ behind_open
+        ∙ inside Close (each_spelled fs ws) s refl) in
     (ap Value-F.Tuple h.0, (heads Close Close r s h.1).1)
 tuple_told all (Value-F.Tuple vs) (Value-F.Word b) r s p q e = cc
 tuple_told all (Value-F.Tuple vs) (Value-F.Vector ws) r s p q e = cc
@@ -223,9 +235,11 @@ vector_told n t f told (Value-F.Con d vs) w r s p q e = cc
 
 -- where a value has fields, every value of its type begins with a name
 abbrev Led : (Value → Bool) → (Value → List Piece) → Type 0
-Led test spelled = (v w : Value) → test v ≡ true → test w ≡ true → has_fields (out-Value v) ≡ true → (name : List ℕ) × (ts : List Piece) × (tokens (spelled w) ≡ Name name ∷ ts)
+Led test spelled = (v w : Value) → test v ≡ true → test w ≡ true → has_fields (out-Value v) ≡ true
+    → (name : List ℕ) × (ts : List Piece) × (tokens (spelled w) ≡ Name name ∷ ts)
 
-field_tokens : (b : Bool) (ps : List Piece) → tokens (if b then Space ∷ (Open ∷ (ps ++ Close ∷ [])) else Space ∷ ps) ≡ (if b then Open ∷ (tokens ps ++ Close ∷ []) else tokens ps)
+field_tokens : (b : Bool) (ps : List Piece)
+    → tokens (if b then Space ∷ (Open ∷ (ps ++ Close ∷ [])) else Space ∷ ps) ≡ (if b then Open ∷ (tokens ps ++ Close ∷ []) else tokens ps)
 field_tokens true ps = ap (λ ts. Open ∷ ts) (tokens-append ps (Close ∷ []))
 field_tokens false ps = refl
 
@@ -235,13 +249,15 @@ open_name xs ts ys name e = cc
 field_told : (t : Value → Bool) (f : Value → List Piece) → Told t f → Led t f → Told t (as_field f)
 field_told t f told led v w r s p q e =
     go (has_fields (out-Value v)) (has_fields (out-Value w)) refl refl
-    (ap (λ ts. ts ++ r) (sym (field_tokens (has_fields (out-Value v)) (f v))) ∙ e ∙ ap (λ ts. ts ++ s) (field_tokens (has_fields (out-Value w)) (f w)))
+    (ap (λ ts. ts ++ r) (sym (field_tokens (has_fields (out-Value v)) (f v))) ∙ e
+        ∙ ap (λ ts. ts ++ s) (field_tokens (has_fields (out-Value w)) (f w)))
   where
     go : (b c : Bool) → has_fields (out-Value v) ≡ b → has_fields (out-Value w) ≡ c
         → (if b then Open ∷ (tokens (f v) ++ Close ∷ []) else tokens (f v)) ++ r ≡ (if c then Open ∷ (tokens (f w) ++ Close ∷ []) else tokens (f w)) ++ s → (v ≡ w) × (r ≡ s)
     go true true hv hw e' =
         let behind_open = (heads Open Open ((tokens (f v) ++ Close ∷ []) ++ r) ((tokens (f w) ++ Close ∷ []) ++ s) e').1 in
-        let h = told v w (Close ∷ r) (Close ∷ s) p q (sym (append_assoc (tokens (f v)) (Close ∷ []) r) ∙ behind_open ∙ append_assoc (tokens (f w)) (Close ∷ []) s) in
+        let h = told v w (Close ∷ r) (Close ∷ s) p q (sym (append_assoc (tokens (f v)) (Close ∷ []) r) ∙ behind_open
+            ∙ append_assoc (tokens (f w)) (Close ∷ []) s) in
         (h.0, (heads Close Close r s h.1).1)
     go false false hv hw e' = told v w r s p q e'
     go true false hv hw e' =
@@ -252,7 +268,8 @@ field_told t f told led v w r s p q e =
         absurd (open_name ((tokens (f w) ++ Close ∷ []) ++ s) named.1 r named.0 (sym e' ∙ ap (λ ts. ts ++ r) named.2))
 
 joined_told : {ts : List (Value → Bool)} {fs : List (Value → List Piece)} → AllTold ts fs → (vs ws : List Value) (r s : List Piece)
-    → all_pass ts vs ≡ true → all_pass ts ws ≡ true → tokens (flat_map (λ part. part) (each_spelled fs vs)) ++ r ≡ tokens (flat_map (λ part. part) (each_spelled fs ws)) ++ s → (vs ≡ ws) × (r ≡ s)
+    → all_pass ts vs ≡ true → all_pass ts ws ≡ true
+    → tokens (flat_map (λ part. part) (each_spelled fs vs)) ++ r ≡ tokens (flat_map (λ part. part) (each_spelled fs ws)) ++ s → (vs ≡ ws) × (r ≡ s)
 joined_told none [] [] r s p q e = (refl, e)
 joined_told none [] (w ∷ ws) r s p q e = cc
 joined_told none (v ∷ vs) ws r s p q e = cc
@@ -268,7 +285,8 @@ joined_told (one {f = f} {fs = fs} told more) (v ∷ vs) (w ∷ ws) r s p q e =
     let rest = joined_told more vs ws r s ps.1 qs.1 first.1 in
     (λ i. first.0 i ∷ rest.0 i, rest.1)
 
-all_told : (t : Ty → Value → Bool) (f : Ty → Value → List Piece) → ((ty : Ty) → Told (t ty) (f ty)) → ((ty : Ty) → Led (t ty) (f ty)) → (tys : List Ty) → AllTold (map t tys) (map (λ ty. as_field (f ty)) tys)
+all_told : (t : Ty → Value → Bool) (f : Ty → Value → List Piece) → ((ty : Ty) → Told (t ty) (f ty)) → ((ty : Ty) → Led (t ty) (f ty))
+    → (tys : List Ty) → AllTold (map t tys) (map (λ ty. as_field (f ty)) tys)
 all_told t f told led [] = none
 all_told t f told led (ty ∷ tys) = one (field_told (t ty) (f ty) (told ty) (led ty)) (all_told t f told led tys)
 
@@ -277,7 +295,8 @@ some_con [] c h e = omega arith
 some_con (con ∷ cons) zero h e = cc
 some_con (con ∷ cons) (suc c) h e = some_con cons c (omega arith) e
 
-name_tells : (sum : SumDef) → HasNames sum → (c d : ℕ) → c < length sum.cons → d < length sum.cons → (o u : Option ConDef) → slice_get sum.cons c ≡ o → slice_get sum.cons d ≡ u → name_of o ≡ name_of u → c ≡ d
+name_tells : (sum : SumDef) → HasNames sum → (c d : ℕ) → c < length sum.cons → d < length sum.cons → (o u : Option ConDef) → slice_get sum.cons c ≡ o
+    → slice_get sum.cons d ≡ u → name_of o ≡ name_of u → c ≡ d
 name_tells sum names c d hc hd None u ec ed e = absurd (some_con sum.cons c hc ec)
 name_tells sum names c d hc hd (Some con) None ec ed e = absurd (some_con sum.cons d hd ed)
 name_tells sum names c d hc hd (Some con) (Some other) ec ed e = names.differ c d con other ec ed e
@@ -285,7 +304,8 @@ name_tells sum names c d hc hd (Some con) (Some other) ec ed e = names.differ c 
 same_name : (m n : List ℕ) → Name m ≡ Name n → m ≡ n
 same_name m n e = cc
 
-module _ (t : Ty → Value → Bool) (f : Ty → Value → List Piece) (told : (ty : Ty) → Told (t ty) (f ty)) (led : (ty : Ty) → Led (t ty) (f ty)) (sum : SumDef) (names : HasNames sum) where
+module _ (t : Ty → Value → Bool) (f : Ty → Value → List Piece) (told : (ty : Ty) → Told (t ty) (f ty)) (led : (ty : Ty)
+    → Led (t ty) (f ty)) (sum : SumDef) (names : HasNames sum) where
   abbrev fields : ℕ → List Value → List Piece
   fields c vs = flat_map (λ part. part) (each_spelled (map (λ ty. as_field (f ty)) (fields_at sum c)) vs)
 
@@ -352,7 +372,9 @@ module _ (nt : ℕ → Value → Bool) (ns : ℕ → Value → List Piece) (name
   parts_all [] = none
   parts_all (p ∷ ps) = one p.1 (parts_all ps)
 
-  step_told : (y : Ty-F Part) → Told (value_step nt (map-Ty Ty (Value → Bool) (is_value_with nt) (map-Ty Part Ty of_part y))) (spelling_step ns (map-Ty Ty (Value → List Piece) (spelling_with ns) (map-Ty Part Ty of_part y)))
+  step_told : (y : Ty-F Part) → Told (value_step nt (map-Ty Ty (Value
+      → Bool) (is_value_with nt) (map-Ty Part Ty of_part y))) (spelling_step ns (map-Ty Ty (Value
+      → List Piece) (spelling_with ns) (map-Ty Part Ty of_part y)))
   step_told Ty-F.Bool = by_layer (is_word_of (λ word. nat_lt word 2)) (λ l. Name (bool_name (word_in l)) ∷ []) (word_told (λ word. nat_lt word 2) (λ a. Name (bool_name a)) (λ a ps. refl) bool_one)
   step_told Ty-F.Char = by_layer (is_word_of is_char_word) (λ l. Letter (word_in l) ∷ []) (word_told is_char_word (λ a. Letter a) (λ a ps. refl) (λ a b p q e. cc))
   step_told (Ty-F.Int n) = by_layer (is_word_of (is_int_word n)) (λ l. Number (int_of (word_in l)) ∷ []) (word_told (is_int_word n) (λ a. Number (int_of a)) (λ a ps. refl) (int_one n))
@@ -371,7 +393,8 @@ module _ (nt : ℕ → Value → Bool) (ns : ℕ → Value → List Piece) (name
   abbrev TyLed : Ty → Type 0
   TyLed ty = Led (is_value_with nt ty) (spelling_with ns ty)
 
-  step_led : (y : Ty-F Ty) → Led (value_step nt (map-Ty Ty (Value → Bool) (is_value_with nt) y)) (spelling_step ns (map-Ty Ty (Value → List Piece) (spelling_with ns) y))
+  step_led : (y : Ty-F Ty) → Led (value_step nt (map-Ty Ty (Value → Bool) (is_value_with nt) y)) (spelling_step ns (map-Ty Ty (Value
+      → List Piece) (spelling_with ns) y))
   step_led Ty-F.Bool v w p q h = absurd (no_fields_word _ (out-Value v) p h)
   step_led Ty-F.Char v w p q h = absurd (no_fields_word _ (out-Value v) p h)
   step_led (Ty-F.Int n) v w p q h = absurd (no_fields_word _ (out-Value v) p h)
@@ -386,11 +409,13 @@ module _ (nt : ℕ → Value → Bool) (ns : ℕ → Value → List Piece) (name
   ty_led : (ty : Ty) → TyLed ty
   ty_led ty = subst TyLed (roll-out-Ty ty) (rolled_led (out-Ty ty))
 
-either_told : (b : Bool) (t u : Value → Bool) (f g : Value → List Piece) → Told t f → Told u g → Told (λ v. if b then t v else u v) (λ v. if b then f v else g v)
+either_told : (b : Bool) (t u : Value → Bool) (f g : Value → List Piece) → Told t f → Told u g
+    → Told (λ v. if b then t v else u v) (λ v. if b then f v else g v)
 either_told true t u f g first second = first
 either_told false t u f g first second = second
 
-either_led : (b : Bool) (t u : Value → Bool) (f g : Value → List Piece) → Led t f → Led u g → Led (λ v. if b then t v else u v) (λ v. if b then f v else g v)
+either_led : (b : Bool) (t u : Value → Bool) (f g : Value → List Piece) → Led t f → Led u g
+    → Led (λ v. if b then t v else u v) (λ v. if b then f v else g v)
 either_led true t u f g first second = first
 either_led false t u f g first second = second
 
@@ -405,7 +430,8 @@ named_are_led types zero k = λ v w p q h. cc
 named_are_led types (suc bound) k = either_led (k == bound) _ _ _ _ (sum_led _ _ (slice_get types.sums bound)) (named_are_led types bound k)
 
 module _ (types : Types) (names : HaveNames types) where
-  sum_told : (bound : ℕ) → ((k : ℕ) → Told (is_named_value types bound k) (named_spelling types bound k)) → (o : Option SumDef) → slice_get types.sums bound ≡ o
+  sum_told : (bound : ℕ) → ((k : ℕ) → Told (is_named_value types bound k) (named_spelling types bound k)) → (o : Option SumDef)
+      → slice_get types.sums bound ≡ o
       → Told (is_sum_value (is_value_with (is_named_value types bound)) o) (sum_spelled (spelling_with (named_spelling types bound)) o)
   sum_told bound named None found = λ v w r s p q e. cc
   sum_told bound named (Some sum) found =
@@ -420,7 +446,8 @@ module _ (types : Types) (names : HaveNames types) where
   named_told (suc bound) k = either_told (k == bound) _ _ _ _ (sum_told bound (named_told bound) (slice_get types.sums bound) refl) (named_told bound k)
 
   -- two values with a line as their text are the same
-  pub one_value : (ty : Ty) (line : List ℕ) (v w : Value) → is_value types ty v ≡ true → is_value types ty w ≡ true → IsTextOf types ty line v → IsTextOf types ty line w → v ≡ w
+  pub one_value : (ty : Ty) (line : List ℕ) (v w : Value) → is_value types ty v ≡ true → is_value types ty w ≡ true → IsTextOf types ty line v
+      → IsTextOf types ty line w → v ≡ w
   one_value ty line v w p q x y =
       let all = length types.sums in
       let same : tokens (spelling types ty v) ≡ tokens (spelling types ty w) =

@@ -31,7 +31,8 @@ print-at types (suc bound) number words below = elim (cases_eq number bound) [
 ]
 
 -- a text of one value behind what stands before it, and what comes later
-next-text : (r₀ r₁ r₂ : ℕ) (filled before text later mid last : List ℕ) → r₁ ≡ r₀ → r₂ ≡ r₁ → mid ≡ take r₀ (filled ++ before) → last ≡ take r₁ (mid ++ text)
+next-text : (r₀ r₁ r₂ : ℕ) (filled before text later mid last : List ℕ) → r₁ ≡ r₀ → r₂ ≡ r₁ → mid ≡ take r₀ (filled ++ before)
+    → last ≡ take r₁ (mid ++ text)
     → take r₂ (last ++ later) ≡ take r₀ (filled ++ ((before ++ text) ++ later))
 next-text r₀ r₁ r₂ filled before text later mid last s₁ s₂ e₁ e₂ =
     rw (e₂, e₁, s₂, s₁) (take-more r₀ (take r₀ (filled ++ before) ++ text) later
@@ -41,7 +42,8 @@ next-text r₀ r₁ r₂ filled before text later mid last s₁ s₂ e₁ e₂ =
 
 -- one more of several
 pub several-next : (r₀ r₁ r₂ : ℕ) (filled before mid last words rest : List ℕ) (printer : Printer) (printers others : List Printer) (text left : List ℕ)
-    → printers ≡ printer ∷ others → r₁ ≡ r₀ → r₂ ≡ r₁ → mid ≡ take r₀ (filled ++ before) → last ≡ take r₁ (mid ++ (printer words).0) → rest ≡ (printer words).1
+    → printers ≡ printer ∷ others → r₁ ≡ r₀ → r₂ ≡ r₁ → mid ≡ take r₀ (filled ++ before) → last ≡ take r₁ (mid ++ (printer words).0)
+    → rest ≡ (printer words).1
     → take r₀ (filled ++ (print_several before printers words).0) ≡ text → (print_several before printers words).1 ≡ left
     → (take r₂ (last ++ (print_several (codes ", ") others rest).0) ≡ text) × ((print_several (codes ", ") others rest).1 ≡ left)
 several-next r₀ r₁ r₂ filled before mid last words rest printer printers others text left p s₁ s₂ e₁ e₂ e t l =
@@ -50,11 +52,13 @@ several-next r₀ r₁ r₂ filled before mid last words rest printer printers o
     rw e (next-text r₀ r₁ r₂ filled before (printer words).0 (print_several (codes ", ") others (printer words).1).0 mid last s₁ s₂ e₁ e₂ ∙ t', l')
 
 -- the closing bytes behind several
-pub closed-text : (r₀ r₁ r₂ : ℕ) (old opening first inside last closing all : List ℕ) → r₁ ≡ r₀ → r₂ ≡ r₁ → first ≡ take r₀ (old ++ opening) → take r₂ (last ++ []) ≡ take r₁ (first ++ inside)
+pub closed-text : (r₀ r₁ r₂ : ℕ) (old opening first inside last closing all : List ℕ) → r₁ ≡ r₀ → r₂ ≡ r₁ → first ≡ take r₀ (old ++ opening)
+    → take r₂ (last ++ []) ≡ take r₁ (first ++ inside)
     → all ≡ take r₂ (last ++ closing) → all ≡ take r₀ (old ++ (opening ++ (inside ++ closing)))
 closed-text r₀ r₁ r₂ old opening first inside last closing all s₁ s₂ e₁ e₂ e =
     let same : take r₀ (last ++ []) ≡ take r₀ (take r₀ (old ++ opening) ++ inside) = rw (s₂, s₁, e₁) at e₂ in
-    let cut : take r₀ last ≡ take r₀ ((old ++ opening) ++ inside) = ap (take r₀) (sym (append-nil last)) ∙ same ∙ take-more r₀ (old ++ opening) inside in
+    let cut : take r₀ last ≡ take r₀ ((old ++ opening) ++ inside) = ap (take r₀) (sym (append-nil last)) ∙ same
+        ∙ take-more r₀ (old ++ opening) inside in
     rw (e, s₂, s₁) (sym (take-more r₀ last closing)
     ∙ ap (λ bytes. take r₀ (bytes ++ closing)) cut
     ∙ take-more r₀ ((old ++ opening) ++ inside) closing
@@ -64,10 +68,12 @@ closed-text r₀ r₁ r₂ old opening first inside last closing all s₁ s₂ e
 pub drop-item : {X : Type 0} (xs : List X) (at : ℕ) (x : X) → at < length xs → x ≡ get_or xs at x → drop at xs ≡ x ∷ drop (at + 1) xs
 drop-item xs at x below is = rw (add-one) (drop-cons xs at x below ∙ ap (λ y. y ∷ drop (suc at) xs) (sym is))
 
-one_more : {X : Type 0} (count place : ℕ) (x : X) → place < count → replicate {A = X} (count - place) x ≡ x ∷ replicate {A = X} (count - (place + 1)) x
+one_more : {X : Type 0} (count place : ℕ) (x : X) → place < count
+    → replicate {A = X} (count - place) x ≡ x ∷ replicate {A = X} (count - (place + 1)) x
 one_more {X} count place x below = let step : count - place ≡ suc (count - (place + 1)) = omega arith in rw step refl
 
-pub items-more : (printer : Printer) (count place : ℕ) → place < count → replicate {A = Printer} (count - place) printer ≡ printer ∷ replicate {A = Printer} (count - (place + 1)) printer
+pub items-more : (printer : Printer) (count place : ℕ) → place < count
+    → replicate {A = Printer} (count - place) printer ≡ printer ∷ replicate {A = Printer} (count - (place + 1)) printer
 items-more printer count place below = one_more {X = Printer} count place printer below
 
 pub ruleset printing_steps = (common_steps, the_lemmas, print-past, print-at, rank-falls, some_size, drop_min, take-more)

@@ -26,7 +26,8 @@ pub rank-falls : (types : Types) (bound number : ℕ) (sum : SumDef) → slice_g
 unfolding rank
 rank-falls types bound number sum found below =
     let small : sum_size sum ≤ most sum_size types.sums = member-most sum_size types.sums number sum found in
-    let steps : suc number * (2 + most sum_size types.sums) ≤ bound * (2 + most sum_size types.sums) = mul-le-mul_right (2 + most sum_size types.sums) (omega arith) in
+    let steps : suc number * (2 + most sum_size types.sums) ≤ bound * (2 + most sum_size types.sums) =
+        mul-le-mul_right (2 + most sum_size types.sums) (omega arith) in
     omega arith
 
 pub some_size : (ty : Ty) → 0 < size-Ty ty

@@ -134,18 +134,21 @@ number_next n rest small q =
     let is = decimal_is_IsNumeral n small in
     digits_next (decimal n) rest is.0.0 is.0.1 ∙ digits_taken pos (decimal n) rest is.0.0 is.0.1 q ∙ ap (λ m. Some (Number (pos m), rest)) is.1
 
-minus_next : (n : ℕ) (rest : List ℕ) → suc n < 2 ^ 64 → stops_at is_digit rest ≡ true → next (45 ∷ (decimal (suc n) ++ rest)) ≡ Some (Number (negsuc n), rest)
+minus_next : (n : ℕ) (rest : List ℕ) → suc n < 2 ^ 64 → stops_at is_digit rest ≡ true
+    → next (45 ∷ (decimal (suc n) ++ rest)) ≡ Some (Number (negsuc n), rest)
 minus_next n rest small q =
     let is = decimal_is_IsNumeral (suc n) small in
     digits_taken (λ m. neg_ℤ (pos m)) (decimal (suc n)) rest is.0.0 is.0.1 q ∙ ap (λ m. Some (Number (neg_ℤ (pos m)), rest)) is.1
 
-letter_plain : (a : ℕ) (rest : List ℕ) → (a == 92) ≡ false → (a == 39) ≡ false → (nat_le 32 a && nat_le a 126) ≡ true → letter_at (a ∷ (39 ∷ rest)) ≡ Some (Letter a, rest)
+letter_plain : (a : ℕ) (rest : List ℕ) → (a == 92) ≡ false → (a == 39) ≡ false → (nat_le 32 a && nat_le a 126) ≡ true
+    → letter_at (a ∷ (39 ∷ rest)) ≡ Some (Letter a, rest)
 letter_plain a rest e f p = let ps = and_parts (nat_le 32 a) (nat_le a 126) p in rw (e, ps.0, ps.1, f) refl
 
 letter_next : (a : ℕ) (rest : List ℕ) → is_char_word a ≡ true → letter_at (letter_bytes a ++ (39 ∷ rest)) ≡ Some (Letter a, rest)
 letter_next a rest p = go (a == 10) (a == 9) (a == 92) (a == 39) refl refl refl refl
   where
-    go : (b c d e : Bool) → (a == 10) ≡ b → (a == 9) ≡ c → (a == 92) ≡ d → (a == 39) ≡ e → letter_at (letter_bytes a ++ (39 ∷ rest)) ≡ Some (Letter a, rest)
+    go : (b c d e : Bool) → (a == 10) ≡ b → (a == 9) ≡ c → (a == 92) ≡ d → (a == 39) ≡ e
+        → letter_at (letter_bytes a ++ (39 ∷ rest)) ≡ Some (Letter a, rest)
     go true c d e eb ec ed ee = rw eb (ap (λ x. Some (Letter x, rest)) (sym (eqb-true a 10 eb)))
     go false true d e eb ec ed ee = rw (eb, ec) (ap (λ x. Some (Letter x, rest)) (sym (eqb-true a 9 ec)))
     go false false true e eb ec ed ee = rw (eb, ec, ed) (ap (λ x. Some (Letter x, rest)) (sym (eqb-true a 92 ed)))
@@ -199,7 +202,8 @@ cuts_written (Name name ∷ ps) h = (written ps, name_next name (written ps) h.0
 cuts_written (Number (pos n) ∷ ps) h = (written ps, number_next n (written ps) h.0 (stops_written ps h.1).1, cuts_written ps h.2)
 cuts_written (Number (negsuc n) ∷ ps) h = (written ps, minus_next n (written ps) h.0 (stops_written ps h.1).1, cuts_written ps h.2)
 cuts_written (Letter byte ∷ ps) h =
-    (written ps, ap (λ bytes. letter_at bytes) (append_assoc (letter_bytes byte) (39 ∷ []) (written ps)) ∙ letter_next byte (written ps) h.0, cuts_written ps h.2)
+    (written ps, ap (λ bytes. letter_at bytes) (append_assoc (letter_bytes byte) (39 ∷ []) (written ps))
+        ∙ letter_next byte (written ps) h.0, cuts_written ps h.2)
 
 -- pieces that may stand before any that stop a name
 abbrev Goes : List Piece → Type 0
@@ -237,7 +241,8 @@ fields_go (field ∷ fields) all qs stops laid =
     let more = fields_go fields all.1 qs stops laid in
     rw (append_assoc field (flat_map (λ part. part) fields) qs) (all.0 (flat_map (λ part. part) fields ++ qs) more.1 more.0)
 
-word_goes : (test : ℕ → Bool) (piece : ℕ → Piece) → ((a : ℕ) → test a ≡ true → Goes (piece a ∷ [])) → (l : Value-F Value) → is_word_of test l ≡ true → Goes (piece (word_in l) ∷ [])
+word_goes : (test : ℕ → Bool) (piece : ℕ → Piece) → ((a : ℕ) → test a ≡ true → Goes (piece a ∷ [])) → (l : Value-F Value) → is_word_of test l ≡ true
+    → Goes (piece (word_in l) ∷ [])
 word_goes test piece goes (Value-F.Word a) p = goes a p
 word_goes test piece goes (Value-F.Tuple vs) p = cc
 word_goes test piece goes (Value-F.Vector vs) p = cc
@@ -271,7 +276,8 @@ module _ (nt : ℕ → Value → Bool) (ns : ℕ → Value → List Piece) (name
   abbrev of_part : Part → Ty
   of_part p = p.0
 
-  parts_go : (ps : List Part) (vs : List Value) → list_all (λ keep. keep) (map keeps_limits (map of_part ps)) ≡ true → all_pass (map (is_value_with nt) (map of_part ps)) vs ≡ true
+  parts_go : (ps : List Part) (vs : List Value) → list_all (λ keep. keep) (map keeps_limits (map of_part ps)) ≡ true
+      → all_pass (map (is_value_with nt) (map of_part ps)) vs ≡ true
       → AllByRecursion Goes (each_spelled (map (spelling_with ns) (map of_part ps)) vs)
   parts_go [] [] k p = tt
   parts_go [] (v ∷ vs) k p = cc
@@ -281,11 +287,13 @@ module _ (nt : ℕ → Value → Bool) (ns : ℕ → Value → List Piece) (name
       let qs = and_parts _ _ p in
       (part.1 ks.0 v qs.0, parts_go ps vs ks.1 qs.1)
 
-  items_go : (ty : Ty) → TyGoes ty → keeps_limits ty ≡ true → (vs : List Value) → list_all (is_value_with nt ty) vs ≡ true → AllByRecursion Goes (map (spelling_with ns ty) vs)
+  items_go : (ty : Ty) → TyGoes ty → keeps_limits ty ≡ true → (vs : List Value) → list_all (is_value_with nt ty) vs ≡ true
+      → AllByRecursion Goes (map (spelling_with ns ty) vs)
   items_go ty goes k [] p = tt
   items_go ty goes k (v ∷ vs) p = let ps = and_parts _ _ p in (goes k v ps.0, items_go ty goes k vs ps.1)
 
-  tuple_layer : (ps : List Part) → (nat_le 1 (length (map keeps_limits (map of_part ps))) && list_all (λ part. part) (map keeps_limits (map of_part ps))) ≡ true
+  tuple_layer : (ps : List Part)
+      → (nat_le 1 (length (map keeps_limits (map of_part ps))) && list_all (λ part. part) (map keeps_limits (map of_part ps))) ≡ true
       → (l : Value-F Value) → is_tuple_of (map (is_value_with nt) (map of_part ps)) l ≡ true
       → Goes (Open ∷ (with_commas (each_spelled (map (spelling_with ns) (map of_part ps)) (parts_in l)) ++ Close ∷ []))
   tuple_layer ps k (Value-F.Tuple vs) p = tuple_goes (each_spelled (map (spelling_with ns) (map of_part ps)) vs) (parts_go ps vs (and_parts _ _ k).1 p)
@@ -293,7 +301,8 @@ module _ (nt : ℕ → Value → Bool) (ns : ℕ → Value → List Piece) (name
   tuple_layer ps k (Value-F.Vector vs) p = cc
   tuple_layer ps k (Value-F.Con c vs) p = cc
 
-  vector_layer : (n : ℕ) (ty : Ty) → TyGoes ty → (nat_le 1 n && keeps_limits ty) ≡ true → (l : Value-F Value) → is_vector_of n (is_value_with nt ty) l ≡ true
+  vector_layer : (n : ℕ) (ty : Ty) → TyGoes ty → (nat_le 1 n && keeps_limits ty) ≡ true → (l : Value-F Value)
+      → is_vector_of n (is_value_with nt ty) l ≡ true
       → Goes (OpenVector ∷ (with_commas (map (spelling_with ns ty) (parts_in l)) ++ CloseVector ∷ []))
   vector_layer n ty goes k (Value-F.Vector vs) p = vector_goes (map (spelling_with ns ty) vs) (items_go ty goes (and_parts _ _ k).1 vs (and_parts _ _ p).1)
   vector_layer n ty goes k (Value-F.Word a) p = cc
@@ -301,7 +310,8 @@ module _ (nt : ℕ → Value → Bool) (ns : ℕ → Value → List Piece) (name
   vector_layer n ty goes k (Value-F.Con c vs) p = cc
 
   abbrev StepGoes : Ty-F Ty → Type 0
-  StepGoes y = limits_step (map-Ty Ty Bool keeps_limits y) ≡ true → (v : Value) → value_step nt (map-Ty Ty (Value → Bool) (is_value_with nt) y) v ≡ true
+  StepGoes y = limits_step (map-Ty Ty Bool keeps_limits y) ≡ true → (v : Value)
+      → value_step nt (map-Ty Ty (Value → Bool) (is_value_with nt) y) v ≡ true
       → Goes (spelling_step ns (map-Ty Ty (Value → List Piece) (spelling_with ns) y) v)
 
   step_goes : (y : Ty-F Part) → StepGoes (map-Ty Part Ty of_part y)
@@ -314,7 +324,8 @@ module _ (nt : ℕ → Value → Bool) (ns : ℕ → Value → List Piece) (name
   step_goes (Ty-F.Named m) = λ k v p. named m v p
 
   layer_goes : (y : Ty-F Part) → TyGoes (roll-Ty (map-Ty Part Ty of_part y))
-  layer_goes y = rw (fold-roll-Ty (Value → Bool) (value_step nt), fold-roll-Ty (Value → List Piece) (spelling_step ns), fold-roll-Ty Bool limits_step) (step_goes y)
+  layer_goes y = rw (fold-roll-Ty (Value → Bool) (value_step nt), fold-roll-Ty (Value
+      → List Piece) (spelling_step ns), fold-roll-Ty Bool limits_step) (step_goes y)
 
   ty_goes : (ty : Ty) → TyGoes ty
   ty_goes = ind-Ty TyGoes (λ x y is. subst (λ z. TyGoes (roll-Ty z)) is (layer_goes y))
@@ -344,13 +355,16 @@ fields_writable [] w c = tt
 fields_writable (con ∷ cons) w zero = w.0.fields
 fields_writable (con ∷ cons) w (suc c) = fields_writable cons w.1 c
 
-name_readable : (sum : SumDef) → HasNames sum → (c : ℕ) → c < length sum.cons → (o : Option ConDef) → slice_get sum.cons c ≡ o → is_name (name_of o) ≡ true
+name_readable : (sum : SumDef) → HasNames sum → (c : ℕ) → c < length sum.cons → (o : Option ConDef) → slice_get sum.cons c ≡ o
+    → is_name (name_of o) ≡ true
 name_readable sum names c h None e = absurd (some_con sum.cons c h e)
 name_readable sum names c h (Some con) e = con_name con.name (names.names c con e).form
 
 module _ (types : Types) (names : HaveNames types) (writable : AreWritable types) where
-  con_goes : (bound : ℕ) → ((k : ℕ) (v : Value) → is_named_value types bound k v ≡ true → Goes (named_spelling types bound k v)) → (sum : SumDef) → slice_get types.sums bound ≡ Some sum
-      → (l : Value-F Value) → is_con_of (is_value_with (is_named_value types bound)) sum l ≡ true → Goes (con_spelled (spelling_with (named_spelling types bound)) sum l)
+  con_goes : (bound : ℕ) → ((k : ℕ) (v : Value) → is_named_value types bound k v ≡ true → Goes (named_spelling types bound k v)) → (sum : SumDef)
+      → slice_get types.sums bound ≡ Some sum
+      → (l : Value-F Value) → is_con_of (is_value_with (is_named_value types bound)) sum l ≡ true
+      → Goes (con_spelled (spelling_with (named_spelling types bound)) sum l)
   con_goes bound named sum found (Value-F.Con c vs) p =
       let ps = and_parts _ _ p in
       let fields = con_fields_go (is_named_value types bound) (named_spelling types bound) named (fields_at sum c) vs (fields_writable sum.cons (writable bound sum found) c) ps.1 in
@@ -360,8 +374,10 @@ module _ (types : Types) (names : HaveNames types) (writable : AreWritable types
   con_goes bound named sum found (Value-F.Tuple vs) p = cc
   con_goes bound named sum found (Value-F.Vector vs) p = cc
 
-  sum_goes : (bound : ℕ) → ((k : ℕ) (v : Value) → is_named_value types bound k v ≡ true → Goes (named_spelling types bound k v)) → (o : Option SumDef) → slice_get types.sums bound ≡ o
-      → (v : Value) → is_sum_value (is_value_with (is_named_value types bound)) o v ≡ true → Goes (sum_spelled (spelling_with (named_spelling types bound)) o v)
+  sum_goes : (bound : ℕ) → ((k : ℕ) (v : Value) → is_named_value types bound k v ≡ true → Goes (named_spelling types bound k v)) → (o : Option SumDef)
+      → slice_get types.sums bound ≡ o
+      → (v : Value) → is_sum_value (is_value_with (is_named_value types bound)) o v ≡ true
+      → Goes (sum_spelled (spelling_with (named_spelling types bound)) o v)
   sum_goes bound named None found v p = cc
   sum_goes bound named (Some sum) found v p = con_goes bound named sum found (out-Value v) p
 

@@ -37,7 +37,8 @@ module _ (test : Ty → Value → Bool) (spelled : Ty → Value → List Piece) 
   abbrev Short : Ty → Type 0
   Short ty = depth_of ty ≤ 64 → keeps_limits ty ≡ true → (v : Value) → test ty v ≡ true → long (spelled ty v) + 259 ≤ 512 * size ty + 4 * depth_of ty
 
-  later_tuple : (tys : List Ty) → AllByRecursion Short tys → (vs : List Value) → greatest (map depth_of tys) ≤ 63 → list_all (λ keep. keep) (map keeps_limits tys) ≡ true → all_pass (map test tys) vs ≡ true
+  later_tuple : (tys : List Ty) → AllByRecursion Short tys → (vs : List Value) → greatest (map depth_of tys) ≤ 63
+      → list_all (λ keep. keep) (map keeps_limits tys) ≡ true → all_pass (map test tys) vs ≡ true
       → length (several (codes ", ") (each_spelled (map spelled tys) vs)) ≤ 512 * sum (map size tys)
   later_tuple [] short [] d k p = omega arith
   later_tuple [] short (v ∷ vs) d k p = cc
@@ -46,10 +47,12 @@ module _ (test : Ty → Value → Bool) (spelled : Ty → Value → List Piece) 
       let ps = and_parts _ _ p in
       let ks = and_parts _ _ k in
       let own : long (spelled ty v) + 259 ≤ 512 * size ty + 4 * depth_of ty = short.0 (omega arith) ks.0 v ps.0 in
-      let more : length (several (codes ", ") (each_spelled (map spelled tys) vs)) ≤ 512 * sum (map size tys) = later_tuple tys short.1 vs (omega arith) ks.1 ps.1 in
+      let more : length (several (codes ", ") (each_spelled (map spelled tys) vs)) ≤ 512 * sum (map size tys) =
+          later_tuple tys short.1 vs (omega arith) ks.1 ps.1 in
       omega (arith, sum_more (size ty) (map size tys), length-append (written (spelled ty v)) (several (codes ", ") (each_spelled (map spelled tys) vs)))
 
-  tuple_long : (tys : List Ty) → AllByRecursion Short tys → (vs : List Value) → 1 ≤ length tys → 1 + greatest (map depth_of tys) ≤ 64 → list_all (λ keep. keep) (map keeps_limits tys) ≡ true → all_pass (map test tys) vs ≡ true
+  tuple_long : (tys : List Ty) → AllByRecursion Short tys → (vs : List Value) → 1 ≤ length tys → 1 + greatest (map depth_of tys) ≤ 64
+      → list_all (λ keep. keep) (map keeps_limits tys) ≡ true → all_pass (map test tys) vs ≡ true
       → length (several [] (each_spelled (map spelled tys) vs)) + 261 ≤ 512 * sum (map size tys) + 4 * (1 + greatest (map depth_of tys))
   tuple_long [] short vs some d k p = absurd (omega arith)
   tuple_long (ty ∷ tys) short [] some d k p = cc
@@ -57,7 +60,8 @@ module _ (test : Ty → Value → Bool) (spelled : Ty → Value → List Piece) 
       let ps = and_parts _ _ p in
       let ks = and_parts _ _ k in
       let own : long (spelled ty v) + 259 ≤ 512 * size ty + 4 * depth_of ty = short.0 (omega arith) ks.0 v ps.0 in
-      let more : length (several (codes ", ") (each_spelled (map spelled tys) vs)) ≤ 512 * sum (map size tys) = later_tuple tys short.1 vs (omega arith) ks.1 ps.1 in
+      let more : length (several (codes ", ") (each_spelled (map spelled tys) vs)) ≤ 512 * sum (map size tys) =
+          later_tuple tys short.1 vs (omega arith) ks.1 ps.1 in
       omega (arith, sum_more (size ty) (map size tys), length-append (written (spelled ty v)) (several (codes ", ") (each_spelled (map spelled tys) vs)))
 
   field_long : (b : Bool) (pieces : List Piece) → long (if b then Space ∷ (Open ∷ (pieces ++ Close ∷ [])) else Space ∷ pieces) ≤ long pieces + 3
@@ -78,7 +82,8 @@ module _ (test : Ty → Value → Bool) (spelled : Ty → Value → List Piece) 
       let more : long others ≤ 512 * sum (map size tys) = fields_long short tys vs w.1 ps.1 in
       rw (written-append (as_field (spelled ty) v) others, length-append (written (as_field (spelled ty) v)) (written others)) (omega (arith, sum_more (size ty) (map size tys), own, field, more, shallow))
 
-module _ (test : Value → Bool) (spelled : Value → List Piece) (size depth : ℕ) (shallow : depth ≤ 63) (short : (v : Value) → test v ≡ true → long (spelled v) + 259 ≤ 512 * size + 4 * depth) where
+module _ (test : Value → Bool) (spelled : Value → List Piece) (size depth : ℕ) (shallow : depth ≤ 63) (short : (v : Value) → test v ≡ true
+    → long (spelled v) + 259 ≤ 512 * size + 4 * depth) where
   later_items : (vs : List Value) → list_all test vs ≡ true → length (several (codes ", ") (map spelled vs)) ≤ 512 * (length vs * size)
   later_items [] p = omega arith
   later_items (v ∷ vs) p =
@@ -87,7 +92,8 @@ module _ (test : Value → Bool) (spelled : Value → List Piece) (size depth : 
       let more : length (several (codes ", ") (map spelled vs)) ≤ 512 * (length vs * size) = later_items vs ps.1 in
       omega (arith, shallow, suc-mul (length vs) size, length-append (written (spelled v)) (several (codes ", ") (map spelled vs)))
 
-  vector_long : (vs : List Value) → 1 ≤ length vs → list_all test vs ≡ true → length (several [] (map spelled vs)) + 259 ≤ 512 * (length vs * size) + 4 * depth
+  vector_long : (vs : List Value) → 1 ≤ length vs → list_all test vs ≡ true
+      → length (several [] (map spelled vs)) + 259 ≤ 512 * (length vs * size) + 4 * depth
   vector_long [] some p = absurd (omega arith)
   vector_long (v ∷ vs) some p =
       let ps = and_parts _ _ p in
@@ -95,11 +101,13 @@ module _ (test : Value → Bool) (spelled : Value → List Piece) (size depth : 
       let more : length (several (codes ", ") (map spelled vs)) ≤ 512 * (length vs * size) = later_items vs ps.1 in
       omega (arith, suc-mul (length vs) size, length-append (written (spelled v)) (several (codes ", ") (map spelled vs)))
 
-enclosed_long : (opening closing : Piece) (parts : List (List Piece)) → long (opening ∷ (with_commas parts ++ closing ∷ [])) ≡ length (piece_bytes opening) + length (several [] parts) + length (piece_bytes closing)
+enclosed_long : (opening closing : Piece) (parts : List (List Piece))
+    → long (opening ∷ (with_commas parts ++ closing ∷ [])) ≡ length (piece_bytes opening) + length (several [] parts) + length (piece_bytes closing)
 enclosed_long opening closing parts =
     rw (← enclosed opening closing parts, length-append (piece_bytes opening) (several [] parts ++ piece_bytes closing), length-append (several [] parts) (piece_bytes closing)) (omega arith)
 
-word_short : (test : ℕ → Bool) (pieces : ℕ → List Piece) → ((a : ℕ) → test a ≡ true → long (pieces a) ≤ 257) → (l : Value-F Value) → is_word_of test l ≡ true → long (pieces (word_in l)) + 259 ≤ 512 * 1 + 4 * 1
+word_short : (test : ℕ → Bool) (pieces : ℕ → List Piece) → ((a : ℕ) → test a ≡ true → long (pieces a) ≤ 257) → (l : Value-F Value)
+    → is_word_of test l ≡ true → long (pieces (word_in l)) + 259 ≤ 512 * 1 + 4 * 1
 word_short test pieces short (Value-F.Word a) p = omega (arith, short a p)
 word_short test pieces short (Value-F.Tuple vs) p = cc
 word_short test pieces short (Value-F.Vector vs) p = cc
@@ -137,7 +145,8 @@ int_short bits a p =
     let below : mag (int_of a) < 2 ^ 63 = small.sfits in
     alone (signed_decimal (int_of a)) 257 (omega (arith, length_signed_le 19 (int_of a) (omega arith) below))
 
-module _ (nt : ℕ → Value → Bool) (ns : ℕ → Value → List Piece) (nz : ℕ → ℕ) (named : (k : ℕ) (v : Value) → nt k v ≡ true → long (ns k v) + 259 ≤ 512 * nz k + 4 * 1) where
+module _ (nt : ℕ → Value → Bool) (ns : ℕ → Value → List Piece) (nz : ℕ → ℕ) (named : (k : ℕ) (v : Value) → nt k v ≡ true
+    → long (ns k v) + 259 ≤ 512 * nz k + 4 * 1) where
   abbrev TyShort : Ty → Type 0
   TyShort = Short (is_value_with nt) (spelling_with ns) (size_with nz)
 
@@ -164,7 +173,8 @@ module _ (nt : ℕ → Value → Bool) (ns : ℕ → Value → List Piece) (nz :
   tuple_short ps d k (Value-F.Vector vs) p = cc
   tuple_short ps d k (Value-F.Con c vs) p = cc
 
-  vector_short : (n : ℕ) (ty : Ty) → TyShort ty → 1 + depth_of ty ≤ 64 → (nat_le 1 n && keeps_limits ty) ≡ true → (l : Value-F Value) → is_vector_of n (is_value_with nt ty) l ≡ true
+  vector_short : (n : ℕ) (ty : Ty) → TyShort ty → 1 + depth_of ty ≤ 64 → (nat_le 1 n && keeps_limits ty) ≡ true → (l : Value-F Value)
+      → is_vector_of n (is_value_with nt ty) l ≡ true
       → long (OpenVector ∷ (with_commas (map (spelling_with ns ty) (parts_in l)) ++ CloseVector ∷ [])) + 259 ≤ 512 * (n * size_with nz ty) + 4 * (1 + depth_of ty)
   vector_short n ty short d k (Value-F.Vector vs) p =
       let ks = and_parts _ _ k in
@@ -181,8 +191,10 @@ module _ (nt : ℕ → Value → Bool) (ns : ℕ → Value → List Piece) (nz :
   vector_short n ty short d k (Value-F.Con c vs) p = cc
 
   abbrev StepShort : Ty-F Ty → Type 0
-  StepShort y = depth_step (map-Ty Ty ℕ depth_of y) ≤ 64 → limits_step (map-Ty Ty Bool keeps_limits y) ≡ true → (v : Value) → value_step nt (map-Ty Ty (Value → Bool) (is_value_with nt) y) v ≡ true
-      → long (spelling_step ns (map-Ty Ty (Value → List Piece) (spelling_with ns) y) v) + 259 ≤ 512 * size_step nz (map-Ty Ty ℕ (size_with nz) y) + 4 * depth_step (map-Ty Ty ℕ depth_of y)
+  StepShort y = depth_step (map-Ty Ty ℕ depth_of y) ≤ 64 → limits_step (map-Ty Ty Bool keeps_limits y) ≡ true → (v : Value)
+      → value_step nt (map-Ty Ty (Value → Bool) (is_value_with nt) y) v ≡ true
+      → long (spelling_step ns (map-Ty Ty (Value
+      → List Piece) (spelling_with ns) y) v) + 259 ≤ 512 * size_step nz (map-Ty Ty ℕ (size_with nz) y) + 4 * depth_step (map-Ty Ty ℕ depth_of y)
 
   step_short : (y : Ty-F Part) → StepShort (map-Ty Part Ty of_part y)
   step_short Ty-F.Bool = λ d k v p. word_short (λ word. nat_lt word 2) (λ a. Name (bool_name a) ∷ []) (λ a t. bool_short a) (out-Value v) p
@@ -194,30 +206,36 @@ module _ (nt : ℕ → Value → Bool) (ns : ℕ → Value → List Piece) (nz :
   step_short (Ty-F.Named m) = λ d k v p. named m v p
 
   layer_short : (y : Ty-F Part) → TyShort (roll-Ty (map-Ty Part Ty of_part y))
-  layer_short y = rw (fold-roll-Ty (Value → Bool) (value_step nt), fold-roll-Ty (Value → List Piece) (spelling_step ns), fold-roll-Ty ℕ (size_step nz), fold-roll-Ty ℕ depth_step, fold-roll-Ty Bool limits_step) (step_short y)
+  layer_short y = rw (fold-roll-Ty (Value → Bool) (value_step nt), fold-roll-Ty (Value
+      → List Piece) (spelling_step ns), fold-roll-Ty ℕ (size_step nz), fold-roll-Ty ℕ depth_step, fold-roll-Ty Bool limits_step) (step_short y)
 
   ty_short : (ty : Ty) → TyShort ty
   ty_short = ind-Ty TyShort (λ x y is. subst (λ z. TyShort (roll-Ty z)) is (layer_short y))
 
-cons_at : (cons : List ConDef) → AllByRecursion IsWritableCon cons → (c : ℕ) → (length (name_of (slice_get cons c)) ≤ 32) × AllByRecursion IsWritable (fields_of (slice_get cons c))
+cons_at : (cons : List ConDef) → AllByRecursion IsWritableCon cons → (c : ℕ)
+    → (length (name_of (slice_get cons c)) ≤ 32) × AllByRecursion IsWritable (fields_of (slice_get cons c))
 cons_at [] w c = (omega arith, tt)
 cons_at (con ∷ cons) w zero = (w.0.name, w.0.fields)
 cons_at (con ∷ cons) w (suc c) = cons_at cons w.1 c
 
-sizes_at : (nz : ℕ → ℕ) (cons : List ConDef) (c : ℕ) → sum (map (size_with nz) (fields_of (slice_get cons c))) ≤ greatest (map (λ (con : ConDef). sizes_with nz con.fields) cons)
+sizes_at : (nz : ℕ → ℕ) (cons : List ConDef) (c : ℕ)
+    → sum (map (size_with nz) (fields_of (slice_get cons c))) ≤ greatest (map (λ (con : ConDef). sizes_with nz con.fields) cons)
 sizes_at nz [] c = omega arith
 sizes_at nz (con ∷ cons) zero = omega arith
 sizes_at nz (con ∷ cons) (suc c) = let later = sizes_at nz cons c in omega (arith, later)
 
-module _ (nt : ℕ → Value → Bool) (ns : ℕ → Value → List Piece) (nz : ℕ → ℕ) (named : (k : ℕ) (v : Value) → nt k v ≡ true → long (ns k v) + 259 ≤ 512 * nz k + 4 * 1)
+module _ (nt : ℕ → Value → Bool) (ns : ℕ → Value → List Piece) (nz : ℕ → ℕ) (named : (k : ℕ) (v : Value) → nt k v ≡ true
+    → long (ns k v) + 259 ≤ 512 * nz k + 4 * 1)
     (sum : SumDef) (writable : AllByRecursion IsWritableCon sum.cons) where
-  con_short : (l : Value-F Value) → is_con_of (is_value_with nt) sum l ≡ true → long (con_spelled (spelling_with ns) sum l) + 259 ≤ 512 * size_of_sum nz (Some sum) + 4 * 1
+  con_short : (l : Value-F Value) → is_con_of (is_value_with nt) sum l ≡ true
+      → long (con_spelled (spelling_with ns) sum l) + 259 ≤ 512 * size_of_sum nz (Some sum) + 4 * 1
   con_short (Value-F.Con c vs) p =
       let ps = and_parts _ _ p in
       let at = cons_at sum.cons writable c in
       let name : length (name_at sum c) ≤ 32 = at.0 in
       let others : List Piece = flat_map (λ part. part) (each_spelled (map (λ ty. as_field (spelling_with ns ty)) (fields_at sum c)) vs) in
-      let fields : long others ≤ 512 * sizes_with nz (fields_at sum c) = fields_long (is_value_with nt) (spelling_with ns) (size_with nz) (ty_short nt ns nz named) (fields_at sum c) vs at.1 ps.1 in
+      let fields : long others ≤ 512 * sizes_with nz (fields_at sum c) =
+          fields_long (is_value_with nt) (spelling_with ns) (size_with nz) (ty_short nt ns nz named) (fields_at sum c) vs at.1 ps.1 in
       let largest : sizes_with nz (fields_at sum c) ≤ greatest (map (λ (con : ConDef). sizes_with nz con.fields) sum.cons) = sizes_at nz sum.cons c in
       let whole : long (Name (name_at sum c) ∷ others) ≡ length (name_at sum c) + long others = length-append (name_at sum c) (written others) in
       omega (arith, whole, fields, largest, name)
@@ -226,14 +244,16 @@ module _ (nt : ℕ → Value → Bool) (ns : ℕ → Value → List Piece) (nz :
   con_short (Value-F.Vector vs) p = cc
 
 module _ (types : Types) (writable : AreWritable types) where
-  sum_short : (bound : ℕ) → ((k : ℕ) (v : Value) → is_named_value types bound k v ≡ true → long (named_spelling types bound k v) + 259 ≤ 512 * named_size types bound k + 4 * 1)
+  sum_short : (bound : ℕ) → ((k : ℕ) (v : Value) → is_named_value types bound k v ≡ true
+      → long (named_spelling types bound k v) + 259 ≤ 512 * named_size types bound k + 4 * 1)
       → (o : Option SumDef) → slice_get types.sums bound ≡ o → (v : Value) → is_sum_value (is_value_with (is_named_value types bound)) o v ≡ true
       → long (sum_spelled (spelling_with (named_spelling types bound)) o v) + 259 ≤ 512 * size_of_sum (named_size types bound) o + 4 * 1
   sum_short bound named None found v p = cc
   sum_short bound named (Some sum) found v p =
       con_short (is_named_value types bound) (named_spelling types bound) (named_size types bound) named sum (writable bound sum found) (out-Value v) p
 
-  named_short : (bound k : ℕ) (v : Value) → is_named_value types bound k v ≡ true → long (named_spelling types bound k v) + 259 ≤ 512 * named_size types bound k + 4 * 1
+  named_short : (bound k : ℕ) (v : Value) → is_named_value types bound k v ≡ true
+      → long (named_spelling types bound k v) + 259 ≤ 512 * named_size types bound k + 4 * 1
   unfolding is_named_value named_spelling named_size
   named_short zero k v p = cc
   named_short (suc bound) k v p = elim (cases_eq k bound) [

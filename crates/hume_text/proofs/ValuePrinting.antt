@@ -29,7 +29,8 @@ abbrev LayerPrints : (Value-F Value → Bool) → (Value-F Value → List ℕ) �
 LayerPrints test words spelled printer = (l : Value-F Value) (r : List ℕ) → test l ≡ true → printer (words l ++ r) ≡ (written (spelled l), r)
 
 -- it is enough to print one level
-by_layer : (test : Value-F Value → Bool) (words : Value-F Value → List ℕ) (spelled : Value-F Value → List Piece) (printer : Printer) → LayerPrints test words spelled printer
+by_layer : (test : Value-F Value → Bool) (words : Value-F Value → List ℕ) (spelled : Value-F Value → List Piece) (printer : Printer)
+    → LayerPrints test words spelled printer
     → Prints (λ v. test (out-Value v)) (λ v. words (out-Value v)) (λ v. spelled (out-Value v)) printer
 by_layer test words spelled printer prints v r p = prints (out-Value v) r p
 
@@ -55,14 +56,16 @@ several before (part ∷ parts) = (before ++ written part) ++ several (codes ", 
 later_written : (parts : List (List Piece)) → several (codes ", ") parts ≡ written (flat_map (λ later. Comma ∷ (Space ∷ later)) parts)
 later_written [] = refl
 later_written (part ∷ parts) =
-    ap (λ bytes. 44 ∷ (32 ∷ bytes)) (ap (λ bytes. written part ++ bytes) (later_written parts) ∙ sym (written-append part (flat_map (λ later. Comma ∷ (Space ∷ later)) parts)))
+    ap (λ bytes. 44 ∷ (32 ∷ bytes)) (ap (λ bytes. written part ++ bytes) (later_written parts)
+        ∙ sym (written-append part (flat_map (λ later. Comma ∷ (Space ∷ later)) parts)))
 
 pub several_written : (parts : List (List Piece)) → several [] parts ≡ written (with_commas parts)
 several_written [] = refl
 several_written (part ∷ parts) =
     ap (λ bytes. written part ++ bytes) (later_written parts) ∙ sym (written-append part (flat_map (λ later. Comma ∷ (Space ∷ later)) parts))
 
-pub enclosed : (opening closing : Piece) (parts : List (List Piece)) → piece_bytes opening ++ (several [] parts ++ piece_bytes closing) ≡ written (opening ∷ (with_commas parts ++ closing ∷ []))
+pub enclosed : (opening closing : Piece) (parts : List (List Piece))
+    → piece_bytes opening ++ (several [] parts ++ piece_bytes closing) ≡ written (opening ∷ (with_commas parts ++ closing ∷ []))
 enclosed opening closing parts =
     ap (λ bytes. piece_bytes opening ++ bytes) (ap (λ bytes. bytes ++ piece_bytes closing) (several_written parts)
     ∙ ap (λ bytes. written (with_commas parts) ++ bytes) (append_nothing (piece_bytes closing))
@@ -71,11 +74,15 @@ enclosed opening closing parts =
 -- several parts, each by its own test
 data AllPrint : List (Value → Bool) → List (Value → List ℕ) → List (Value → List Piece) → List Printer → Type 0 where
   none : AllPrint [] [] [] []
-  one : {t : Value → Bool} {f : Value → List ℕ} {s : Value → List Piece} {printer : Printer} {ts : List (Value → Bool)} {fs : List (Value → List ℕ)} {ss : List (Value → List Piece)} {printers : List Printer}
+  one : {t : Value → Bool} {f : Value → List ℕ} {s : Value
+      → List Piece} {printer : Printer} {ts : List (Value → Bool)} {fs : List (Value → List ℕ)} {ss : List (Value
+      → List Piece)} {printers : List Printer}
       → Prints t f s printer → AllPrint ts fs ss printers → AllPrint (t ∷ ts) (f ∷ fs) (s ∷ ss) (printer ∷ printers)
 
-parts_print : {ts : List (Value → Bool)} {fs : List (Value → List ℕ)} {ss : List (Value → List Piece)} {printers : List Printer} → AllPrint ts fs ss printers
-    → (before : List ℕ) (vs : List Value) (r : List ℕ) → all_pass ts vs ≡ true → print_several before printers (joined fs vs ++ r) ≡ (several before (each_spelled ss vs), r)
+parts_print : {ts : List (Value → Bool)} {fs : List (Value → List ℕ)} {ss : List (Value → List Piece)} {printers : List Printer}
+    → AllPrint ts fs ss printers
+    → (before : List ℕ) (vs : List Value) (r : List ℕ) → all_pass ts vs ≡ true
+    → print_several before printers (joined fs vs ++ r) ≡ (several before (each_spelled ss vs), r)
 parts_print none before [] r p = refl
 parts_print none before (v ∷ vs) r p = cc
 parts_print (one prints more) before [] r p = cc
@@ -83,15 +90,18 @@ parts_print (one {f = f} {fs = fs} prints more) before (v ∷ vs) r p =
     let ps = and_parts _ _ p in
     rw (append_assoc (f v) (joined fs vs) r, prints v (joined fs vs ++ r) ps.0, parts_print more (codes ", ") vs r ps.1) refl
 
-tuple_prints : {ts : List (Value → Bool)} {fs : List (Value → List ℕ)} {ss : List (Value → List Piece)} {printers : List Printer} → AllPrint ts fs ss printers
+tuple_prints : {ts : List (Value → Bool)} {fs : List (Value → List ℕ)} {ss : List (Value → List Piece)} {printers : List Printer}
+    → AllPrint ts fs ss printers
     → LayerPrints (is_tuple_of ts) (λ l. joined fs (parts_in l)) (λ l. Open ∷ (with_commas (each_spelled ss (parts_in l)) ++ Close ∷ [])) (λ words. print_in (codes "(") (codes ")") printers words)
 tuple_prints {ss = ss} all (Value-F.Tuple vs) r p =
-    ap (λ printed. then_print (codes "(") (closed_by (codes ")") printed)) (parts_print all [] vs r p) ∙ ap (λ bytes. (bytes, r)) (enclosed Open Close (each_spelled ss vs))
+    ap (λ printed. then_print (codes "(") (closed_by (codes ")") printed)) (parts_print all [] vs r p)
+        ∙ ap (λ bytes. (bytes, r)) (enclosed Open Close (each_spelled ss vs))
 tuple_prints all (Value-F.Word a) r p = cc
 tuple_prints all (Value-F.Vector vs) r p = cc
 tuple_prints all (Value-F.Con c vs) r p = cc
 
-items_print : (t : Value → Bool) (f : Value → List ℕ) (s : Value → List Piece) (printer : Printer) → Prints t f s printer → (before : List ℕ) (n : ℕ) (vs : List Value) (r : List ℕ) → length vs ≡ n
+items_print : (t : Value → Bool) (f : Value → List ℕ) (s : Value → List Piece) (printer : Printer) → Prints t f s printer
+    → (before : List ℕ) (n : ℕ) (vs : List Value) (r : List ℕ) → length vs ≡ n
     → list_all t vs ≡ true → print_several before (replicate {A = Printer} n printer) (flat_map f vs ++ r) ≡ (several before (map s vs), r)
 items_print t f s printer prints before zero [] r long p = refl
 items_print t f s printer prints before (suc n) [] r long p = absurd (omega arith)
@@ -105,7 +115,8 @@ vector_prints : (n : ℕ) (t : Value → Bool) (f : Value → List ℕ) (s : Val
     (λ words. print_in (codes "<<") (codes ">>") (replicate {A = Printer} n printer) words)
 vector_prints n t f s printer prints (Value-F.Vector vs) r p =
     let ps = and_parts _ _ p in
-    ap (λ printed. then_print (codes "<<") (closed_by (codes ">>") printed)) (items_print t f s printer prints [] n vs r (eqb-true _ _ ps.0) ps.1) ∙ ap (λ bytes. (bytes, r)) (enclosed OpenVector CloseVector (map s vs))
+    ap (λ printed. then_print (codes "<<") (closed_by (codes ">>") printed)) (items_print t f s printer prints [] n vs r (eqb-true _ _ ps.0) ps.1)
+        ∙ ap (λ bytes. (bytes, r)) (enclosed OpenVector CloseVector (map s vs))
 vector_prints n t f s printer prints (Value-F.Word a) r p = cc
 vector_prints n t f s printer prints (Value-F.Tuple vs) r p = cc
 vector_prints n t f s printer prints (Value-F.Con c vs) r p = cc
@@ -114,10 +125,12 @@ vector_prints n t f s printer prints (Value-F.Con c vs) r p = cc
 field_printed : (b : Bool) (printer : Printer) (words : List ℕ) (pieces : List Piece) (rest : List ℕ) → printer words ≡ (written pieces, rest)
     → print_field b printer words ≡ (written (if b then Space ∷ (Open ∷ (pieces ++ Close ∷ [])) else Space ∷ pieces), rest)
 field_printed true printer words pieces rest e =
-    ap (λ printed. then_print (codes " (") (closed_by (codes ")") printed)) e ∙ ap (λ bytes. (32 ∷ (40 ∷ bytes), rest)) (sym (written-append pieces (Close ∷ [])))
+    ap (λ printed. then_print (codes " (") (closed_by (codes ")") printed)) e
+        ∙ ap (λ bytes. (32 ∷ (40 ∷ bytes), rest)) (sym (written-append pieces (Close ∷ [])))
 field_printed false printer words pieces rest e = ap (λ printed. then_print (codes " ") printed) e
 
-all_print : (t : Ty → Value → Bool) (f : Ty → Value → List ℕ) (s : Ty → Value → List Piece) (printer : Ty → Printer) → ((ty : Ty) → Prints (t ty) (f ty) (s ty) (printer ty)) → (tys : List Ty)
+all_print : (t : Ty → Value → Bool) (f : Ty → Value → List ℕ) (s : Ty → Value → List Piece) (printer : Ty → Printer)
+    → ((ty : Ty) → Prints (t ty) (f ty) (s ty) (printer ty)) → (tys : List Ty)
     → AllPrint (map t tys) (map f tys) (map s tys) (map printer tys)
 all_print t f s printer prints [] = none
 all_print t f s printer prints (ty ∷ tys) = one (prints ty) (all_print t f s printer prints tys)
@@ -141,7 +154,8 @@ module _ (types : Types) (t : Ty → Value → Bool) (f : Ty → Value → List 
       let ps = and_parts _ _ p in
       let rest : List ℕ = joined (map f tys) vs ++ r in
       let field : print_field (is_compound types (out-Ty ty) (f ty v ++ rest)) (printer ty) (f ty v ++ rest) ≡ (written (as_field (s ty) v), rest) =
-      ap (λ b. print_field b (printer ty) (f ty v ++ rest)) (compound ty v rest ps.0) ∙ field_printed (has_fields (out-Value v)) (printer ty) (f ty v ++ rest) (s ty v) rest (prints ty v rest ps.0) in
+      ap (λ b. print_field b (printer ty) (f ty v ++ rest)) (compound ty v rest ps.0)
+          ∙ field_printed (has_fields (out-Value v)) (printer ty) (f ty v ++ rest) (s ty v) rest (prints ty v rest ps.0) in
       let others : List Piece = flat_map (λ part. part) (each_spelled (map (λ ty. as_field (s ty)) tys) vs) in
       ap (λ words. print_fields types printer (ty ∷ tys) words) (append_assoc (f ty v) (joined (map f tys) vs) r)
       ∙ ap (λ (printed : List ℕ × List ℕ). then_print printed.0 (print_fields types printer tys printed.1)) field
@@ -195,7 +209,8 @@ letter_same a p =
     let low : a % 256 ≡ a = omega arith in
     rw low (append_nothing (codes "'" ++ letter_bytes a ++ codes "'"))
 
-module _ (types : Types) (nt : ℕ → Value → Bool) (nf : ℕ → Value → List ℕ) (ns : ℕ → Value → List Piece) (np : ℕ → Printer) (named : (k : ℕ) → Prints (nt k) (nf k) (ns k) (np k))
+module _ (types : Types) (nt : ℕ → Value → Bool) (nf : ℕ → Value → List ℕ) (ns : ℕ → Value → List Piece) (np : ℕ → Printer) (named : (k : ℕ)
+    → Prints (nt k) (nf k) (ns k) (np k))
     (stands : (k : ℕ) (v : Value) (r : List ℕ) → nt k v ≡ true → fields_stand (slice_get types.sums k) (nf k v ++ r) ≡ has_fields (out-Value v)) where
   abbrev TyPrints : Ty → Type 0
   TyPrints ty = Prints (is_value_with nt ty) (flat_with nf ty) (spelling_with ns ty) (print_with np ty)
@@ -232,7 +247,8 @@ module _ (types : Types) (nt : ℕ → Value → Bool) (nf : ℕ → Value → L
   step_prints (Ty-F.Named k) = named k
 
   layer_prints : (y : Ty-F Part) → TyPrints (roll-Ty (map-Ty Part Ty of_part y))
-  layer_prints y = rw (fold-roll-Ty (Value → Bool) (value_step nt), fold-roll-Ty (Value → List ℕ) (flat_step nf), fold-roll-Ty (Value → List Piece) (spelling_step ns), fold-roll-Ty Printer (print_step np)) (step_prints y)
+  layer_prints y = rw (fold-roll-Ty (Value → Bool) (value_step nt), fold-roll-Ty (Value → List ℕ) (flat_step nf), fold-roll-Ty (Value
+      → List Piece) (spelling_step ns), fold-roll-Ty Printer (print_step np)) (step_prints y)
 
   ty_prints : (ty : Ty) → TyPrints ty
   ty_prints = ind-Ty TyPrints (λ x y is. subst (λ z. TyPrints (roll-Ty z)) is (layer_prints y))
@@ -266,7 +282,8 @@ module _ (types : Types) (nt : ℕ → Value → Bool) (nf : ℕ → Value → L
   layer_compound (Ty-F.Named k) v r p = stands k v r p
 
   abbrev Compound : Ty → Type 0
-  Compound ty = (v : Value) (r : List ℕ) → is_value_with nt ty v ≡ true → is_compound types (out-Ty ty) (flat_with nf ty v ++ r) ≡ has_fields (out-Value v)
+  Compound ty = (v : Value) (r : List ℕ) → is_value_with nt ty v ≡ true
+      → is_compound types (out-Ty ty) (flat_with nf ty v ++ r) ≡ has_fields (out-Value v)
 
   rolled_compound : (y : Ty-F Ty) → Compound (roll-Ty y)
   rolled_compound y = rw (fold-roll-Ty (Value → Bool) (value_step nt), fold-roll-Ty (Value → List ℕ) (flat_step nf), out-roll-Ty y) (layer_compound y)
@@ -275,12 +292,14 @@ module _ (types : Types) (nt : ℕ → Value → Bool) (nf : ℕ → Value → L
   ty_compound ty = subst Compound (roll-out-Ty ty) (rolled_compound (out-Ty ty))
 
 -- whichever of the two a test chooses, its values are printed
-either_prints : (b : Bool) (t u : Value → Bool) (f g : Value → List ℕ) (s z : Value → List Piece) (first second : Printer) → Prints t f s first → Prints u g z second
+either_prints : (b : Bool) (t u : Value → Bool) (f g : Value → List ℕ) (s z : Value → List Piece) (first second : Printer) → Prints t f s first
+    → Prints u g z second
     → Prints (λ v. if b then t v else u v) (λ v. if b then f v else g v) (λ v. if b then s v else z v) (λ words. if b then first words else second words)
 either_prints true t u f g s z first second p q = p
 either_prints false t u f g s z first second p q = q
 
-size-at : (types : Types) (bound number : ℕ) → number < bound → named_size types bound number ≡ size_of_sum (named_size types number) (slice_get types.sums number)
+size-at : (types : Types) (bound number : ℕ) → number < bound
+    → named_size types bound number ≡ size_of_sum (named_size types number) (slice_get types.sums number)
 unfolding named_size
 size-at types zero number below = absurd (omega arith)
 size-at types (suc bound) number below = elim (cases_eq number bound) [
@@ -324,8 +343,10 @@ module _ (types : Types) (sizes : HaveTheirSizes types) (small : HaveWrittenSize
       (sum_spelled (spelling_with (named_spelling types bound)) o) (print_sum types (print_with (print_named types bound)) o)
   sum_prints bound within named None found = λ v r p. cc
   sum_prints bound within named (Some sum) found =
-      let own : named_size types (length types.sums) bound ≡ size_of_sum (named_size types bound) (Some sum) = size-at types (length types.sums) bound within ∙ ap (size_of_sum (named_size types bound)) found in
-      let least : written_size (named_size types (length types.sums) bound) ≡ named_size types (length types.sums) bound = omega (arith, small bound sum found) in
+      let own : named_size types (length types.sums) bound ≡ size_of_sum (named_size types bound) (Some sum) =
+          size-at types (length types.sums) bound within ∙ ap (size_of_sum (named_size types bound)) found in
+      let least : written_size (named_size types (length types.sums) bound) ≡ named_size types (length types.sums) bound =
+          omega (arith, small bound sum found) in
       let size = size_of_sum (named_size types bound) (Some sum) in
       let whole : sum.words ≡ size = sizes bound sum found ∙ least ∙ own in
       let test : Ty → Value → Bool = is_value_with (is_named_value types bound) in
@@ -339,7 +360,8 @@ module _ (types : Types) (sizes : HaveTheirSizes types) (small : HaveWrittenSize
       (ty_compound types (is_named_value types bound) (named_words types bound) (named_spelling types bound) (print_named types bound) named stands)
       size sum whole)
 
-  named_prints : (bound : ℕ) → bound ≤ length types.sums → (k : ℕ) → Prints (is_named_value types bound k) (named_words types bound k) (named_spelling types bound k) (print_named types bound k)
+  named_prints : (bound : ℕ) → bound ≤ length types.sums → (k : ℕ)
+      → Prints (is_named_value types bound k) (named_words types bound k) (named_spelling types bound k) (print_named types bound k)
   unfolding is_named_value named_words named_spelling print_named
   named_prints zero within k = λ v r p. cc
   named_prints (suc bound) within k =
@@ -348,9 +370,11 @@ module _ (types : Types) (sizes : HaveTheirSizes types) (small : HaveWrittenSize
       (sum_prints bound (omega arith) (named_prints bound (omega arith)) (slice_get types.sums bound) refl) (named_prints bound (omega arith) k)
 
   -- the words of a value are printed as its text
-  pub value_printed : (ty : Ty) (v : Value) → is_value types ty v ≡ true → (print_with (print_named types (length types.sums)) ty (flat types ty v)).0 ≡ texts types ty v
+  pub value_printed : (ty : Ty) (v : Value) → is_value types ty v ≡ true
+      → (print_with (print_named types (length types.sums)) ty (flat types ty v)).0 ≡ texts types ty v
   value_printed ty v p =
       let all = length types.sums in
       let printed : print_with (print_named types all) ty (flat types ty v ++ []) ≡ (texts types ty v, []) =
       ty_prints types (is_named_value types all) (named_words types all) (named_spelling types all) (print_named types all) (named_prints all (omega arith)) (named_stands types all) ty v [] p in
-      ap (λ words. (print_with (print_named types all) ty words).0) (append_nothing (flat types ty v)) ∙ ap (λ (printed : List ℕ × List ℕ). printed.0) printed
+      ap (λ words. (print_with (print_named types all) ty words).0) (append_nothing (flat types ty v))
+          ∙ ap (λ (printed : List ℕ × List ℕ). printed.0) printed

@@ -1,3 +1,4 @@
+pub mod Chunks
 pub mod Spelling
 pub mod Printed
 pub mod Read

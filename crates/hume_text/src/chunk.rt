@@ -12,8 +12,10 @@ pub struct Chunk {
 }
 
 impl Chunk {
+    ghost use Rattle.hume_text.specs.Chunks.{bytes_in, room_of};
+
     pub fn make(alloc: Global, bytes: u32) -> Result<Chunk, AllocError>
-        ensures { IfOk result (λ chunk. (chunk.filled.items ≡ []) × (chunk.room ≡ bytes)) }
+        ensures { IfOk result (λ chunk. (bytes_in chunk ≡ []) × (room_of chunk ≡ bytes)) }
     {
         Ok(Chunk {
             filled: Vec::with_capacity(alloc, bytes as usize)?,
@@ -22,38 +24,38 @@ impl Chunk {
     }
 
     pub fn clear(&mut self)
-        ensures bytes { self.new.filled.items ≡ [] }
-        ensures room { self.new.room ≡ self.old.room }
+        ensures bytes { bytes_in self.new ≡ [] }
+        ensures room { room_of self.new ≡ room_of self.old }
     {
         self.filled.clear();
     }
 
     pub fn put(&mut self, bytes: &[u8])
-        requires { length self.old.filled.items + length bytes.now ≤ self.old.room }
-        ensures bytes { self.new.filled.items ≡ self.old.filled.items ++ bytes.now }
-        ensures room { self.new.room ≡ self.old.room }
+        requires { length (bytes_in self.old) + length bytes.now ≤ room_of self.old }
+        ensures bytes { bytes_in self.new ≡ bytes_in self.old ++ bytes.now }
+        ensures room { room_of self.new ≡ room_of self.old }
     {
         self.filled.extend_from_slice(bytes).unwrap();
     }
 
     // Puts as many of the bytes as there is room for.
     pub(crate) fn add(&mut self, bytes: &[u8])
-        ensures bytes { self.new.filled.items ≡ take self.old.room (self.old.filled.items ++ bytes.now) }
-        ensures room { self.new.room ≡ self.old.room }
+        ensures bytes { bytes_in self.new ≡ take (room_of self.old) (bytes_in self.old ++ bytes.now) }
+        ensures room { room_of self.new ≡ room_of self.old }
     {
         let count = bytes.len().min(self.room as usize - self.filled.len());
         self.filled.extend_from_slice(&bytes[..count]).unwrap();
     }
 
     pub fn bytes(&self) -> &[u8]
-        ensures { result.now ≡ self.now.filled.items }
+        ensures { result.now ≡ bytes_in self.now }
     {
         self.filled.as_slice()
     }
 
     /// How many more bytes it takes.
     pub fn spare(&self) -> u32
-        ensures { result ≡ self.now.room - length self.now.filled.items }
+        ensures { result ≡ room_of self.now - length (bytes_in self.now) }
     {
         self.room - self.filled.len() as u32
     }

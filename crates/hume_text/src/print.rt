@@ -3,6 +3,7 @@ ghost use Rattle.std.specs.Prelude.{◌≡◌, ◌+◌, ◌*◌, ◌≤◌, ◌+
 ghost use Rattle.hume_base.specs.declared.types.Ty.{out-Ty};
 ghost use Rattle.hume_base.specs.declared.types.Value.{Value};
 ghost use Rattle.hume_base.specs.Sizes.{size_of, HaveTheirSizes};
+ghost use Rattle.hume_text.specs.Chunks.{bytes_in, room_of};
 ghost use Rattle.hume_text.specs.Printed.{texts, AreWordsOf};
 ghost use Rattle.hume_text.specs.Bounds.{IsPrintable};
 ghost use Rattle.hume_text.specs.inner.Printers.{Printer, print_with, print_named, print_in, print_con, print_fields, print_field, is_compound};
@@ -15,9 +16,9 @@ use hume_base::{SumDef, Ty, Types};
 pub fn print_value(types: &Types, ty: &Ty, words: &[u64], chunk: &mut Chunk)
     requires sizes { HaveTheirSizes types.now }
     requires printable { IsPrintable types.now ty.now }
-    requires spare { length chunk.old.filled.items + 512 * size_of types.now ty.now ≤ chunk.old.room }
-    ensures text { (value : Value) → AreWordsOf types.now ty.now words.now value → chunk.new.filled.items ≡ chunk.old.filled.items ++ texts types.now ty.now value }
-    ensures room { chunk.new.room ≡ chunk.old.room }
+    requires spare { length (bytes_in chunk.old) + 512 * size_of types.now ty.now ≤ room_of chunk.old }
+    ensures text { (value : Value) → AreWordsOf types.now ty.now words.now value → bytes_in chunk.new ≡ bytes_in chunk.old ++ texts types.now ty.now value }
+    ensures room { room_of chunk.new ≡ room_of chunk.old }
 {
     print_front(types, types.sums.len(), ty, words, chunk);
 }
@@ -33,9 +34,9 @@ pub(crate) fn print_front<'a>(
     words: &'a [u64],
     chunk: &mut Chunk,
 ) -> &'a [u64]
-    ensures text { chunk.new.filled.items
-        ≡ take chunk.old.room (chunk.old.filled.items ++ (print_with (print_named types.now bound) ty.now words.now).0) }
-    ensures room { chunk.new.room ≡ chunk.old.room }
+    ensures text { bytes_in chunk.new
+        ≡ take (room_of chunk.old) (bytes_in chunk.old ++ (print_with (print_named types.now bound) ty.now words.now).0) }
+    ensures room { room_of chunk.new ≡ room_of chunk.old }
     ensures rest { result.now ≡ (print_with (print_named types.now bound) ty.now words.now).1 }
 {
     match ty {
@@ -58,9 +59,9 @@ fn print_tuple<'a>(
     words: &'a [u64],
     chunk: &mut Chunk,
 ) -> &'a [u64]
-    ensures text { chunk.new.filled.items ≡ take chunk.old.room
-        (chunk.old.filled.items ++ (print_in (codes "(") (codes ")") (map (print_with (print_named types.now bound)) tys.now) words.now).0) }
-    ensures room { chunk.new.room ≡ chunk.old.room }
+    ensures text { bytes_in chunk.new ≡ take (room_of chunk.old)
+        (bytes_in chunk.old ++ (print_in (codes "(") (codes ")") (map (print_with (print_named types.now bound)) tys.now) words.now).0) }
+    ensures room { room_of chunk.new ≡ room_of chunk.old }
     ensures rest { result.now ≡ (print_in (codes "(") (codes ")") (map (print_with (print_named types.now bound)) tys.now) words.now).1 }
 {
     chunk.add(b"(");
@@ -85,9 +86,9 @@ fn print_vector<'a>(
     words: &'a [u64],
     chunk: &mut Chunk,
 ) -> &'a [u64]
-    ensures text { chunk.new.filled.items ≡ take chunk.old.room (chunk.old.filled.items
+    ensures text { bytes_in chunk.new ≡ take (room_of chunk.old) (bytes_in chunk.old
         ++ (print_in (codes "<<") (codes ">>") (replicate {A = Printer} count (print_with (print_named types.now bound) item.now)) words.now).0) }
-    ensures room { chunk.new.room ≡ chunk.old.room }
+    ensures room { room_of chunk.new ≡ room_of chunk.old }
     ensures rest { result.now
         ≡ (print_in (codes "<<") (codes ">>") (replicate {A = Printer} count (print_with (print_named types.now bound) item.now)) words.now).1 }
 {
@@ -112,8 +113,8 @@ fn print_data<'a>(
     words: &'a [u64],
     chunk: &mut Chunk,
 ) -> &'a [u64]
-    ensures text { chunk.new.filled.items ≡ take chunk.old.room (chunk.old.filled.items ++ (print_named types.now bound number words.now).0) }
-    ensures room { chunk.new.room ≡ chunk.old.room }
+    ensures text { bytes_in chunk.new ≡ take (room_of chunk.old) (bytes_in chunk.old ++ (print_named types.now bound number words.now).0) }
+    ensures room { room_of chunk.new ≡ room_of chunk.old }
     ensures rest { result.now ≡ (print_named types.now bound number words.now).1 }
 {
     let number = number as usize;
@@ -140,9 +141,9 @@ fn print_constructor<'a>(
     words: &'a [u64],
     chunk: &mut Chunk,
 ) -> &'a [u64]
-    ensures text { chunk.new.filled.items
-        ≡ take chunk.old.room (chunk.old.filled.items ++ (print_con types.now (print_with (print_named types.now bound)) sum.now words.now).0) }
-    ensures room { chunk.new.room ≡ chunk.old.room }
+    ensures text { bytes_in chunk.new
+        ≡ take (room_of chunk.old) (bytes_in chunk.old ++ (print_con types.now (print_with (print_named types.now bound)) sum.now words.now).0) }
+    ensures room { room_of chunk.new ≡ room_of chunk.old }
     ensures rest { result.now ≡ (print_con types.now (print_with (print_named types.now bound)) sum.now words.now).1 }
 {
     let Some((place, fields)) = words.split_first() else {
@@ -166,9 +167,9 @@ fn print_fields<'a>(
     words: &'a [u64],
     chunk: &mut Chunk,
 ) -> &'a [u64]
-    ensures text { chunk.new.filled.items
-        ≡ take chunk.old.room (chunk.old.filled.items ++ (print_fields types.now (print_with (print_named types.now bound)) tys.now words.now).0) }
-    ensures room { chunk.new.room ≡ chunk.old.room }
+    ensures text { bytes_in chunk.new
+        ≡ take (room_of chunk.old) (bytes_in chunk.old ++ (print_fields types.now (print_with (print_named types.now bound)) tys.now words.now).0) }
+    ensures room { room_of chunk.new ≡ room_of chunk.old }
     ensures rest { result.now ≡ (print_fields types.now (print_with (print_named types.now bound)) tys.now words.now).1 }
 {
     let mut rest = words;
@@ -187,9 +188,9 @@ fn print_field<'a>(
     words: &'a [u64],
     chunk: &mut Chunk,
 ) -> &'a [u64]
-    ensures text { chunk.new.filled.items ≡ take chunk.old.room (chunk.old.filled.items
+    ensures text { bytes_in chunk.new ≡ take (room_of chunk.old) (bytes_in chunk.old
         ++ (print_field (is_compound types.now (out-Ty ty.now) words.now) (print_with (print_named types.now bound) ty.now) words.now).0) }
-    ensures room { chunk.new.room ≡ chunk.old.room }
+    ensures room { room_of chunk.new ≡ room_of chunk.old }
     ensures rest { result.now
         ≡ (print_field (is_compound types.now (out-Ty ty.now) words.now) (print_with (print_named types.now bound) ty.now) words.now).1 }
 {

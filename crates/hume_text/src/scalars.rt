@@ -1,5 +1,6 @@
 ghost use Rattle.std.specs.Prelude.{◌≡◌, ◌++◌, take};
 ghost use Rattle.std.specs.Fmt.{decimal};
+ghost use Rattle.hume_text.specs.Chunks.{bytes_in, room_of};
 ghost use Rattle.hume_text.specs.Spelling.{bool_name};
 ghost use Rattle.hume_text.specs.inner.Printers.{print_word, letter_text, int_text};
 
@@ -10,8 +11,8 @@ use itoa::Buffer;
 // Each prints the first word, and answers the words after it.
 
 pub(crate) fn print_bool<'a>(words: &'a [u64], chunk: &mut Chunk) -> &'a [u64]
-    ensures text { chunk.new.filled.items ≡ take chunk.old.room (chunk.old.filled.items ++ (print_word bool_name words.now).0) }
-    ensures room { chunk.new.room ≡ chunk.old.room }
+    ensures text { bytes_in chunk.new ≡ take (room_of chunk.old) (bytes_in chunk.old ++ (print_word bool_name words.now).0) }
+    ensures room { room_of chunk.new ≡ room_of chunk.old }
     ensures rest { result.now ≡ (print_word bool_name words.now).1 }
 {
     let Some((word, rest)) = words.split_first() else {
@@ -26,8 +27,8 @@ pub(crate) fn print_bool<'a>(words: &'a [u64], chunk: &mut Chunk) -> &'a [u64]
 }
 
 pub(crate) fn print_letter<'a>(words: &'a [u64], chunk: &mut Chunk) -> &'a [u64]
-    ensures text { chunk.new.filled.items ≡ take chunk.old.room (chunk.old.filled.items ++ (print_word letter_text words.now).0) }
-    ensures room { chunk.new.room ≡ chunk.old.room }
+    ensures text { bytes_in chunk.new ≡ take (room_of chunk.old) (bytes_in chunk.old ++ (print_word letter_text words.now).0) }
+    ensures room { room_of chunk.new ≡ room_of chunk.old }
     ensures rest { result.now ≡ (print_word letter_text words.now).1 }
 {
     let Some((word, rest)) = words.split_first() else {
@@ -44,8 +45,8 @@ pub(crate) fn print_letter<'a>(words: &'a [u64], chunk: &mut Chunk) -> &'a [u64]
 }
 
 pub(crate) fn print_int<'a>(words: &'a [u64], chunk: &mut Chunk) -> &'a [u64]
-    ensures text { chunk.new.filled.items ≡ take chunk.old.room (chunk.old.filled.items ++ (print_word int_text words.now).0) }
-    ensures room { chunk.new.room ≡ chunk.old.room }
+    ensures text { bytes_in chunk.new ≡ take (room_of chunk.old) (bytes_in chunk.old ++ (print_word int_text words.now).0) }
+    ensures room { room_of chunk.new ≡ room_of chunk.old }
     ensures rest { result.now ≡ (print_word int_text words.now).1 }
 {
     let Some((word, rest)) = words.split_first() else {
@@ -57,8 +58,8 @@ pub(crate) fn print_int<'a>(words: &'a [u64], chunk: &mut Chunk) -> &'a [u64]
 }
 
 pub(crate) fn print_nat<'a>(words: &'a [u64], chunk: &mut Chunk) -> &'a [u64]
-    ensures text { chunk.new.filled.items ≡ take chunk.old.room (chunk.old.filled.items ++ (print_word decimal words.now).0) }
-    ensures room { chunk.new.room ≡ chunk.old.room }
+    ensures text { bytes_in chunk.new ≡ take (room_of chunk.old) (bytes_in chunk.old ++ (print_word decimal words.now).0) }
+    ensures room { room_of chunk.new ≡ room_of chunk.old }
     ensures rest { result.now ≡ (print_word decimal words.now).1 }
 {
     let Some((word, rest)) = words.split_first() else {

@@ -7,7 +7,8 @@ use Rattle.hume_text.proofs.print.+print.Goals as goal
 pub print_data-print_constructor-rest-requires : goal.print_data-print_constructor-rest-requires
 print_data-print_constructor-rest-requires t c =
     let found : slice_get c.args.types.now.sums c.args.number ≡ Some c.in-Some.sum.now = search rules in
-    let falls : rank c.args.types.now c.args.number + sum_size c.in-Some.sum.now + 1 < rank c.args.types.now c.args.bound = rank-falls _ _ _ _ found (omega arith) in
+    let falls : rank c.args.types.now c.args.number + sum_size c.in-Some.sum.now + 1 < rank c.args.types.now c.args.bound =
+        rank-falls _ _ _ _ found (omega arith) in
     omega arith
 
 pub print_tuple-loop-ty-preserved : goal.print_tuple-loop-ty-preserved
