@@ -1,8 +1,8 @@
 //! The tokens at the front of a line.
 ghost use Rattle.std.specs.Prelude.{◌≡◌, MatchOption, Some, None};
 ghost use Rattle.std.specs.Str.Parse.{digits_value};
-ghost use Rattle.hume_text.specs.Read.{is_blank, is_digit, is_letter, is_name_byte, behind, front};
-ghost use Rattle.hume_text.specs.inner.Tokens.{byte_at, sign_at, double_at, name_on, capped};
+ghost use Rattle.hume_text.specs.Read.{is_blank, is_digit, is_letter, is_name_byte, behind, front, escaped};
+ghost use Rattle.hume_text.specs.inner.Tokens.{byte_at, sign_at, double_at, name_on, capped, digits_on, number_on, closed, escape_on, letter_on};
 
 pub(crate) fn is_blank(byte: u8) -> bool
     ensures { result ≡ is_blank byte }
@@ -112,4 +112,80 @@ fn take_digits(bytes: &[u8]) -> (u128, &[u8])
         rest = others;
     }
     (value, rest)
+}
+
+/// Whether a number has a minus, its digits' value, or 2^64 for any that is larger, and the bytes behind it.
+pub(crate) fn take_number(line: &[u8]) -> Option<((bool, u128), &[u8])>
+    ensures { MatchOption result (number_on line.now ≡ None) (λ read. number_on line.now ≡ Some (read.0, read.1.now)) }
+{
+    let bytes = skip_blanks(line);
+    match take_byte(bytes, b'-') {
+        Some(digits) => take_signed(digits, true),
+        None => take_signed(bytes, false),
+    }
+}
+
+fn take_signed(bytes: &[u8], negative: bool) -> Option<((bool, u128), &[u8])>
+    ensures { MatchOption result (digits_on negative bytes.now ≡ None) (λ read. digits_on negative bytes.now ≡ Some (read.0, read.1.now)) }
+{
+    let Some((first, _)) = bytes.split_first() else {
+        return None;
+    };
+    if !is_digit(*first) {
+        return None;
+    }
+    let (value, rest) = take_digits(bytes);
+    Some(((negative, value), rest))
+}
+
+/// The character behind an opening quote, up to its closing one, and the bytes behind that.
+pub(crate) fn take_letter(bytes: &[u8]) -> Option<(u8, &[u8])>
+    ensures { MatchOption result (letter_on bytes.now ≡ None) (λ read. letter_on bytes.now ≡ Some (read.0, read.1.now)) }
+{
+    let Some((byte, rest)) = bytes.split_first() else {
+        return None;
+    };
+    if *byte == b'\\' {
+        return take_escape(rest);
+    }
+    if *byte < 32 || *byte > 126 || *byte == b'\'' {
+        return None;
+    }
+    close_letter(*byte, rest)
+}
+
+fn take_escape(bytes: &[u8]) -> Option<(u8, &[u8])>
+    ensures { MatchOption result (escape_on bytes.now ≡ None) (λ read. escape_on bytes.now ≡ Some (read.0, read.1.now)) }
+{
+    let Some((byte, rest)) = bytes.split_first() else {
+        return None;
+    };
+    match unescaped(*byte) {
+        None => None,
+        Some(letter) => close_letter(letter, rest),
+    }
+}
+
+fn unescaped(byte: u8) -> Option<u8>
+    ensures { result ≡ escaped byte }
+{
+    if byte == b'n' {
+        return Some(b'\n');
+    }
+    if byte == b't' {
+        return Some(b'\t');
+    }
+    if byte == b'\\' || byte == b'\'' {
+        return Some(byte);
+    }
+    None
+}
+
+fn close_letter(letter: u8, bytes: &[u8]) -> Option<(u8, &[u8])>
+    ensures { MatchOption result (closed letter (byte_at 39 bytes.now) ≡ None) (λ read. closed letter (byte_at 39 bytes.now) ≡ Some (read.0, read.1.now)) }
+{
+    match take_byte(bytes, b'\'') {
+        None => None,
+        Some(rest) => Some((letter, rest)),
+    }
 }

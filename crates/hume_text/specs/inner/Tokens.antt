@@ -1,7 +1,7 @@
 -- What is taken from the front of a line where a token of one kind is wanted.
-use Rattle.std.specs.Prelude.{ℕ, ◌==◌, ◌^◌, min, Bool, true, false, List, [], ◌∷◌, Option, Some, None, if◌then◌else◌}
+use Rattle.std.specs.Prelude.{ℕ, ◌==◌, ◌^◌, min, nat_le, ◌&&◌, not, Bool, true, false, List, [], ◌∷◌, Option, Some, None, if◌then◌else◌}
 use Rattle.std.specs.Str.Parse.{digits_value}
-use Rattle.hume_text.specs.Read.{is_blank, is_digit, is_letter, is_name_byte, front, behind}
+use Rattle.hume_text.specs.Read.{is_blank, is_digit, is_letter, is_name_byte, front, behind, escaped}
 
 -- the bytes behind this one
 abbrev pub byte_at : ℕ → List ℕ → Option (List ℕ)
@@ -43,3 +43,22 @@ number_at_front (byte ∷ bytes) = if byte == 45 then digits_on true bytes else 
 
 abbrev pub number_on : List ℕ → Option ((Bool × ℕ) × List ℕ)
 number_on line = number_at_front (behind is_blank line)
+
+-- a character that its closing quote follows
+abbrev pub closed : ℕ → Option (List ℕ) → Option (ℕ × List ℕ)
+closed letter None = None
+closed letter (Some rest) = Some (letter, rest)
+
+abbrev pub closed_escape : Option ℕ → List ℕ → Option (ℕ × List ℕ)
+closed_escape None bytes = None
+closed_escape (Some letter) bytes = closed letter (byte_at 39 bytes)
+
+abbrev pub escape_on : List ℕ → Option (ℕ × List ℕ)
+escape_on [] = None
+escape_on (byte ∷ bytes) = closed_escape (escaped byte) bytes
+
+abbrev pub letter_on : List ℕ → Option (ℕ × List ℕ)
+letter_on [] = None
+letter_on (byte ∷ bytes) =
+    if byte == 92 then escape_on bytes
+    else (if nat_le 32 byte && nat_le byte 126 && not (byte == 39) then closed byte (byte_at 39 bytes) else None)
