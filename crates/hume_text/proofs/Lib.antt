@@ -5,3 +5,4 @@ pub mod ValuePrinting
 pub mod TextLengths
 pub mod Rereading
 pub mod OneValue
+pub mod Cutting
