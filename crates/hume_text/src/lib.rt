@@ -13,6 +13,7 @@ mod chunk;
 mod laws;
 mod print;
 mod scalars;
+mod tokens;
 
 pub use bound::text_bound;
 pub use chunk::Chunk;
