@@ -33,7 +33,7 @@ front_taken test byte bytes =
 
 -- digits
 
-digit_range : (byte : ℕ) → is_digit byte ≡ true → (48 ≤ byte) × (byte ≤ 57)
+pub digit_range : (byte : ℕ) → is_digit byte ≡ true → (48 ≤ byte) × (byte ≤ 57)
 digit_range byte p = let ps = and_parts (nat_le 48 byte) (nat_le byte 57) p in (leb-true 48 byte ps.0, leb-true byte 57 ps.1)
 
 after_least : (n : ℕ) (ds : List ℕ) → n ≤ digits_value_after 10 n ds

@@ -6,3 +6,6 @@ pub mod TextLengths
 pub mod Rereading
 pub mod OneValue
 pub mod Cutting
+pub mod Signs
+pub mod FoundWords
+pub mod Reading

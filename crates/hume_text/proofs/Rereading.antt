@@ -98,7 +98,7 @@ letter_from b p = elim (or_cases (nat_le 97 b && nat_le b 122) (nat_le 65 b && n
 not_blank : (b : ℕ) → 33 ≤ b → is_blank b ≡ false
 not_blank b h = let one : b ≡ 32 → ⊥ = λ e. omega arith in let two : b ≡ 9 → ⊥ = λ e. omega arith in rw (ne_eqb b 32 one, ne_eqb b 9 two) refl
 
-digit_no_letter : (b : ℕ) → 48 ≤ b → b ≤ 57 → is_letter b ≡ false
+pub digit_no_letter : (b : ℕ) → 48 ≤ b → b ≤ 57 → is_letter b ≡ false
 digit_no_letter b low high = let one : nat_le 97 b ≡ false = lt-leb 97 b (omega arith) in let two : nat_le 65 b ≡ false = lt-leb 65 b (omega arith) in rw (one, two) refl
 
 digit_is : (b : ℕ) → 48 ≤ b → b ≤ 57 → is_digit b ≡ true

@@ -10,10 +10,12 @@
 
 mod bound;
 mod chunk;
+mod found;
 mod laws;
 mod print;
 mod scalars;
 mod tokens;
+mod walk;
 
 pub use bound::text_bound;
 pub use chunk::Chunk;

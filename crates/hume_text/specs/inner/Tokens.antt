@@ -1,5 +1,5 @@
 -- What is taken from the front of a line where a token of one kind is wanted.
-use Rattle.std.specs.Prelude.{ℕ, ◌==◌, ◌^◌, min, nat_le, ◌&&◌, not, Bool, true, false, List, [], ◌∷◌, Option, Some, None, if◌then◌else◌}
+use Rattle.std.specs.Prelude.{ℕ, ◌-◌, ◌==◌, ◌^◌, min, nat_le, ◌&&◌, not, Bool, true, false, ℤ, pos, neg_ℤ, List, [], ◌∷◌, Option, Some, None, if◌then◌else◌}
 use Rattle.std.specs.Str.Parse.{digits_value}
 use Rattle.hume_text.specs.Read.{is_blank, is_digit, is_letter, is_name_byte, front, behind, escaped}
 
@@ -43,6 +43,19 @@ number_at_front (byte ∷ bytes) = if byte == 45 then digits_on true bytes else 
 
 abbrev pub number_on : List ℕ → Option ((Bool × ℕ) × List ℕ)
 number_on line = number_at_front (behind is_blank line)
+
+-- the number with these digits and this sign
+abbrev pub signed : Bool → ℕ → ℤ
+signed true n = neg_ℤ (pos n)
+signed false n = pos n
+
+-- half of the numbers of an int that takes so many bits, and none more than 64
+abbrev pub half_of : ℕ → ℕ
+half_of bits = 2 ^ (min bits 64 - 1)
+
+-- the largest digits' value that such an int has on its side of zero
+abbrev pub most_of : ℕ → Bool → ℕ
+most_of bits negative = if negative then half_of bits else half_of bits - 1
 
 -- a character that its closing quote follows
 abbrev pub closed : ℕ → Option (List ℕ) → Option (ℕ × List ℕ)
