@@ -9,3 +9,5 @@ pub mod Cutting
 pub mod Signs
 pub mod FoundWords
 pub mod Reading
+pub mod Inversions
+pub mod LineReading
