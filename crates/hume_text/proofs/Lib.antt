@@ -11,3 +11,4 @@ pub mod FoundWords
 pub mod Reading
 pub mod Inversions
 pub mod LineReading
+pub mod FieldReading

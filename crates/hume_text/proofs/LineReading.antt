@@ -48,11 +48,11 @@ by_layer room test words spelled reader exact = (
   λ v. exact.1 (out-Value v),
 )
 
-both_true : (b c : Bool) → b ≡ true → c ≡ true → (b && c) ≡ true
+pub both_true : (b c : Bool) → b ≡ true → c ≡ true → (b && c) ≡ true
 both_true true c p q = q
 both_true false c p q = cc
 
-some_pair : (a c b d : List ℕ) → a ≡ c → b ≡ d → ◌≡◌ {A = Option (List ℕ × List ℕ)} (Some (a, b)) (Some (c, d))
+pub some_pair : (a c b d : List ℕ) → a ≡ c → b ≡ d → ◌≡◌ {A = Option (List ℕ × List ℕ)} (Some (a, b)) (Some (c, d))
 some_pair a c b d p q = λ i. Some (p i, q i)
 
 -- a scalar
@@ -175,3 +175,79 @@ tuple_exact {room} {ts} {fs} {ss} {readers} all = (sound, complete)
     complete (Value-F.Word a) filled line rest p fit h = cc
     complete (Value-F.Vector vs) filled line rest p fit h = cc
     complete (Value-F.Con c vs) filled line rest p fit h = cc
+
+-- several values of one type, by as many tests
+
+same_joined : (f : Value → List ℕ) (n : ℕ) (vs : List Value) → length vs ≡ n → joined (replicate {A = Value → List ℕ} n f) vs ≡ flat_map f vs
+same_joined f zero [] e = refl
+same_joined f zero (v ∷ vs) e = absurd (omega arith)
+same_joined f (suc n) [] e = absurd (omega arith)
+same_joined f (suc n) (v ∷ vs) e = ap (λ ws. f v ++ ws) (same_joined f n vs (omega arith))
+
+same_spelled : (s : Value → List Piece) (n : ℕ) (vs : List Value) → length vs ≡ n → each_spelled (replicate {A = Value → List Piece} n s) vs ≡ map s vs
+same_spelled s zero [] e = refl
+same_spelled s zero (v ∷ vs) e = absurd (omega arith)
+same_spelled s (suc n) [] e = absurd (omega arith)
+same_spelled s (suc n) (v ∷ vs) e = ap (λ ps. s v ∷ ps) (same_spelled s n vs (omega arith))
+
+items_counted : (t : Value → Bool) (n : ℕ) (vs : List Value) → all_pass (replicate {A = Value → Bool} n t) vs ≡ true → (length vs ≡ n) × (list_all t vs ≡ true)
+items_counted t zero [] p = (refl, refl)
+items_counted t zero (v ∷ vs) p = cc
+items_counted t (suc n) [] p = cc
+items_counted t (suc n) (v ∷ vs) p =
+    let ps = and_parts (t v) (all_pass (replicate {A = Value → Bool} n t) vs) p in
+    let left = items_counted t n vs ps.1 in
+    (let long : length (v ∷ vs) ≡ suc n = omega (arith, left.0) in long, both_true (t v) (list_all t vs) ps.0 left.1)
+
+items_pass : (t : Value → Bool) (n : ℕ) (vs : List Value) → length vs ≡ n → list_all t vs ≡ true → all_pass (replicate {A = Value → Bool} n t) vs ≡ true
+items_pass t zero [] e p = refl
+items_pass t zero (v ∷ vs) e p = absurd (omega arith)
+items_pass t (suc n) [] e p = absurd (omega arith)
+items_pass t (suc n) (v ∷ vs) e p =
+    let ps = and_parts (t v) (list_all t vs) p in
+    both_true (t v) (all_pass (replicate {A = Value → Bool} n t) vs) ps.0 (items_pass t n vs (omega arith) ps.1)
+
+items_all : (room n : ℕ) (t : Value → Bool) (f : Value → List ℕ) (s : Value → List Piece) (reader : Reader) → Exact room t f s reader
+    → AllExact room (replicate {A = Value → Bool} n t) (replicate {A = Value → List ℕ} n f) (replicate {A = Value → List Piece} n s) (replicate {A = Reader} n reader)
+items_all room zero t f s reader exact = none
+items_all room (suc n) t f s reader exact = one exact (items_all room n t f s reader exact)
+
+module _ (room n : ℕ) (t : Value → Bool) (f : Value → List ℕ) (s : Value → List Piece) (reader : Reader) (exact : Exact room t f s reader) where
+  abbrev VectorSpelled : Value-F Value → List Piece
+  VectorSpelled l = OpenVector ∷ (with_commas (map s (parts_in l)) ++ CloseVector ∷ [])
+
+  abbrev vector_reader : Reader
+  vector_reader words line = read_in is_open_vector is_close_vector (replicate {A = Reader} n reader) words line
+
+  vector_sound : LayerSound (is_vector_of n t) (λ l. flat_map f (parts_in l)) VectorSpelled vector_reader
+  vector_sound filled line more rest e =
+      let readers : List Reader = replicate {A = Reader} n reader in
+      let closed = closed_inv is_close_vector (read_on (behind_sign is_open_vector (next line)) (read_several true readers filled)) more rest e in
+      let on = on_inv (behind_sign is_open_vector (next line)) (read_several true readers filled) more closed.0 closed.1 in
+      let own = parts_sound (items_all room n t f s reader exact) filled on.0 more closed.0 on.2 in
+      let count = items_counted t n own.0 own.1 in
+      let opened = sign_inv is_open_vector OpenVector open_vector_only (next line) on.0 on.1 in
+      let ended = sign_inv is_close_vector CloseVector close_vector_only (next closed.0) rest closed.2 in
+      let cut : Cuts on.0 (with_commas (map s own.0)) closed.0 = subst (λ ps. Cuts on.0 (with_commas ps) closed.0) (same_spelled s n own.0 count.0) own.3 in
+      (Value-F.Vector own.0, both_true (length own.0 == n) (list_all t own.0) (eq-eqb (length own.0) n count.0) count.1,
+        own.2 ∙ ap (λ ws. filled ++ ws) (same_joined f n own.0 count.0),
+        (on.0, opened, cuts_join (with_commas (map s own.0)) (CloseVector ∷ []) on.0 closed.0 rest cut (rest, ended, refl)))
+
+  vector_complete : LayerComplete room (is_vector_of n t) (λ l. flat_map f (parts_in l)) VectorSpelled vector_reader
+  vector_complete (Value-F.Vector vs) filled line rest p fit h =
+      let ps = and_parts (length vs == n) (list_all t vs) p in
+      let count : length vs ≡ n = eqb-true (length vs) n ps.0 in
+      let split = cuts_split (with_commas (map s vs)) (CloseVector ∷ []) h.0 rest h.2 in
+      let ended : next split.0 ≡ Some (CloseVector, rest) = split.2.1 ∙ ap (λ r. Some (CloseVector, r)) split.2.2 in
+      let words : joined (replicate {A = Value → List ℕ} n f) vs ≡ flat_map f vs = same_joined f n vs count in
+      let cut : Cuts h.0 (with_commas (each_spelled (replicate {A = Value → List Piece} n s) vs)) split.0 =
+      subst (λ ps. Cuts h.0 (with_commas ps) split.0) (sym (same_spelled s n vs count)) split.1 in
+      in_complete is_open_vector is_close_vector (replicate {A = Reader} n reader) filled line h.0 (filled ++ flat_map f vs) split.0 rest (ap (behind_sign is_open_vector) h.1)
+      (parts_complete (items_all room n t f s reader exact) vs filled h.0 split.0 (items_pass t n vs count ps.1)
+      (subst (λ ws. length filled + length ws ≤ room) (sym words) fit) cut ∙ ap (λ ws. Some (filled ++ ws, split.0)) words) (ap (behind_sign is_close_vector) ended)
+  vector_complete (Value-F.Word a) filled line rest p fit h = cc
+  vector_complete (Value-F.Tuple vs) filled line rest p fit h = cc
+  vector_complete (Value-F.Con c vs) filled line rest p fit h = cc
+
+  pub vector_exact : LayerExact room (is_vector_of n t) (λ l. flat_map f (parts_in l)) VectorSpelled vector_reader
+  vector_exact = (vector_sound, vector_complete)
