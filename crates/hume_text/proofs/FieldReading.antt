@@ -106,7 +106,7 @@ joined_pieces parts = flat_map (λ part. part) parts
 module _ (types : Types) (room : ℕ) (t : Ty → Value → Bool) (f : Ty → Value → List ℕ) (s : Ty → Value → List Piece) (reader : Ty → Reader)
     (Good : Ty → Type 0) (exact : (ty : Ty) → Good ty → Exact room (t ty) (f ty) (s ty) (reader ty))
     (shows : (ty : Ty) → ShowsFields types ty (t ty) (f ty) (s ty)) where
-  abbrev laid : List Ty → List Value → List Piece
+  abbrev pub laid : List Ty → List Value → List Piece
   laid tys vs = joined_pieces (each_spelled (map (λ ty. as_field (s ty)) tys) vs)
 
   pub fields_sound : (tys : List Ty) → AllByRecursion Good tys → (filled line more rest : List ℕ) → read_fields types reader tys filled line ≡ Some (more, rest)

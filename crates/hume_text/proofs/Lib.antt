@@ -12,3 +12,5 @@ pub mod Reading
 pub mod Inversions
 pub mod LineReading
 pub mod FieldReading
+pub mod ConReading
+pub mod TypeReading

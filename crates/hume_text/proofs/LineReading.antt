@@ -25,11 +25,11 @@ Complete room test words spelled reader = (v : Value) (filled line rest : List �
 abbrev pub Exact : ℕ → (Value → Bool) → (Value → List ℕ) → (Value → List Piece) → Reader → Type 0
 Exact room test words spelled reader = Sound test words spelled reader × Complete room test words spelled reader
 
-abbrev LayerSound : (Value-F Value → Bool) → (Value-F Value → List ℕ) → (Value-F Value → List Piece) → Reader → Type 0
+abbrev pub LayerSound : (Value-F Value → Bool) → (Value-F Value → List ℕ) → (Value-F Value → List Piece) → Reader → Type 0
 LayerSound test words spelled reader = (filled line more rest : List ℕ) → reader filled line ≡ Some (more, rest)
     → (l : Value-F Value) × (test l ≡ true) × (more ≡ filled ++ words l) × Cuts line (spelled l) rest
 
-abbrev LayerComplete : ℕ → (Value-F Value → Bool) → (Value-F Value → List ℕ) → (Value-F Value → List Piece) → Reader → Type 0
+abbrev pub LayerComplete : ℕ → (Value-F Value → Bool) → (Value-F Value → List ℕ) → (Value-F Value → List Piece) → Reader → Type 0
 LayerComplete room test words spelled reader = (l : Value-F Value) (filled line rest : List ℕ) → test l ≡ true → length filled + length (words l) ≤ room
     → Cuts line (spelled l) rest → reader filled line ≡ Some (filled ++ words l, rest)
 

@@ -357,7 +357,7 @@ some_con [] c h e = omega arith
 some_con (con ∷ cons) zero h e = cc
 some_con (con ∷ cons) (suc c) h e = some_con cons c (omega arith) e
 
-fields_writable : (cons : List ConDef) → AllByRecursion IsWritableCon cons → (c : ℕ) → AllByRecursion IsWritable (fields_of (slice_get cons c))
+pub fields_writable : (cons : List ConDef) → AllByRecursion IsWritableCon cons → (c : ℕ) → AllByRecursion IsWritable (fields_of (slice_get cons c))
 fields_writable [] w c = tt
 fields_writable (con ∷ cons) w zero = w.0.fields
 fields_writable (con ∷ cons) w (suc c) = fields_writable cons w.1 c
