@@ -14,3 +14,4 @@ pub mod LineReading
 pub mod FieldReading
 pub mod ConReading
 pub mod TypeReading
+pub mod NamedReading
