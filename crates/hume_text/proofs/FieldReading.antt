@@ -1,5 +1,5 @@
 -- The fields of a constructor are read from their texts and from no other lines.
-use Rattle.std.proofs.Common.{◌≡◌, ℕ, ◌+◌, ◌≤◌, ◌&&◌, Bool, true, false, List, [], ◌∷◌, ◌++◌, map, length, drop, length-append, append_assoc, Option, Some, None, if◌then◌else◌, refl, ap, sym, ◌∙◌, subst, arith}
+use Rattle.std.proofs.Common.{◌≡◌, ℕ, ◌+◌, ◌≤◌, Bool, true, false, List, [], ◌∷◌, ◌++◌, map, length, drop, length-append, append_assoc, Option, Some, None, if◌then◌else◌, refl, ap, sym, ◌∙◌, subst, arith}
 use Rattle.std.proofs.Math.Seq.{drop-append_seam}
 use Rattle.std.proofs.lemmas.Bool.{and_parts}
 use Rattle.std.specs.List.{flat_map, AllByRecursion}
@@ -12,7 +12,7 @@ use Rattle.hume_base.specs.Flat.{joined}
 use Rattle.hume_text.specs.Spelling.{Piece, Space, Open, Close, each_spelled, has_fields, as_field}
 use Rattle.hume_text.specs.Read.{next, Cuts}
 use Rattle.hume_text.specs.inner.Printers.{is_compound}
-use Rattle.hume_text.specs.inner.Readers.{Reading, Reader, then_read, read_on, is_open, is_close, behind_sign, opens, closed_field, field_ended, field_start, read_from, read_field, read_fields}
+use Rattle.hume_text.specs.inner.Readers.{Reading, Reader, then_read, is_open, is_close, behind_sign, opens, closed_field, field_ended, field_start, read_from, read_field, read_fields}
 use Rattle.hume_text.proofs.ValuePrinting.{append_nothing}
 use Rattle.hume_text.proofs.Reading.{field-read}
 use Rattle.hume_text.proofs.Inversions.{cuts_join, cuts_split, none_some, same_some, same_pair, then_inv, on_inv, sign_inv, open_only, close_only}

@@ -15,3 +15,5 @@ pub mod FieldReading
 pub mod ConReading
 pub mod TypeReading
 pub mod NamedReading
+pub mod FlatLengths
+pub mod LinesRead

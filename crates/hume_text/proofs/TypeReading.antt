@@ -1,5 +1,5 @@
 -- The values of a type are read from their texts and from no other lines.
-use Rattle.std.proofs.Common.{◌≡◌, ℕ, zero, suc, ◌+◌, ◌-◌, ◌^◌, ◌<◌, ◌≤◌, nat_lt, nat_le, nat_eq, ◌==◌, ◌&&◌, min, Bool, true, false, if◌then◌else◌, ℤ, pos, negsuc, neg_ℤ, List, [], ◌∷◌, ◌++◌, codes, map, length, replicate, Option, Some, None, slice_get, w64, SFits, Fits, refl, ap, sym, ◌∙◌, subst, arith}
+use Rattle.std.proofs.Common.{◌≡◌, ℕ, zero, suc, ◌-◌, ◌^◌, ◌<◌, ◌≤◌, nat_lt, nat_le, nat_eq, ◌&&◌, min, Bool, true, false, if◌then◌else◌, ℤ, pos, negsuc, neg_ℤ, List, [], ◌∷◌, ◌++◌, codes, map, length, replicate, Some, None, w64, SFits, Fits, refl, ap, sym, ◌∙◌, subst, arith}
 use Rattle.std.proofs.Math.Pow.{pow_mono}
 use Rattle.std.proofs.lemmas.Bool.{and_parts, ltb-true, leb-true, lt-ltb}
 use Rattle.std.proofs.lemmas.Int.{to_z-of_z, of_z-to_z}
@@ -9,7 +9,7 @@ use Rattle.std.specs.Int.RustNames.{int_le, int_lt}
 use Rattle.std.specs.List.{list_all, flat_map}
 use Rattle.hume_base.specs.declared.types.Ty.{Ty, roll-Ty, map-Ty, fold-roll-Ty, ind-Ty}
 use Rattle.hume_base.specs.declared.types.Ty.TheOpen.{Ty-F}
-use Rattle.hume_base.specs.declared.types.Value.{Value, out-Value}
+use Rattle.hume_base.specs.declared.types.Value.{Value}
 use Rattle.hume_base.specs.Words.{int_of, word_of}
 use Rattle.hume_base.specs.Values.{is_char_word, is_int_of, is_int_word, is_word_of, is_tuple_of, is_vector_of, value_step, is_value_with}
 use Rattle.hume_base.specs.Flat.{word_in, parts_in, joined, flat_step, flat_with}
