@@ -1,9 +1,8 @@
 -- The next token of a line is found where one of its kind is wanted.
-use Rattle.std.proofs.Common.{◌≡◌, ℕ, ◌==◌, Bool, true, false, ℤ, pos, neg_ℤ, List, [], ◌∷◌, Option, Some, None, if◌then◌else◌, refl, ap}
+use Rattle.std.proofs.Common.{◌≡◌, ℕ, ◌==◌, Bool, true, false, ℤ, pos, neg_ℤ, List, [], ◌∷◌, Option, Some, None, if◌then◌else◌, refl}
 use Rattle.std.proofs.lemmas.Bool.{eqb-true}
 use Rattle.hume_text.specs.Spelling.{Piece, Open, Close, OpenVector, CloseVector, Comma, Name, Number, Letter}
 use Rattle.hume_text.specs.Read.{is_digit, is_letter, is_name_byte, front, behind, Cut, second, digits_at, escaped, closed_letter, escape_at, letter_at, token_at}
-use Rattle.hume_text.specs.inner.Tokens.{byte_at}
 
 pub if_cases : (P : Cut → Type 0) (b : Bool) (x y : Cut) → (b ≡ true → P x) → P y → P (if b then x else y)
 if_cases P true x y f q = f refl
@@ -53,26 +52,3 @@ escape_cases P (byte ∷ bytes) f q = closed_cases P (escaped byte) bytes f q
 pub letter_cases : (P : Cut → Type 0) (bytes : List ℕ) → ((a : ℕ) (rest : List ℕ) → P (Some (Letter a, rest))) → P None → P (letter_at bytes)
 letter_cases P [] f q = q
 letter_cases P (byte ∷ bytes) f q = if_cases P (byte == 92) _ _ (λ e. escape_cases P bytes f q) (if_cases P _ _ _ (λ e. second_cases P 39 (Letter byte) bytes (f byte) q) q)
-
-same_piece : (x y : Piece) (a b : List ℕ) → ◌≡◌ {A = Cut} (Some (x, a)) (Some (y, b)) → x ≡ y
-same_piece x y a b e = let both : ◌≡◌ {A = Piece × List ℕ} (x, a) (y, b) = cc in ap (λ (p : Piece × List ℕ). p.0) both
-
-no_open : (x : Piece) (a b : List ℕ) → (x ≡ Open → ⊥) → ◌≡◌ {A = Cut} (Some (x, a)) (Some (Open, b)) → ⊥
-no_open x a b apart e = apart (same_piece x Open a b e)
-
--- an opening parenthesis is found where it comes next
-open_found : (bytes rest : List ℕ) → ◌≡◌ {A = Cut} (token_at bytes) (Some (Open, rest)) → byte_at 40 bytes ≡ Some rest
-open_found [] rest e = cc
-open_found (byte ∷ bytes) rest e =
-    by_first (λ cut. ◌≡◌ {A = Cut} cut (Some (Open, rest)) → byte_at 40 (byte ∷ bytes) ≡ Some rest) byte bytes
-    (λ _ x. absurd (no_open (Name _) _ rest (λ y. cc) x))
-    (λ _. digits_cases (λ cut. ◌≡◌ {A = Cut} cut (Some (Open, rest)) → byte_at 40 (byte ∷ bytes) ≡ Some rest) pos (byte ∷ bytes) (λ z r x. absurd (no_open (Number z) r rest (λ y. cc) x)) (λ x. cc))
-    (λ _. digits_cases (λ cut. ◌≡◌ {A = Cut} cut (Some (Open, rest)) → byte_at 40 (byte ∷ bytes) ≡ Some rest) (λ n. neg_ℤ (pos n)) bytes (λ z r x. absurd (no_open (Number z) r rest (λ y. cc) x)) (λ x. cc))
-    (λ _. letter_cases (λ cut. ◌≡◌ {A = Cut} cut (Some (Open, rest)) → byte_at 40 (byte ∷ bytes) ≡ Some rest) bytes (λ a r x. absurd (no_open (Letter a) r rest (λ y. cc) x)) (λ x. cc))
-    (λ is x. rw is (ap (λ r. Some r) (let both : ◌≡◌ {A = Piece × List ℕ} (Open, bytes) (Open, rest) = cc in ap (λ (p : Piece × List ℕ). p.1) both)))
-    (λ _ x. absurd (no_open Close bytes rest (λ y. cc) x))
-    (λ _ x. absurd (no_open Comma bytes rest (λ y. cc) x))
-    (λ _. second_cases (λ cut. ◌≡◌ {A = Cut} cut (Some (Open, rest)) → byte_at 40 (byte ∷ bytes) ≡ Some rest) 60 OpenVector bytes (λ r x. absurd (no_open OpenVector r rest (λ y. cc) x)) (λ x. cc))
-    (λ _. second_cases (λ cut. ◌≡◌ {A = Cut} cut (Some (Open, rest)) → byte_at 40 (byte ∷ bytes) ≡ Some rest) 62 CloseVector bytes (λ r x. absurd (no_open CloseVector r rest (λ y. cc) x)) (λ x. cc))
-    (λ x. cc)
-    e

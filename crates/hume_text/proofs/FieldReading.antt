@@ -56,8 +56,8 @@ module _ (types : Types) (ty : Ty) (room : ℕ) (t : Value → Bool) (f : Value 
   Laid b v = if b then Space ∷ (Open ∷ (s v ++ Close ∷ [])) else Space ∷ s v
 
   -- the words of a value behind others tell if it has fields
-  told : (filled : List ℕ) (v : Value) → t v ≡ true → is_compound types (out-Ty ty) (drop (length filled) (filled ++ f v)) ≡ has_fields (out-Value v)
-  told filled v p =
+  seen : (filled : List ℕ) (v : Value) → t v ≡ true → is_compound types (out-Ty ty) (drop (length filled) (filled ++ f v)) ≡ has_fields (out-Value v)
+  seen filled v p =
       ap (is_compound types (out-Ty ty)) (drop-append_seam filled (f v) ∙ append_nothing (f v)) ∙ shows.compound v [] p
 
   field_sound : Sound t f (as_field s) (λ words line. read_field types ty reader words line)
@@ -69,14 +69,14 @@ module _ (types : Types) (ty : Ty) (room : ℕ) (t : Value → Bool) (f : Value 
           let ended = ended_inv types ty filled false (reader filled line) more rest e' in
           let own = exact.0 filled line more ended.0 ended.1 in
           let is : is_compound types (out-Ty ty) (drop (length filled) more) ≡ has_fields (out-Value own.0) =
-          ap (λ w. is_compound types (out-Ty ty) (drop (length filled) w)) own.2 ∙ told filled own.0 own.1 in
+          ap (λ w. is_compound types (out-Ty ty) (drop (length filled) w)) own.2 ∙ seen filled own.0 own.1 in
           let bare = bare_inv (has_fields (out-Value own.0)) ended.0 rest (ap (λ b. closed_field false b ended.0) (sym is) ∙ ended.2) in
           (own.0, own.1, own.2, subst (λ b. Cuts line (Laid b own.0) rest) (sym bare.0) (subst (λ r. Cuts line (s own.0) r) bare.1 own.3))
       go (Some inner) q e' =
           let ended = ended_inv types ty filled true (reader filled inner) more rest e' in
           let own = exact.0 filled inner more ended.0 ended.1 in
           let is : is_compound types (out-Ty ty) (drop (length filled) more) ≡ has_fields (out-Value own.0) =
-          ap (λ w. is_compound types (out-Ty ty) (drop (length filled) w)) own.2 ∙ told filled own.0 own.1 in
+          ap (λ w. is_compound types (out-Ty ty) (drop (length filled) w)) own.2 ∙ seen filled own.0 own.1 in
           let closed = close_inv (has_fields (out-Value own.0)) ended.0 rest (ap (λ b. closed_field true b ended.0) (sym is) ∙ ended.2) in
           let opened = sign_inv is_open Open open_only (next line) inner (opens_inv (out-Ty ty) line inner q) in
           let last = sign_inv is_close Close close_only (next ended.0) rest closed.1 in
@@ -92,10 +92,10 @@ module _ (types : Types) (ty : Ty) (room : ℕ) (t : Value → Bool) (f : Value 
           let last : next split.0 ≡ Some (Close, rest) = split.2.1 ∙ ap (λ r. Some (Close, r)) split.2.2 in
           let start : opens (out-Ty ty) line ≡ Some k.0 = shows.opening v line p q ∙ ap (behind_sign is_open) k.1 in
           field-read types ty reader filled line true k.0 (filled ++ f v) split.0 true (Some rest) (ap (λ o. field_start o line) start)
-          (exact.1 v filled k.0 split.0 p fit split.1) (sym (told filled v p ∙ q)) (ap (behind_sign is_close) last)
+          (exact.1 v filled k.0 split.0 p fit split.1) (sym (seen filled v p ∙ q)) (ap (behind_sign is_close) last)
       go false q k =
           field-read types ty reader filled line false line (filled ++ f v) rest false (Some rest) (ap (λ o. field_start o line) (shows.begins v line rest p k))
-          (exact.1 v filled line rest p fit k) (sym (told filled v p ∙ q)) refl
+          (exact.1 v filled line rest p fit k) (sym (seen filled v p ∙ q)) refl
 
   pub field_exact : Exact room t f (as_field s) (λ words line. read_field types ty reader words line)
   field_exact = (field_sound, field_complete)
