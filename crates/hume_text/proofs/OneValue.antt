@@ -290,7 +290,7 @@ all_told : (t : Ty → Value → Bool) (f : Ty → Value → List Piece) → ((t
 all_told t f told led [] = none
 all_told t f told led (ty ∷ tys) = one (field_told (t ty) (f ty) (told ty) (led ty)) (all_told t f told led tys)
 
-some_con : (cons : List ConDef) (c : ℕ) → c < length cons → slice_get cons c ≡ None → ⊥
+pub some_con : (cons : List ConDef) (c : ℕ) → c < length cons → slice_get cons c ≡ None → ⊥
 some_con [] c h e = omega arith
 some_con (con ∷ cons) zero h e = cc
 some_con (con ∷ cons) (suc c) h e = some_con cons c (omega arith) e
@@ -340,19 +340,19 @@ int_one bits a b p q e =
     let same : int_of a ≡ int_of b = cc in
     sym (of_z-to_z w64 a (ltb-true _ _ (and_parts _ _ p).0)) ∙ ap (cast_unsigned w64) same ∙ of_z-to_z w64 b (ltb-true _ _ (and_parts _ _ q).0)
 
-no_fields_word : (test : ℕ → Bool) (l : Value-F Value) → is_word_of test l ≡ true → has_fields l ≡ true → ⊥
+pub no_fields_word : (test : ℕ → Bool) (l : Value-F Value) → is_word_of test l ≡ true → has_fields l ≡ true → ⊥
 no_fields_word test (Value-F.Word a) p h = cc
 no_fields_word test (Value-F.Tuple vs) p h = cc
 no_fields_word test (Value-F.Vector vs) p h = cc
 no_fields_word test (Value-F.Con c vs) p h = cc
 
-no_fields_tuple : (tests : List (Value → Bool)) (l : Value-F Value) → is_tuple_of tests l ≡ true → has_fields l ≡ true → ⊥
+pub no_fields_tuple : (tests : List (Value → Bool)) (l : Value-F Value) → is_tuple_of tests l ≡ true → has_fields l ≡ true → ⊥
 no_fields_tuple tests (Value-F.Word a) p h = cc
 no_fields_tuple tests (Value-F.Tuple vs) p h = cc
 no_fields_tuple tests (Value-F.Vector vs) p h = cc
 no_fields_tuple tests (Value-F.Con c vs) p h = cc
 
-no_fields_vector : (n : ℕ) (test : Value → Bool) (l : Value-F Value) → is_vector_of n test l ≡ true → has_fields l ≡ true → ⊥
+pub no_fields_vector : (n : ℕ) (test : Value → Bool) (l : Value-F Value) → is_vector_of n test l ≡ true → has_fields l ≡ true → ⊥
 no_fields_vector n test (Value-F.Word a) p h = cc
 no_fields_vector n test (Value-F.Tuple vs) p h = cc
 no_fields_vector n test (Value-F.Vector vs) p h = cc

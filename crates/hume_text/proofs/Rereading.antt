@@ -30,12 +30,12 @@ is_name [] = false
 is_name (byte ∷ bytes) = is_letter byte && list_all is_name_byte bytes
 
 -- a piece that is read as it is written
-abbrev pub IsReadable : Piece → Type 0
-IsReadable (Name name) = is_name name ≡ true
-IsReadable (Number (pos n)) = n < 2 ^ 64
-IsReadable (Number (negsuc n)) = suc n < 2 ^ 64
-IsReadable (Letter byte) = is_char_word byte ≡ true
-IsReadable _ = Unit {0}
+abbrev pub IsReadBack : Piece → Type 0
+IsReadBack (Name name) = is_name name ≡ true
+IsReadBack (Number (pos n)) = n < 2 ^ 64
+IsReadBack (Number (negsuc n)) = suc n < 2 ^ 64
+IsReadBack (Letter byte) = is_char_word byte ≡ true
+IsReadBack _ = Unit {0}
 
 -- no name and no number goes on with these pieces
 abbrev pub Stops : List Piece → Type 0
@@ -58,7 +58,7 @@ Follows _ pieces = Unit {0}
 
 abbrev pub AreLaid : List Piece → Type 0
 AreLaid [] = Unit {0}
-AreLaid (piece ∷ pieces) = IsReadable piece × Follows piece pieces × AreLaid pieces
+AreLaid (piece ∷ pieces) = IsReadBack piece × Follows piece pieces × AreLaid pieces
 
 -- bytes
 
@@ -98,7 +98,7 @@ letter_from b p = elim (or_cases (nat_le 97 b && nat_le b 122) (nat_le 65 b && n
 not_blank : (b : ℕ) → 33 ≤ b → is_blank b ≡ false
 not_blank b h = let one : b ≡ 32 → ⊥ = λ e. omega arith in let two : b ≡ 9 → ⊥ = λ e. omega arith in rw (ne_eqb b 32 one, ne_eqb b 9 two) refl
 
-digit_no_letter : (b : ℕ) → 48 ≤ b → b ≤ 57 → is_letter b ≡ false
+pub digit_no_letter : (b : ℕ) → 48 ≤ b → b ≤ 57 → is_letter b ≡ false
 digit_no_letter b low high = let one : nat_le 97 b ≡ false = lt-leb 97 b (omega arith) in let two : nat_le 65 b ≡ false = lt-leb 65 b (omega arith) in rw (one, two) refl
 
 digit_is : (b : ℕ) → 48 ≤ b → b ≤ 57 → is_digit b ≡ true
@@ -261,7 +261,7 @@ bool_goes a qs stops laid = ((by (a == 0), stops, laid), tt)
 nat_goes : (bits a : ℕ) → bits ≤ 64 → a < 2 ^ bits → Goes (Number (pos a) ∷ [])
 nat_goes bits a few below qs stops laid = let most : 2 ^ bits ≤ 2 ^ 64 = pow_mono few in ((omega arith, stops, laid), tt)
 
-int_readable : (z : ℤ) → SFits w64 z → IsReadable (Number z)
+int_readable : (z : ℤ) → SFits w64 z → IsReadBack (Number z)
 int_readable (pos n) h = let below : n < 2 ^ 63 = h.sfits in omega arith
 int_readable (negsuc n) h = let below : n < 2 ^ 63 = h.sfits in omega arith
 
@@ -357,7 +357,7 @@ some_con [] c h e = omega arith
 some_con (con ∷ cons) zero h e = cc
 some_con (con ∷ cons) (suc c) h e = some_con cons c (omega arith) e
 
-fields_writable : (cons : List ConDef) → AllByRecursion IsWritableCon cons → (c : ℕ) → AllByRecursion IsWritable (fields_of (slice_get cons c))
+pub fields_writable : (cons : List ConDef) → AllByRecursion IsWritableCon cons → (c : ℕ) → AllByRecursion IsWritable (fields_of (slice_get cons c))
 fields_writable [] w c = tt
 fields_writable (con ∷ cons) w zero = w.0.fields
 fields_writable (con ∷ cons) w (suc c) = fields_writable cons w.1 c

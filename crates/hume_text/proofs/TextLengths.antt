@@ -29,7 +29,7 @@ use Rattle.hume_text.proofs.ValuePrinting.{written-append, several, enclosed, ap
 abbrev long : List Piece → ℕ
 long pieces = length (written pieces)
 
-sum_more : (n : ℕ) (ns : List ℕ) → sum (n ∷ ns) ≡ n + sum ns
+pub sum_more : (n : ℕ) (ns : List ℕ) → sum (n ∷ ns) ≡ n + sum ns
 sum_more n ns = sum_by-cons (λ x. x) n ns
 
 module _ (test : Ty → Value → Bool) (spelled : Ty → Value → List Piece) (size : Ty → ℕ) where
@@ -224,7 +224,7 @@ cons_at [] w c = (omega arith, tt)
 cons_at (con ∷ cons) w zero = (w.0.name, w.0.fields)
 cons_at (con ∷ cons) w (suc c) = cons_at cons w.1 c
 
-sizes_at : (nz : ℕ → ℕ) (cons : List ConDef) (c : ℕ)
+pub sizes_at : (nz : ℕ → ℕ) (cons : List ConDef) (c : ℕ)
     → sum (map (size_with nz) (fields_of (slice_get cons c))) ≤ greatest (map (λ (con : ConDef). sizes_with nz con.fields) cons)
 sizes_at nz [] c = omega arith
 sizes_at nz (con ∷ cons) zero = omega arith

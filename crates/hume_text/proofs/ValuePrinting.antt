@@ -293,7 +293,7 @@ module _ (types : Types) (nt : ℕ → Value → Bool) (nf : ℕ → Value → L
   rolled_compound : (y : Ty-F Ty) → Compound (roll-Ty y)
   rolled_compound y = rw (fold-roll-Ty (Value → Bool) (value_step nt), fold-roll-Ty (Value → List ℕ) (flat_step nf), out-roll-Ty y) (layer_compound y)
 
-  ty_compound : (ty : Ty) → Compound ty
+  pub ty_compound : (ty : Ty) → Compound ty
   ty_compound ty = subst Compound (roll-out-Ty ty) (rolled_compound (out-Ty ty))
 
 -- whichever of the two a test chooses, its values are printed
@@ -303,7 +303,7 @@ either_prints : (b : Bool) (t u : Value → Bool) (f g : Value → List ℕ) (s 
 either_prints true t u f g s z first second p q = p
 either_prints false t u f g s z first second p q = q
 
-size-at : (types : Types) (bound number : ℕ) → number < bound
+pub size-at : (types : Types) (bound number : ℕ) → number < bound
     → named_size types bound number ≡ size_of_sum (named_size types number) (slice_get types.sums number)
 unfolding named_size
 size-at types zero number below = absurd (omega arith)
@@ -331,7 +331,7 @@ sum_stands : (t : Ty → Value → Bool) (f : Ty → Value → List ℕ) (size :
 sum_stands t f size None v r p = cc
 sum_stands t f size (Some sum) v r p = con_stands t f size sum (out-Value v) r p
 
-named_stands : (types : Types) (bound k : ℕ) (v : Value) (r : List ℕ) → is_named_value types bound k v ≡ true
+pub named_stands : (types : Types) (bound k : ℕ) (v : Value) (r : List ℕ) → is_named_value types bound k v ≡ true
     → fields_stand (slice_get types.sums k) (named_words types bound k v ++ r) ≡ has_fields (out-Value v)
 unfolding is_named_value named_words
 named_stands types zero k v r p = cc
@@ -365,7 +365,7 @@ module _ (types : Types) (sizes : HaveTheirSizes types) (small : HaveWrittenSize
       (ty_compound types (is_named_value types bound) (named_words types bound) (named_spelling types bound) (print_named types bound) named stands)
       size sum whole)
 
-  named_prints : (bound : ℕ) → bound ≤ length types.sums → (k : ℕ)
+  pub named_prints : (bound : ℕ) → bound ≤ length types.sums → (k : ℕ)
       → Prints (is_named_value types bound k) (named_words types bound k) (named_spelling types bound k) (print_named types bound k)
   unfolding is_named_value named_words named_spelling print_named
   named_prints zero within k = λ v r p. cc

@@ -1,9 +1,10 @@
 -- Which lines are texts of a value.
-use Rattle.std.specs.Prelude.{◌≡◌, ℕ, nat_le, ◌==◌, ◌&&◌, ◌||◌, not, Bool, ℤ, pos, neg_ℤ, List, [], ◌∷◌, Option, Some, None, if◌then◌else◌}
+use Rattle.std.specs.Prelude.{◌≡◌, ℕ, nat_le, ◌==◌, ◌&&◌, ◌||◌, not, Bool, true, ℤ, pos, neg_ℤ, List, [], ◌∷◌, Option, Some, None, if◌then◌else◌}
 use Rattle.std.specs.Str.Parse.{digits_value}
 use Rattle.hume_base.specs.declared.types.Ty.{Ty}
 use Rattle.hume_base.specs.declared.types.Value.{Value}
 use Rattle.hume_base.specs.declared.types.Types.{Types}
+use Rattle.hume_base.specs.Values.{is_value}
 use Rattle.hume_text.specs.Spelling.{Piece, Space, Open, Close, OpenVector, CloseVector, Comma, Name, Number, Letter, spelling}
 
 -- a space or a tab
@@ -104,3 +105,9 @@ pub record IsTextOf (types : Types) (ty : Ty) (line : List ℕ) (value : Value) 
   pub rest : List ℕ
   pub tokens : Cuts line (spelling types ty value) rest
   pub blank : behind is_blank rest ≡ []
+
+-- the line is a text of a value of the type
+pub record IsReadable (types : Types) (ty : Ty) (line : List ℕ) : Type 0 where
+  pub value : Value
+  pub typed : is_value types ty value ≡ true
+  pub text : IsTextOf types ty line value

@@ -1,1 +1,3 @@
 pub mod Printers
+pub mod Tokens
+pub mod Readers

@@ -208,7 +208,7 @@ fn print_field<'a>(
 }
 
 // Whether a value of the type with these words is a constructor with fields.
-fn is_compound(types: &Types, ty: &Ty, words: &[u64]) -> bool
+pub(crate) fn is_compound(types: &Types, ty: &Ty, words: &[u64]) -> bool
     ensures { result ≡ is_compound types.now (out-Ty ty.now) words.now }
 {
     let Ty::Named(number) = ty else {
