@@ -139,12 +139,13 @@ module _ (types : Types) (room : ℕ) (t : Ty → Value → Bool) (f : Ty → Va
       ∙ ap (λ w. size - (length w - length filled)) mid ∙ ap (λ n. size - n) (past filled ws) in
       let token : next line ≡ Some (Name (name_at sum con.0), con.1) = found.1 ∙ ap (λ p. Some (p, con.1)) place.1 in
       let cut : Cuts con.1 (laid types room t f s reader Good exact shows (fields_at sum con.0) fields.0) all.1 =
-      subst (λ l. Cuts l (laid types room t f s reader Good exact shows (fields_at sum con.0) fields.0) all.1) put.1 fields.3 in
-      (Value-F.Con con.0 fields.0,
+      subst (λ l. Cuts l (laid types room t f s reader Good exact shows (fields_at sum con.0) fields.0) all.1) put.1 fields.3 in (
+        Value-F.Con con.0 fields.0,
         both_true (nat_lt con.0 (length sum.cons)) (all_pass (map t (fields_at sum con.0)) fields.0) (lt-ltb con.0 (length sum.cons) place.0) fields.1,
         zeros.0 ∙ ap (λ n. all.0 ++ replicate {A = ℕ} n 0) count ∙ ap (λ w. w ++ replicate {A = ℕ} (size - length ws) 0) mid
-        ∙ append_assoc filled ws (replicate {A = ℕ} (size - length ws) 0),
-        (con.1, token, subst (λ r. Cuts con.1 (laid types room t f s reader Good exact shows (fields_at sum con.0) fields.0) r) (sym zeros.1) cut))
+            ∙ append_assoc filled ws (replicate {A = ℕ} (size - length ws) 0),
+        (con.1, token, subst (λ r. Cuts con.1 (laid types room t f s reader Good exact shows (fields_at sum con.0) fields.0) r) (sym zeros.1) cut),
+      )
 
   con_complete : LayerComplete room (is_con_of t sum) (λ l. padded size (con_words f sum l)) (con_spelled s sum) sum_reader
   con_complete (Value-F.Con c vs) filled line rest p fit h =

@@ -32,9 +32,11 @@ ended_inv : (types : Types) (ty : Ty) (words : List ℕ) (opened : Bool) (r : Re
 ended_inv types ty words opened None more rest e = absurd (none_some (more, rest) e)
 ended_inv types ty words opened (Some read) more rest e =
     let on = on_inv (closed_field opened (is_compound types (out-Ty ty) (drop (length words) read.0)) read.1) (λ (later : List ℕ). Some (read.0, later)) more rest e in
-    let same = same_pair read.0 more on.0 rest on.2 in
-    (read.1, ap (λ w. Some (w, read.1)) same.0,
-      ap (λ w. closed_field opened (is_compound types (out-Ty ty) (drop (length words) w)) read.1) (sym same.0) ∙ on.1 ∙ ap (λ l. Some l) same.1)
+    let same = same_pair read.0 more on.0 rest on.2 in (
+      read.1,
+      ap (λ w. Some (w, read.1)) same.0,
+      ap (λ w. closed_field opened (is_compound types (out-Ty ty) (drop (length words) w)) read.1) (sym same.0) ∙ on.1 ∙ ap (λ l. Some l) same.1,
+    )
 
 bare_inv : (b : Bool) (later rest : List ℕ) → closed_field false b later ≡ Some rest → (b ≡ false) × (later ≡ rest)
 bare_inv true later rest e = absurd (none_some rest e)
@@ -79,9 +81,13 @@ module _ (types : Types) (ty : Ty) (room : ℕ) (t : Value → Bool) (f : Value 
           ap (λ w. is_compound types (out-Ty ty) (drop (length filled) w)) own.2 ∙ seen filled own.0 own.1 in
           let closed = close_inv (has_fields (out-Value own.0)) ended.0 rest (ap (λ b. closed_field true b ended.0) (sym is) ∙ ended.2) in
           let opened = sign_inv is_open Open open_only (next line) inner (opens_inv (out-Ty ty) line inner q) in
-          let last = sign_inv is_close Close close_only (next ended.0) rest closed.1 in
-          (own.0, own.1, own.2, subst (λ b. Cuts line (Laid b own.0) rest) (sym closed.0)
-            (inner, opened, cuts_join (s own.0) (Close ∷ []) inner ended.0 rest own.3 (rest, last, refl)))
+          let last = sign_inv is_close Close close_only (next ended.0) rest closed.1 in (
+            own.0,
+            own.1,
+            own.2,
+            subst (λ b. Cuts line (Laid b own.0) rest) (sym closed.0)
+                (inner, opened, cuts_join (s own.0) (Close ∷ []) inner ended.0 rest own.3 (rest, last, refl)),
+          )
 
   field_complete : Complete room t f (as_field s) (λ words line. read_field types ty reader words line)
   field_complete v filled line rest p fit h = go (has_fields (out-Value v)) refl h
@@ -115,10 +121,12 @@ module _ (types : Types) (room : ℕ) (t : Ty → Value → Bool) (f : Ty → Va
   fields_sound (ty ∷ tys) good filled line more rest e =
       let both = then_inv (read_field types ty (reader ty) filled line) (read_fields types reader tys) more rest e in
       let own = (field_exact types ty room (t ty) (f ty) (s ty) (reader ty) (exact ty good.0) (shows ty)).0 filled line both.0 both.1 both.2 in
-      let left = fields_sound tys good.1 both.0 both.1 more rest both.3 in
-      (own.0 ∷ left.0, both_true (t ty own.0) (all_pass (map t tys) left.0) own.1 left.1,
+      let left = fields_sound tys good.1 both.0 both.1 more rest both.3 in (
+        own.0 ∷ left.0,
+        both_true (t ty own.0) (all_pass (map t tys) left.0) own.1 left.1,
         left.2 ∙ ap (λ ws. ws ++ joined (map f tys) left.0) own.2 ∙ append_assoc filled (f ty own.0) (joined (map f tys) left.0),
-        cuts_join (as_field (s ty) own.0) (laid tys left.0) line both.1 rest own.3 left.3)
+        cuts_join (as_field (s ty) own.0) (laid tys left.0) line both.1 rest own.3 left.3,
+      )
 
   pub fields_complete : (tys : List Ty) → AllByRecursion Good tys → (vs : List Value) (filled line rest : List ℕ) → all_pass (map t tys) vs ≡ true
       → length filled + length (joined (map f tys) vs) ≤ room → Cuts line (laid tys vs) rest

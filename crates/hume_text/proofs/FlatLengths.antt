@@ -42,8 +42,13 @@ module _ (nt : ℕ → Value → Bool) (nf : ℕ → Value → List ℕ) (nz : �
   parts_long (part ∷ ps) [] p = cc
   parts_long (part ∷ ps) (v ∷ vs) p =
       let both = and_parts (is_value_with nt part.0 v) (all_pass (map (is_value_with nt) (map of_part ps)) vs) p in
-      omega (arith, part.1 v both.0, parts_long ps vs both.1, length-append (flat_with nf part.0 v) (joined (map (flat_with nf) (map of_part ps)) vs),
-        sum_more (size_with nz part.0) (map (size_with nz) (map of_part ps)))
+      omega (
+        arith,
+        part.1 v both.0,
+        parts_long ps vs both.1,
+        length-append (flat_with nf part.0 v) (joined (map (flat_with nf) (map of_part ps)) vs),
+        sum_more (size_with nz part.0) (map (size_with nz) (map of_part ps)),
+      )
 
   tuple_layer : (ps : List Part) (l : Value-F Value) → is_tuple_of (map (is_value_with nt) (map of_part ps)) l ≡ true
       → length (joined (map (flat_with nf) (map of_part ps)) (parts_in l)) ≡ sum (map (size_with nz) (map of_part ps))
@@ -90,8 +95,13 @@ module _ (nt : ℕ → Value → Bool) (nf : ℕ → Value → List ℕ) (nz : �
   fields_long (ty ∷ tys) [] p = cc
   fields_long (ty ∷ tys) (v ∷ vs) p =
       let both = and_parts (is_value_with nt ty v) (all_pass (map (is_value_with nt) tys) vs) p in
-      omega (arith, ty_long ty v both.0, fields_long tys vs both.1, length-append (flat_with nf ty v) (joined (map (flat_with nf) tys) vs),
-        sum_more (size_with nz ty) (map (size_with nz) tys))
+      omega (
+        arith,
+        ty_long ty v both.0,
+        fields_long tys vs both.1,
+        length-append (flat_with nf ty v) (joined (map (flat_with nf) tys) vs),
+        sum_more (size_with nz ty) (map (size_with nz) tys),
+      )
 
   con_long : (sum_def : SumDef) (l : Value-F Value) → is_con_of (is_value_with nt) sum_def l ≡ true
       → length (padded (size_of_sum nz (Some sum_def)) (con_words (flat_with nf) sum_def l)) ≡ size_of_sum nz (Some sum_def)

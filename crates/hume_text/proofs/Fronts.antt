@@ -53,7 +53,7 @@ digits_step value byte others p =
     let range = digit_range byte p in
     let worth : digit_value byte ≡ byte - 48 = omega (arith, digit_value_digit byte range) in
     capped_after (value * 10 + (byte - 48)) (front is_digit others)
-      ∙ rw p (ap (λ d. capped (digits_value_after 10 (value * 10 + d) (front is_digit others))) (sym worth))
+    ∙ rw p (ap (λ d. capped (digits_value_after 10 (value * 10 + d) (front is_digit others))) (sym worth))
 
 pub behind_digit : (byte : ℕ) (others : List ℕ) → is_digit byte ≡ true → behind is_digit (byte ∷ others) ≡ behind is_digit others
 behind_digit byte others p = rw p refl

@@ -102,9 +102,13 @@ later_sound (one {t = t} {f = f} {s = s} {reader = reader} {ts = ts} {fs = fs} {
     let on = on_inv (behind_sign is_comma (next line)) (reader filled) both.0 both.1 both.2 in
     let comma = sign_inv is_comma Comma comma_only (next line) on.0 on.1 in
     let own = exact.0 filled on.0 both.0 both.1 on.2 in
-    let left = later_sound others both.0 both.1 more rest both.3 in
-    (own.0 ∷ left.0, both_true (t own.0) (all_pass ts left.0) own.1 left.1, left.2 ∙ ap (λ ws. ws ++ joined fs left.0) own.2
-    ∙ append_assoc filled (f own.0) (joined fs left.0), (on.0, comma, cuts_join (s own.0) (later_pieces (each_spelled ss left.0)) on.0 both.1 rest own.3 left.3))
+    let left = later_sound others both.0 both.1 more rest both.3 in (
+      own.0 ∷ left.0,
+      both_true (t own.0) (all_pass ts left.0) own.1 left.1,
+      left.2 ∙ ap (λ ws. ws ++ joined fs left.0) own.2
+          ∙ append_assoc filled (f own.0) (joined fs left.0),
+      (on.0, comma, cuts_join (s own.0) (later_pieces (each_spelled ss left.0)) on.0 both.1 rest own.3 left.3),
+    )
 
 later_complete : {room : ℕ} {ts : List (Value → Bool)} {fs : List (Value → List ℕ)} {ss : List (Value → List Piece)} {readers : List Reader}
     → AllExact room ts fs ss readers → (vs : List Value) (filled line rest : List ℕ) → all_pass ts vs ≡ true → length filled + length (joined fs vs) ≤ room
@@ -127,9 +131,13 @@ parts_sound none filled line more rest e = let same = same_pair filled more line
 parts_sound (one {t = t} {f = f} {s = s} {reader = reader} {ts = ts} {fs = fs} {ss = ss} {readers = readers} exact others) filled line more rest e =
     let both = then_inv (reader filled line) (read_several false readers) more rest e in
     let own = exact.0 filled line both.0 both.1 both.2 in
-    let left = later_sound others both.0 both.1 more rest both.3 in
-    (own.0 ∷ left.0, both_true (t own.0) (all_pass ts left.0) own.1 left.1, left.2 ∙ ap (λ ws. ws ++ joined fs left.0) own.2
-    ∙ append_assoc filled (f own.0) (joined fs left.0), cuts_join (s own.0) (later_pieces (each_spelled ss left.0)) line both.1 rest own.3 left.3)
+    let left = later_sound others both.0 both.1 more rest both.3 in (
+      own.0 ∷ left.0,
+      both_true (t own.0) (all_pass ts left.0) own.1 left.1,
+      left.2 ∙ ap (λ ws. ws ++ joined fs left.0) own.2
+          ∙ append_assoc filled (f own.0) (joined fs left.0),
+      cuts_join (s own.0) (later_pieces (each_spelled ss left.0)) line both.1 rest own.3 left.3,
+    )
 
 parts_complete : {room : ℕ} {ts : List (Value → Bool)} {fs : List (Value → List ℕ)} {ss : List (Value → List Piece)} {readers : List Reader}
     → AllExact room ts fs ss readers → (vs : List Value) (filled line rest : List ℕ) → all_pass ts vs ≡ true → length filled + length (joined fs vs) ≤ room
@@ -228,10 +236,12 @@ module _ (room n : ℕ) (t : Value → Bool) (f : Value → List ℕ) (s : Value
       let count = items_counted t n own.0 own.1 in
       let opened = sign_inv is_open_vector OpenVector open_vector_only (next line) on.0 on.1 in
       let ended = sign_inv is_close_vector CloseVector close_vector_only (next closed.0) rest closed.2 in
-      let cut : Cuts on.0 (with_commas (map s own.0)) closed.0 = subst (λ ps. Cuts on.0 (with_commas ps) closed.0) (same_spelled s n own.0 count.0) own.3 in
-      (Value-F.Vector own.0, both_true (length own.0 == n) (list_all t own.0) (eq-eqb (length own.0) n count.0) count.1,
+      let cut : Cuts on.0 (with_commas (map s own.0)) closed.0 = subst (λ ps. Cuts on.0 (with_commas ps) closed.0) (same_spelled s n own.0 count.0) own.3 in (
+        Value-F.Vector own.0,
+        both_true (length own.0 == n) (list_all t own.0) (eq-eqb (length own.0) n count.0) count.1,
         own.2 ∙ ap (λ ws. filled ++ ws) (same_joined f n own.0 count.0),
-        (on.0, opened, cuts_join (with_commas (map s own.0)) (CloseVector ∷ []) on.0 closed.0 rest cut (rest, ended, refl)))
+        (on.0, opened, cuts_join (with_commas (map s own.0)) (CloseVector ∷ []) on.0 closed.0 rest cut (rest, ended, refl)),
+      )
 
   vector_complete : LayerComplete room (is_vector_of n t) (λ l. flat_map f (parts_in l)) VectorSpelled vector_reader
   vector_complete (Value-F.Vector vs) filled line rest p fit h =

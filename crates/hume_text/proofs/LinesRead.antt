@@ -27,7 +27,7 @@ module _ (types : Types) (sizes : HaveTheirSizes types) (names : HaveNames types
   pub line_sound : (line more rest : List ℕ) → reading line ≡ Some (more, rest) → behind is_blank rest ≡ [] → IsReadable types ty line
   line_sound line more rest e blank =
       let own = (values_read types sizes printable.sizes names printable.others room ty printable.own.limits).0 [] line more rest e in
-      record { value = own.0; typed = own.1; text = record { rest = rest; tokens = own.3; blank = blank; }; }
+      record { value = own.0; typed = own.1; text = record { rest = rest; tokens = own.3; blank = blank } }
 
   pub line_complete : (line : List ℕ) (v : Value) → room ≡ size_of types ty → is_value types ty v ≡ true → (text : IsTextOf types ty line v)
       → reading line ≡ Some (flat types ty v, text.rest)

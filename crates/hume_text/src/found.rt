@@ -166,7 +166,11 @@ fn signed_word(negative: bool, value: u64) -> u64
     requires { value ≤ 2 ^ 63 }
     ensures { result ≡ word_of (signed negative value) }
 {
-    if negative { value.wrapping_neg() } else { value }
+    if negative {
+        value.wrapping_neg()
+    } else {
+        value
+    }
 }
 
 fn nat_word(bits: u8, negative: bool, value: u128) -> Option<u64>

@@ -4,7 +4,10 @@ ghost use Rattle.hume_base.specs.declared.types.Ty.{out-Ty};
 ghost use Rattle.hume_text.specs.inner.Readers.{Reader, is_open, is_close, is_open_vector, is_close_vector, put_word, put_zeros};
 ghost use Rattle.hume_text.specs.inner.Readers.{read_part, read_in, read_with, read_named, read_fields, read_field, read_con, opens, field_start, closed_field, part_start};
 
-use crate::found::{take_bool, take_char, take_close, take_close_vector, take_comma, take_int, take_nat, take_open, take_open_vector, take_place};
+use crate::found::{
+    take_bool, take_char, take_close, take_close_vector, take_comma, take_int, take_nat, take_open,
+    take_open_vector, take_place,
+};
 use crate::print::is_compound;
 use hume_base::{SumDef, Ty, Types};
 
@@ -91,7 +94,7 @@ pub(crate) fn read_front<'a>(
     requires { at ≤ length into.old }
     ensures read { MatchOption result (read_with (length into.old) (read_named types.now (length into.old) bound) ty.now (take at into.old) line.now ≡ None)
         (λ read. read_with (length into.old) (read_named types.now (length into.old) bound) ty.now (take at into.old) line.now
-            ≡ Some (take read.0 into.new, read.1.now)) }
+        ≡ Some (take read.0 into.new, read.1.now)) }
     ensures room { length into.new ≡ length into.old }
     ensures within { IfSome result (λ read. read.0 ≤ length into.old) }
     ensures onward { IfSome result (λ read. at ≤ read.0) }
@@ -121,7 +124,7 @@ fn read_tuple<'a>(
     ensures read { MatchOption result
         (read_in is_open is_close (map (read_with (length into.old) (read_named types.now (length into.old) bound)) tys.now) (take at into.old) line.now ≡ None)
         (λ read. read_in is_open is_close (map (read_with (length into.old) (read_named types.now (length into.old) bound)) tys.now) (take at into.old) line.now
-            ≡ Some (take read.0 into.new, read.1.now)) }
+        ≡ Some (take read.0 into.new, read.1.now)) }
     ensures room { length into.new ≡ length into.old }
     ensures within { IfSome result (λ read. read.0 ≤ length into.old) }
     ensures onward { IfSome result (λ read. at ≤ read.0) }
@@ -162,10 +165,10 @@ fn read_vector<'a>(
     requires { at ≤ length into.old }
     ensures read { MatchOption result
         (read_in is_open_vector is_close_vector (replicate {A = Reader} count (read_with (length into.old) (read_named types.now (length into.old) bound) item.now))
-            (take at into.old) line.now ≡ None)
+        (take at into.old) line.now ≡ None)
         (λ read. read_in is_open_vector is_close_vector
-            (replicate {A = Reader} count (read_with (length into.old) (read_named types.now (length into.old) bound) item.now)) (take at into.old) line.now
-            ≡ Some (take read.0 into.new, read.1.now)) }
+        (replicate {A = Reader} count (read_with (length into.old) (read_named types.now (length into.old) bound) item.now)) (take at into.old) line.now
+        ≡ Some (take read.0 into.new, read.1.now)) }
     ensures room { length into.new ≡ length into.old }
     ensures within { IfSome result (λ read. read.0 ≤ length into.old) }
     ensures onward { IfSome result (λ read. at ≤ read.0) }
@@ -208,7 +211,7 @@ fn read_part<'a>(
     ensures read { MatchOption result
         (read_part first (read_with (length into.old) (read_named types.now (length into.old) bound) ty.now) (take at into.old) line.now ≡ None)
         (λ read. read_part first (read_with (length into.old) (read_named types.now (length into.old) bound) ty.now) (take at into.old) line.now
-            ≡ Some (take read.0 into.new, read.1.now)) }
+        ≡ Some (take read.0 into.new, read.1.now)) }
     ensures room { length into.new ≡ length into.old }
     ensures within { IfSome result (λ read. read.0 ≤ length into.old) }
     ensures onward { IfSome result (λ read. at ≤ read.0) }
@@ -272,7 +275,7 @@ fn read_constructor<'a>(
     ensures read { MatchOption result
         (read_con types.now (length into.old) (read_with (length into.old) (read_named types.now (length into.old) bound)) sum.now (take at into.old) line.now ≡ None)
         (λ read. read_con types.now (length into.old) (read_with (length into.old) (read_named types.now (length into.old) bound)) sum.now (take at into.old) line.now
-            ≡ Some (take read.0 into.new, read.1.now)) }
+        ≡ Some (take read.0 into.new, read.1.now)) }
     ensures room { length into.new ≡ length into.old }
     ensures within { IfSome result (λ read. read.0 ≤ length into.old) }
     ensures onward { IfSome result (λ read. at ≤ read.0) }
@@ -303,7 +306,7 @@ fn read_fields<'a>(
     ensures read { MatchOption result
         (read_fields types.now (read_with (length into.old) (read_named types.now (length into.old) bound)) tys.now (take at into.old) line.now ≡ None)
         (λ read. read_fields types.now (read_with (length into.old) (read_named types.now (length into.old) bound)) tys.now (take at into.old) line.now
-            ≡ Some (take read.0 into.new, read.1.now)) }
+        ≡ Some (take read.0 into.new, read.1.now)) }
     ensures room { length into.new ≡ length into.old }
     ensures within { IfSome result (λ read. read.0 ≤ length into.old) }
     ensures onward { IfSome result (λ read. at ≤ read.0) }
@@ -336,7 +339,7 @@ fn read_field<'a>(
     ensures read { MatchOption result
         (read_field types.now ty.now (read_with (length into.old) (read_named types.now (length into.old) bound) ty.now) (take at into.old) line.now ≡ None)
         (λ read. read_field types.now ty.now (read_with (length into.old) (read_named types.now (length into.old) bound) ty.now) (take at into.old) line.now
-            ≡ Some (take read.0 into.new, read.1.now)) }
+        ≡ Some (take read.0 into.new, read.1.now)) }
     ensures room { length into.new ≡ length into.old }
     ensures within { IfSome result (λ read. read.0 ≤ length into.old) }
     ensures onward { IfSome result (λ read. at ≤ read.0) }

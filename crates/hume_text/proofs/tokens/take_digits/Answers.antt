@@ -13,8 +13,8 @@ loop-byte-preserved c =
     record {
       small = omega (arith, next);
       value = ap (λ n. capped (digits_value_after 10 n (front is_digit c.in-Some.others.now))) next
-        ∙ digits_step c.loop-byte.value c.in-Some.byte.now c.in-Some.others.now digit
-        ∙ ap (λ bytes. capped (digits_value_after 10 c.loop-byte.value (front is_digit bytes))) (sym split)
-        ∙ c.loop-byte.invariant.value;
+          ∙ digits_step c.loop-byte.value c.in-Some.byte.now c.in-Some.others.now digit
+          ∙ ap (λ bytes. capped (digits_value_after 10 c.loop-byte.value (front is_digit bytes))) (sym split)
+          ∙ c.loop-byte.invariant.value;
       rest = sym (behind_digit c.in-Some.byte.now c.in-Some.others.now digit) ∙ ap (behind is_digit) (sym split) ∙ c.loop-byte.invariant.rest;
     }

@@ -29,7 +29,7 @@ read_vector-loop-place-preserved t c =
       within = omega (arith, c.in-Some-read_part.ensures.within, c.loop-place.invariant.same);
       onward = omega (arith, c.in-Some-read_part.ensures.onward, c.loop-place.invariant.onward);
       read = several-next c.args.types.now c.args.bound room _ _ c.args.item.now _ _ _ _ _ _ _ c.loop-place.invariant.same
-      (items-left reader c.args.count c.loop-place._place (omega (arith, c.loop-place-test.true))) c.in-Some-read_part.ensures.read c.loop-place.invariant.read;
+          (items-left reader c.args.count c.loop-place._place (omega (arith, c.loop-place-test.true))) c.in-Some-read_part.ensures.read c.loop-place.invariant.read;
     }
 
 pub read_fields-loop-ty-preserved : goal.read_fields-loop-ty-preserved
@@ -40,7 +40,7 @@ read_fields-loop-ty-preserved t c =
       within = omega (arith, c.in-Some.ensures.within, c.loop-ty.invariant.same);
       onward = omega (arith, c.in-Some.ensures.onward, c.loop-ty.invariant.onward);
       read = fields-next c.args.types.now c.args.bound room _ c.ty-item.result _ _ _ _ _ _ _ c.loop-ty.invariant.same
-      (drop-item c.args.tys.now c.loop-ty.ty-index c.ty-item.result (omega (arith, c.loop-ty-test.true)) c.ty-item.is) c.in-Some.ensures.read c.loop-ty.invariant.read;
+          (drop-item c.args.tys.now c.loop-ty.ty-index c.ty-item.result (omega (arith, c.loop-ty-test.true)) c.ty-item.is) c.in-Some.ensures.read c.loop-ty.invariant.read;
     }
 
 pub read_data-read_constructor-requires : goal.read_data-read_constructor-requires
