@@ -10,7 +10,8 @@ use Rattle.hume_ast.specs.declared.tree.Exp.TheOpen.{Exp-F}
 use Rattle.hume_ast.specs.Fits.{Each, TypeFits, PatFits, ExpParts, ExpFits}
 use Rattle.hume_counts.specs.declared.counts.Counts.{Counts}
 use Rattle.hume_counts.specs.Counted.{is_other}
-use Rattle.hume_counts.specs.Miscounts.{any_true, has_many, type_miscounts, pattern_miscounts, arm_miscounts, expression_step, miscounts}
+use Rattle.hume_names.specs.Twice.{any_true}
+use Rattle.hume_counts.specs.Miscounts.{has_many, type_miscounts, pattern_miscounts, arm_miscounts, expression_step, miscounts}
 use Rattle.hume_typing.specs.Typing.{Judged, arm_with, typing_step, typing}
 use Rattle.hume_typing.specs.declared.signatures.Signatures.{Signatures}
 use Rattle.hume_typing.proofs.TypingLevels.{typing_roll}

@@ -11,7 +11,8 @@ use Rattle.hume_ast.specs.declared.tree.Exp.TheOpen.{Exp-F}
 use Rattle.hume_ast.specs.Fits.{Each, TypeFits, PatFits, ExpParts, ExpFits}
 use Rattle.hume_counts.specs.declared.counts.Counts.{Counts}
 use Rattle.hume_counts.specs.Counted.{is_other}
-use Rattle.hume_counts.specs.Miscounts.{any_true, has_many, pattern_miscounts, arm_miscounts, expression_step, miscounts}
+use Rattle.hume_names.specs.Twice.{any_true}
+use Rattle.hume_counts.specs.Miscounts.{has_many, pattern_miscounts, arm_miscounts, expression_step, miscounts}
 use Rattle.hume_model.specs.declared.core_tree.PatC.{PatC}
 use Rattle.hume_model.specs.declared.core_tree.Expr.{Expr}
 use Rattle.hume_model.specs.declared.core_tree.Res.{Res, roll-Res, map-Res, fold-roll-Res, Outs, If, Case, Let, Raise}

@@ -15,7 +15,8 @@ use Rattle.hume_base.specs.Sizes.{greatest}
 use Rattle.hume_ast.specs.declared.tree.TyExp.{TyExp, roll-TyExp, out-roll-TyExp, map-TyExp, fold-roll-TyExp, ind-TyExp}
 use Rattle.hume_ast.specs.declared.tree.TyExp.TheOpen.{TyExp-F}
 use Rattle.hume_ast.specs.Fits.{Each, TypeParts, TypeFits}
-use Rattle.hume_counts.specs.Miscounts.{any_true, has_many, type_miscounts}
+use Rattle.hume_names.specs.Twice.{any_true}
+use Rattle.hume_counts.specs.Miscounts.{has_many, type_miscounts}
 use Rattle.hume_counts.specs.Miscounts as counted
 use Rattle.hume_model.specs.TypeLimits.{type_step, is_type, depth_step, type_depth}
 use Rattle.hume_typing.specs.Partial.{given}

@@ -6,14 +6,11 @@ use Rattle.hume_base.specs.declared.types.Value.{Value, Word, Tuple, Vector, Con
 use Rattle.hume_base.specs.Values.{is_char_word}
 use Rattle.hume_ast.specs.declared.tree.Exp.{Exp, fold-Exp}
 use Rattle.hume_ast.specs.declared.tree.Exp.TheOpen.{Exp-F}
+use Rattle.hume_model.specs.Calls.{all_true}
 use Rattle.hume_typing.specs.Partial.{given, when}
 use Rattle.hume_typing.specs.Signatures.{Constructor, con_named}
 use Rattle.hume_typing.specs.Patterns.{literal_number, literal_word, is_number_of, word_of_truth, is_bool, is_char, is_named}
 use Rattle.hume_typing.specs.declared.signatures.Signatures.{Signatures}
-
-abbrev pub all_true : List Bool → Bool
-all_true [] = true
-all_true (b ∷ bs) = b && all_true bs
 
 abbrev pub built_step : Exp-F Bool → Bool
 built_step (Exp-F.Num negative amount) = true

@@ -1,9 +1,10 @@
 -- How many parameters, fields and carried values names have. Where several have one name the first is meant.
-use Rattle.std.specs.Prelude.{ℕ, ◌-◌, ◌==◌, not, Bool, false, List, [], ◌∷◌, ◌++◌, map, length, codes, Option, Some, None}
+use Rattle.std.specs.Prelude.{ℕ, ◌-◌, ◌==◌, not, Bool, false, List, [], ◌∷◌, ◌++◌, map, length, Option, Some, None}
 use Rattle.std.specs.List.{flat_map}
 use Rattle.hume_ast.specs.declared.tree.TyExp.{TyExp}
 use Rattle.hume_ast.specs.declared.tree.Decl.{Decl}
 use Rattle.hume_ast.specs.declared.tree.Decl.TheVariants.{Sum, Exn, Fun}
+use Rattle.hume_names.specs.DeclaredNames.{given_exceptions}
 use Rattle.name_table.specs.Names.{number_of, with_names}
 use Rattle.hume_counts.specs.declared.counts.Counts.{Counts}
 
@@ -36,7 +37,7 @@ exceptions_of _ = []
 
 -- the exceptions that every program has carry nothing
 abbrev pub own_exceptions : List (List ℕ × ℕ)
-own_exceptions = (codes "DivZero", 0) ∷ (codes "Range", 0) ∷ (codes "NoCase", 0) ∷ []
+own_exceptions = map (λ name. (name, 0)) given_exceptions
 
 abbrev pub all_declared : (Decl → List (List ℕ × ℕ)) → Decls → List (List ℕ × ℕ)
 all_declared declared decls = flat_map (λ (d : ℕ × Decl). declared d.1) decls

@@ -8,16 +8,13 @@ use Rattle.hume_ast.specs.declared.tree.Pat.{Pat, fold-Pat}
 use Rattle.hume_ast.specs.declared.tree.Pat.TheOpen.{Pat-F}
 use Rattle.hume_ast.specs.declared.tree.Exp.{Exp, fold-Exp}
 use Rattle.hume_ast.specs.declared.tree.Exp.TheOpen.{Exp-F}
+use Rattle.hume_names.specs.Twice.{any_true}
 use Rattle.hume_counts.specs.declared.counts.Counts.{Counts}
 use Rattle.hume_counts.specs.Counted.{is_other}
 
 -- the number is outside of 1 to the greatest
 abbrev pub is_outside : ℕ → ℕ → Bool
 is_outside greatest number = not (nat_le 1 number && nat_le number greatest)
-
-abbrev pub any_true : List Bool → Bool
-any_true [] = false
-any_true (b ∷ bs) = b || any_true bs
 
 abbrev pub has_many : {A : Type 0} → ℕ → List A → Bool
 has_many greatest items = nat_lt greatest (length items)

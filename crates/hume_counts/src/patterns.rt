@@ -1,6 +1,7 @@
 ghost use Rattle.std.specs.Prelude.{◌≡◌, map};
 ghost use Rattle.std.specs.List.{list_any};
-ghost use Rattle.hume_counts.specs.Miscounts.{pattern_miscounts as miscounts_in, any_true};
+ghost use Rattle.hume_names.specs.Twice.{any_true};
+ghost use Rattle.hume_counts.specs.Miscounts.{pattern_miscounts as miscounts_in};
 
 use crate::counts::{Counts, is_other};
 use hume_ast::Pat;

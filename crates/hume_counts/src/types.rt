@@ -1,6 +1,7 @@
 ghost use Rattle.std.specs.Prelude.{◌≡◌, map};
 ghost use Rattle.std.specs.List.{list_any};
-ghost use Rattle.hume_counts.specs.Miscounts.{type_miscounts as miscounts_in, any_true, is_outside as outside_of};
+ghost use Rattle.hume_names.specs.Twice.{any_true};
+ghost use Rattle.hume_counts.specs.Miscounts.{type_miscounts as miscounts_in, is_outside as outside_of};
 ghost use Rattle.hume_counts.specs.CountRules.{some_type_miscounts as some_miscounts};
 
 use hume_ast::TyExp;

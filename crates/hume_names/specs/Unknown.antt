@@ -70,9 +70,11 @@ targets_of _ = []
 
 -- a wire's first end is nowhere where a wire may begin, or its second end nowhere where one may end
 abbrev pub misses_end : List (ℕ × Decl) → Decl → Bool
-misses_end decls (Wire from to depth initial) = not (is_end from (flat_map (λ d. sources_of d.1) decls)) || not (is_end to (flat_map (λ d. targets_of d.1) decls))
+misses_end decls (Wire from to depth initial) =
+    not (is_end from (flat_map (λ d. sources_of d.1) decls)) || not (is_end to (flat_map (λ d. targets_of d.1) decls))
 misses_end decls _ = false
 
 -- the declaration has an unknown name
 abbrev pub HasUnknownName : List (ℕ × Decl) → ℕ → Type 0
-HasUnknownName decls i = OfDecl decls i (λ decl. IsTrue (mentions_unknown (known_in decls) (mentions_of decl) || (names_otherwise decl || misses_end decls decl)))
+HasUnknownName decls i =
+    OfDecl decls i (λ decl. IsTrue (mentions_unknown (known_in decls) (mentions_of decl) || (names_otherwise decl || misses_end decls decl)))

@@ -54,7 +54,8 @@ fn has_unknown(
     decls: &[(u32, Decl)],
     decl: &Decl,
 ) -> Result<bool, AllocError>
-    ensures { IfOk result (λ yes. yes ≡ (mentions_unknown (known_of known.now) (mentioned.mentions_of decl.now) || (names_otherwise decl.now || misses_end decls.now decl.now))) }
+    ensures { IfOk result (λ yes. yes ≡ (mentions_unknown (known_of known.now) (mentioned.mentions_of decl.now)
+        || (names_otherwise decl.now || misses_end decls.now decl.now))) }
 {
     let mentions = mentions_of(alloc, decl)?;
     let lacks = known.lacks_one(&mentions);

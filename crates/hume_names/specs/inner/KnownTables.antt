@@ -14,7 +14,12 @@ pub record SameKnown (a b : Known) : Type 0 where
   pub functions : SameNames a.functions b.functions
 
 abbrev pub known_of : KnownNames → Known
-known_of known = record { types = names_of known.types; constructors = names_of known.constructors; exceptions = names_of known.exceptions; functions = names_of known.functions }
+known_of known = record {
+  types = names_of known.types;
+  constructors = names_of known.constructors;
+  exceptions = names_of known.exceptions;
+  functions = names_of known.functions;
+}
 
 -- with the names that a declaration declares
 abbrev pub known_with : Known → Decl → Known

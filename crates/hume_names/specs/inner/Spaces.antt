@@ -18,7 +18,12 @@ pub record SameSpaces (a b : Spaces) : Type 0 where
   pub nodes : SameNames a.nodes b.nodes
 
 abbrev pub spaces_of : Tables → Spaces
-spaces_of tables = record { types = names_of tables.types; capitals = names_of tables.capitals; functions = names_of tables.functions; nodes = names_of tables.nodes }
+spaces_of tables = record {
+  types = names_of tables.types;
+  capitals = names_of tables.capitals;
+  functions = names_of tables.functions;
+  nodes = names_of tables.nodes;
+}
 
 -- with the names that a declaration declares
 abbrev pub with_declared : Spaces → Decl → Spaces

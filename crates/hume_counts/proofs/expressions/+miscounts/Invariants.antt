@@ -2,7 +2,8 @@ use Rattle.std.proofs.Common.{◌≡◌, ◌+◌, ◌*◌, max, map, drop}
 use denote.Param.Weighed.{most}
 use Rattle.hume_ast.specs.declared.tree.Exp.{size-Exp}
 use Rattle.std.specs.List.{list_any}
-use Rattle.hume_counts.specs.Miscounts.{any_true, miscounts, arm_miscounts}
+use Rattle.hume_names.specs.Twice.{any_true}
+use Rattle.hume_counts.specs.Miscounts.{miscounts, arm_miscounts}
 use Rattle.hume_counts.specs.inner.Arms.{arm_with}
 use Rattle.hume_counts.proofs.expressions.+miscounts.Given as goal
 

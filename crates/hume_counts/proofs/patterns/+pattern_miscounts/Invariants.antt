@@ -1,5 +1,6 @@
 use Rattle.std.proofs.Common.{◌≡◌, map, drop}
-use Rattle.hume_counts.specs.Miscounts.{any_true, pattern_miscounts}
+use Rattle.hume_names.specs.Twice.{any_true}
+use Rattle.hume_counts.specs.Miscounts.{pattern_miscounts}
 use Rattle.hume_counts.proofs.patterns.+pattern_miscounts.Given as goal
 
 abbrev pub invariant-a_pattern_miscounts-loop-pat : goal.invariant-a_pattern_miscounts-loop-pat

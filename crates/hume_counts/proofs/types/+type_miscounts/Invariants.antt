@@ -1,5 +1,6 @@
 use Rattle.std.proofs.Common.{◌≡◌, map, drop}
-use Rattle.hume_counts.specs.Miscounts.{any_true, type_miscounts}
+use Rattle.hume_names.specs.Twice.{any_true}
+use Rattle.hume_counts.specs.Miscounts.{type_miscounts}
 use Rattle.hume_counts.proofs.types.+type_miscounts.Given as goal
 
 abbrev pub invariant-a_type_miscounts-loop-ty : goal.invariant-a_type_miscounts-loop-ty
