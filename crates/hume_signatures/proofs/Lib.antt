@@ -1,0 +1,4 @@
+pub mod Gathered
+pub mod Words
+pub mod Steps
+pub mod Meant
