@@ -222,6 +222,14 @@ names_written numbers ds sums h =
     ds sums
     (seen_in_places (λ d x. data_type_by numbers d ≡ Some x) without_size ds sums (in_places (data_type_by numbers) ds (map without_size sums) h))
 
+-- the same where the order is told twice, and the names by the one
+pub told_once : (decls : Decls) (data_order function_order : List ℕ) (names : Numbers) (a b : List ℕ) → names ≡ numbers_in decls a
+    → a ≡ data_order → b ≡ data_order → IsUnwritten names decls b function_order
+    → IsUnwritten (numbers_in decls data_order) decls data_order function_order
+told_once decls data_order function_order names a b is first second un =
+    subst (λ (x : Numbers × List ℕ). IsUnwritten x.0 decls x.1 function_order)
+    (let p : (names, b) ≡ (numbers_in decls data_order, data_order) = λ i. ((is ∙ ap (numbers_in decls) first) i, second i) in p) un
+
 module _ (decls : Decls) (data_order function_order : List ℕ) (p : IsOrder (graph_of kind.DataType decls) data_order) (q : IsOrder (graph_of kind.Function decls) function_order) where
   -- signatures that have what is written are those of the program
   pub are_signatures : (s : Signatures) → AreWritten (numbers_in decls data_order) decls data_order function_order s
@@ -277,8 +285,3 @@ module _ (decls : Decls) (data_order function_order : List ℕ) (p : IsOrder (gr
         subst (λ (x : Numbers × List ℕ). AreWritten x.0 decls x.1 function_order ordered.signatures)
         (let p : (names, b) ≡ (numbers_in decls data_order, data_order) = λ i. (named_so i, second i) in p) h.0 in w) in
         (r.0, r.1 ∙ sym h.1)
-
-    pub none_are : IsUnwritten names decls b function_order → (s : Signatures) → AreSignatures decls s → ⊥
-    none_are un =
-        no_signatures (subst (λ (x : Numbers × List ℕ). IsUnwritten x.0 decls x.1 function_order)
-        (let p : (names, b) ≡ (numbers_in decls data_order, data_order) = λ i. (named_so i, second i) in p) un)

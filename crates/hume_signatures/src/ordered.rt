@@ -1,8 +1,12 @@
-ghost use Rattle.std.specs.Prelude.{◌≡◌, ◌<◌, ◌^◌, length, None, IfOk, IfSome};
+ghost use Rattle.std.specs.Prelude.{◌≡◌, ℕ, ◌<◌, ◌^◌, length, None, IfOk, IfSome};
 ghost use Rattle.hume_typing.specs.declared.signatures.Signatures.{Signatures as SignaturesIn};
 ghost use Rattle.hume_graph.specs.Orders.{IsOrder};
 ghost use Rattle.hume_names.specs.Leading.{graph_of};
+ghost use Rattle.hume_base.specs.declared.finding.Finding.{Finding as BrokenRule};
+ghost use Rattle.hume_ast.specs.Fits.{DeclsFit};
+ghost use Rattle.hume_names.specs.Misnamed.{BreaksNames};
 ghost use Rattle.hume_check.specs.SignaturesOf.{AreSignatures};
+ghost use Rattle.hume_check.specs.CheckRules.{BreaksCounts};
 ghost use Rattle.hume_signatures.specs.inner.Named.{AreWritten, IsUnwritten};
 
 use crate::data_types::ordered_data_types;
@@ -25,12 +29,14 @@ pub struct Ordered {
     pub functions: List<u32>,
 }
 
-/// The signatures of the declarations, if there are any.
+/// The signatures of the declarations, if there are any. There are where no rule on names and counts is broken.
 pub fn signatures_of(alloc: Global, decls: &[(u32, Decl)]) -> Result<Option<Ordered>, AllocError>
     requires { length decls.now < 2 ^ 32 }
     ensures are { IfOk result (λ found. IfSome found (λ ordered.
         (are : AreSignatures decls.now ordered.signatures) × (are.funs.order ≡ ordered.functions))) }
     ensures none { IfOk result (λ found. found ≡ None → (other : SignaturesIn) → AreSignatures decls.now other → ⊥) }
+    ensures fine { IfOk result (λ found. (bound : ℕ) → DeclsFit bound decls.now → ((f : BrokenRule) → BreaksNames decls.now f → ⊥)
+        → ((f : BrokenRule) → BreaksCounts decls.now f → ⊥) → found ≡ None → ⊥) }
 {
     let data_order = order_of(alloc, NameKind::DataType, decls)?;
     let functions = order_of(alloc, NameKind::Function, decls)?;
