@@ -1,0 +1,6 @@
+pub mod Lines
+pub mod Good
+pub mod Contents
+pub mod Queues
+pub mod Fills
+pub mod inner

@@ -1,0 +1,15 @@
+//! The lines of a port as values, and values as lines of a port.
+//!
+//! `InQueue` reads the values of an input stream, as many as are wanted and no line more. Which lines of a text are bad, and which
+//! values the others have, is said by `specs/Good.antt`; for which text a queue is right by `specs/Queues.antt`; what a fill does
+//! by `specs/Fills.antt`. `OutLog` keeps the values of an output stream and writes each as a line (`specs/Logs.antt`).
+//! Neither takes memory once it is made.
+//! It knows ports, lines and the words of values; it doesn't know cores, wires or streams.
+#![tactic(auto)]
+
+mod buffer;
+mod line;
+mod queue;
+mod rows;
+
+pub use queue::{FillError, InQueue};
