@@ -4,3 +4,4 @@ pub mod NextLines
 pub mod Drawing
 pub mod Judging
 pub mod Filling
+pub mod Draining

@@ -3,4 +3,5 @@ pub mod Good
 pub mod Contents
 pub mod Queues
 pub mod Fills
+pub mod Logs
 pub mod inner

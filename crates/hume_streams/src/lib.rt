@@ -9,7 +9,10 @@
 
 mod buffer;
 mod line;
+mod log;
+mod log_line;
 mod queue;
 mod rows;
 
+pub use log::OutLog;
 pub use queue::{FillError, InQueue};
