@@ -5,3 +5,6 @@ pub mod Drawing
 pub mod Judging
 pub mod Filling
 pub mod Draining
+pub mod Givings
+pub mod GoodOnce
+pub mod GoodAlways

@@ -1,9 +1,10 @@
 -- What a queue of read values is at, and for which text that is right.
-use Rattle.std.specs.Prelude.{◌≡◌, ℕ, min, Bool, true, false, List, [], ◌++◌, map, length}
+use Rattle.std.specs.Prelude.{◌≡◌, ℕ, min, Bool, true, false, List, [], ◌∷◌, ◌++◌, map, length}
 use Rattle.hume_base.specs.declared.types.Ty.{Ty}
 use Rattle.hume_base.specs.declared.types.Types.{Types}
 use Rattle.hume_base.specs.declared.types.Value.{Value}
 use Rattle.hume_base.specs.Flat.{flat}
+use Rattle.hume_text.specs.Printed.{AreWordsOf}
 use Rattle.hume_ports.specs.Port.{last_count}
 use Rattle.hume_streams.specs.declared.queue.InQueue.{InQueue}
 use Rattle.hume_streams.specs.Lines.{lines_of}
@@ -52,3 +53,11 @@ pub record IsQueueOf (types : Types) (ty : Ty) (queue : QueueView) (text : List 
   pub lines : queue.lines ≡ min (length read) last_count
   pub empty : queue.empty ≡ empty_at_end read
   pub ended : queue.ended ≡ true → rest ≡ []
+
+-- The queue has given its first value away, for this text and what it gave before.
+pub record GivesFirst (types : Types) (ty : Ty) (old new : QueueView) (text : List ℕ) (given : List Value) (rest : List ℕ) : Type 0 where
+  pub value : Value
+  pub words : List ℕ
+  pub first : old.values ≡ words ∷ new.values
+  pub same : AreWordsOf types ty words value
+  pub right : IsQueueOf types ty new text (given ++ value ∷ []) rest

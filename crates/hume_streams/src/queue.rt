@@ -1,4 +1,4 @@
-ghost use Rattle.std.specs.Prelude.{◌≡◌, ◌<◌, ◌≤◌, false, true, [], ◌∷◌, length, drop, take, slice_get, IfOk, IsOk, IsTrue, IsFalse, Some, vec_len};
+ghost use Rattle.std.specs.Prelude.{◌≡◌, ℕ, List, ◌<◌, ◌≤◌, false, true, [], ◌∷◌, length, drop, take, slice_get, IfOk, IsOk, IsTrue, IsFalse, Some, vec_len};
 
 use crate::buffer::{LineBuffer, Next};
 use crate::line::{is_empty, without_return};
@@ -34,10 +34,13 @@ pub struct InQueue {
 
 impl InQueue {
     ghost use Rattle.hume_base.specs.declared.limits.TheConstants.{MAX_TYPE_WORDS};
+    ghost use Rattle.hume_base.specs.declared.types.Ty.{Ty};
+    ghost use Rattle.hume_base.specs.declared.types.Types.{Types};
+    ghost use Rattle.hume_base.specs.declared.types.Value.{Value};
     ghost use Rattle.hume_base.specs.Sizes.{size_of, HaveTheirSizes};
     ghost use Rattle.hume_text.specs.Bounds.{IsPrintable};
     ghost use Rattle.hume_text.specs.Names.{HaveNames};
-    ghost use Rattle.hume_streams.specs.Queues.{queue_view, first_view};
+    ghost use Rattle.hume_streams.specs.Queues.{queue_view, first_view, IsQueueOf, GivesFirst};
     ghost use Rattle.hume_streams.specs.Fills.{Fills};
     ghost use Rattle.hume_streams.specs.inner.Steps.{IsStep, IsRefused};
     ghost use Rattle.hume_ports.specs.Port.{next_count};
@@ -46,7 +49,8 @@ impl InQueue {
     pub fn make(alloc: Global, types: &Types, ty: &Ty, span: u32) -> Result<InQueue, AllocError>
         requires sizes { HaveTheirSizes types.now }
         requires small { size_of types.now ty.now ≤ MAX_TYPE_WORDS }
-        ensures { IfOk result (λ queue. queue_view queue ≡ first_view (size_of types.now ty.now) span) }
+        ensures first { IfOk result (λ queue. queue_view queue ≡ first_view (size_of types.now ty.now) span) }
+        ensures right { IfOk result (λ queue. (text : List ℕ) → IsQueueOf types.now ty.now (queue_view queue) text [] text) }
     {
         let width = size(types, ty);
         Ok(InQueue {
@@ -76,7 +80,9 @@ impl InQueue {
     /// Gives the first value away.
     pub fn drop_front(&mut self)
         requires { 0 < length (queue_view self.old).values }
-        ensures { queue_view self.new ≡ record (queue_view self.old) { values = drop 1 (queue_view self.old).values } }
+        ensures values { queue_view self.new ≡ record (queue_view self.old) { values = drop 1 (queue_view self.old).values } }
+        ensures given { (types : Types) (ty : Ty) (text : List ℕ) (given : List Value) (rest : List ℕ)
+            → IsQueueOf types ty (queue_view self.old) text given rest → GivesFirst types ty (queue_view self.old) (queue_view self.new) text given rest }
     {
         self.rows.drop_front();
     }

@@ -1,7 +1,4 @@
-use Rattle.std.proofs.Common.{◌≡◌, ◌+◌, ◌∙◌, take, length, arith, sym, ap, refl, subst, List, ℕ, Ok, Err}
-use Rattle.std.specs.List.{AllZip}
-use Rattle.std.proofs.lemmas.List.{take_all}
-use Rattle.hume_streams.specs.Logs.{log_view, DrainsTo, IsLineOf}
+use Rattle.std.proofs.Common.{◌∙◌, arith, refl, Ok, Err}
 use Rattle.hume_streams.proofs.Draining.{drained_start, drained_more, drained_failed, drained_all, drain_bytes, drain_counts}
 use Rattle.hume_streams.proofs.log.OutLog.drain.Goals as goal
 
