@@ -60,17 +60,3 @@ draws_on old mid new a b c h g going = record {
   ended = λ yes. absurd (let e : true ≡ false = sym (h.ended yes).1 ∙ going in cc);
   end = λ no yes. g.end going yes;
 }
-
-pub fails_on : (old mid new : LineBuffer) (a b c : PortView) → Draws old mid a b → FailsAfter mid new b c → FailsAfter old new a c
-fails_on old mid new a b c h g = record {
-  bytes = h.bytes ++ g.bytes;
-  drawn = drawn_on a b c h.bytes g.bytes h.drawn g.drawn;
-  unread = g.unread ∙ ap (λ bytes. bytes ++ g.bytes) h.unread ∙ append_assoc (unread_in old) h.bytes g.bytes;
-  rose = subst (λ n. Rose n c.read_faults) h.quiet g.rose;
-  room = sym (ap (λ (p : PortView). p.room) h.drawn.keeps) ∙ g.room;
-  ended = (was_going old.ended refl, g.ended.1);
-}
-  where
-    was_going : (b : Bool) → old.ended ≡ b → old.ended ≡ false
-    was_going true e = absurd (let d : true ≡ false = sym (h.ended e).1 ∙ g.ended.0 in cc)
-    was_going false e = e

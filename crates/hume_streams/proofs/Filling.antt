@@ -249,17 +249,6 @@ filled_line types ty want old mid new a b count h few next step = record {
 
 -- how it ends
 
-pub fills_enough : (types : Types) (ty : Ty) (want : ℕ) (old new : QueueView) (a b : PortView) → HasFilled types ty want old new a b → want ≤ length new.values
-    → Fills types ty want old new a b (Ok tt)
-fills_enough types ty want old new a b h enough = record {
-  bytes = h.bytes;
-  drawn = h.drawn;
-  end = h.end;
-  gains = h.gains;
-  goes_on = h.goes_on;
-  ends = (h.quiet, λ few. absurd (omega (arith, few, enough)));
-}
-
 pub fills_end : (types : Types) (ty : Ty) (want : ℕ) (old new : QueueView) (a b : PortView) → HasFilled types ty want old new a b → IsNext new.unread new.ended End
     → Fills types ty want old new a b (Ok tt)
 fills_end types ty want old new a b h next = record {
@@ -303,9 +292,6 @@ fills_failed types ty want old mid a b c was now h few d unread ended =
           read_on types ty want old mid (with_buffer mid now) a b d.bytes text given rest h (read_step mid was now d.bytes unread d.unread) end (λ e. absurd (never mid.ended e going)) q;
       ends = (subst (λ n. Rose n c.read_faults) h.quiet d.rose, few, sym (ap (λ (p : PortView). p.room) h.drawn.keeps) ∙ d.room);
     }
-
-pub failed_idle : {X : Type 0} (types : Types) (ty : Ty) (want : ℕ) (old mid : QueueView) (a b : PortView) → HasFilled types ty want old mid a b → length mid.values < want → want ≤ length old.values → X
-failed_idle types ty want old mid a b h few enough = too_few want (length old.values) (length mid.values) h.gains.more few enough
 
 -- each line brings a fill nearer to its end
 pub line_smaller : (types : Types) (ty : Ty) (want : ℕ) (mid new : QueueView) (count : ℕ) (line : List ℕ) → length mid.values < want → IsStep types ty count line mid new

@@ -20,9 +20,6 @@ row_within width count place h =
 pub row_fits : (width count span : ℕ) → count < span → count * width + width ≤ span * width
 row_fits width count span h = row_within width span count h
 
-pub rows_fit : (width count span : ℕ) → count ≤ span → count * width ≤ span * width
-rows_fit width count span h = mul-le-mul_right width h
-
 pub next_row : (width count : ℕ) → (count + 1) * width ≡ count * width + width
 next_row width count = let e : count + 1 ≡ suc count = omega arith in ap (λ n. n * width) e ∙ suc-mul count width
 
