@@ -16,7 +16,7 @@ use Rattle.hume_streams.specs.Lines.{lines_of}
 use Rattle.hume_streams.specs.Good.{IsBad, TooLong, NoText, TooManyEmpty, HoldValues, IsGoodUntil, empty_at_end}
 use Rattle.hume_streams.specs.Contents.{unread_in}
 use Rattle.hume_streams.specs.Queues.{QueueView, IsQueueOf}
-use Rattle.hume_streams.specs.Fills.{Drawn, KnowsEnd, Gains, EndsFill, Fills}
+use Rattle.hume_streams.specs.Fills.{Drawn, KnowsEnd, Gains, StandsBefore, EndsFill, Fills}
 use Rattle.hume_streams.specs.inner.Buffers.{Draws, IsNext, FailsAfter}
 use Rattle.hume_streams.specs.inner.Steps.{IsStep, IsEmptyStep, IsValueStep, IsRefused}
 use Rattle.hume_streams.proofs.Drawing.{drawn_none, drawn_on}
@@ -89,13 +89,6 @@ queue_step types ty old new count text given rest next step h = by_step step.ste
       ended = λ e. h.ended (sym step.ended ∙ e);
     }
 
--- what a bad line says of every text
-abbrev pub TellsBad : Types → Ty → QueueView → ℕ → Type 0
-TellsBad types ty queue line =
-    (text : List ℕ) (given : List Value) (rest : List ℕ) → IsQueueOf types ty queue text given rest
-    → (number : ℕ) × (line ≡ min number last_count)
-    × (held : List Value) × (queue.values ≡ map (flat types ty) held) × IsGoodUntil types ty text (given ++ held) (Some number)
-
 bad_at : (types : Types) (ty : Ty) (queue : QueueView) (text : List ℕ) (given : List Value) (rest : List ℕ) (h : IsQueueOf types ty queue text given rest)
     (line : List ℕ) (others : List (List ℕ)) → lines_of (queue.unread ++ rest) ≡ line ∷ others → IsBad types ty h.read line
     → (number : ℕ) × (next_count queue.lines ≡ min number last_count)
@@ -108,13 +101,13 @@ bad_at types ty queue text given rest h line others e bad = (
   record { before = h.read; others = line ∷ others; split = h.split ∙ ap (λ ls. h.read ++ ls) e; values = h.values; first_bad = (bad, refl) },
 )
 
-pub tells_long : (types : Types) (ty : Ty) (queue : QueueView) → IsNext queue.unread queue.ended TooLongNext → TellsBad types ty queue (next_count queue.lines)
+pub tells_long : (types : Types) (ty : Ty) (queue : QueueView) → IsNext queue.unread queue.ended TooLongNext → StandsBefore types ty queue (next_count queue.lines)
 tells_long types ty queue next text given rest h =
     let n = next rest in
     bad_at types ty queue text given rest h (queue.unread ++ n.0) n.1 n.3 (TooLong n.2)
 
 pub tells_refused : (types : Types) (ty : Ty) (queue : QueueView) (count : ℕ) → IsNext queue.unread queue.ended (Line count)
-    → IsRefused types ty (take count queue.unread) queue → TellsBad types ty queue (next_count queue.lines)
+    → IsRefused types ty (take count queue.unread) queue → StandsBefore types ty queue (next_count queue.lines)
 tells_refused types ty queue count next refused text given rest h =
     bad_at types ty queue text given rest h (take count queue.unread) _ (next.1 rest h.ended) (why refused)
   where
@@ -261,7 +254,7 @@ fills_end types ty want old new a b h next = record {
 }
 
 pub fills_bad : (types : Types) (ty : Ty) (want : ℕ) (old new : QueueView) (a b : PortView) (line : ℕ) (error : FillError) → HasFilled types ty want old new a b
-    → length new.values < want → TellsBad types ty new line → error ≡ BadValue line → Fills types ty want old new a b (Err error)
+    → length new.values < want → StandsBefore types ty new line → error ≡ BadValue line → Fills types ty want old new a b (Err error)
 fills_bad types ty want old new a b line error h few bad e = record {
   bytes = h.bytes;
   drawn = h.drawn;

@@ -31,20 +31,26 @@ pub record Gains (want : ℕ) (old new : QueueView) : Type 0 where
   pub width : new.width ≡ old.width
   pub span : new.span ≡ old.span
 
--- Why a fill ended: it holds what is wanted, or there are no more values; there are none because the next line is bad; or a
--- read failed, and the rest may yet come.
+-- Where nothing is left of a text for which the queue is right, what it gave and holds are all the values, and no line is bad.
+abbrev pub HasAll : Types → Ty → QueueView → Type 0
+HasAll types ty queue =
+    (text : List ℕ) (given : List Value) → IsQueueOf types ty queue text given []
+    → (held : List Value) × (queue.values ≡ map (flat types ty) held) × IsGoodUntil types ty text (given ++ held) None
+
+-- Of each text for which the queue is right, what it gave and holds are the values before the first bad line, whose number is
+-- told, up to the last one that 64 bits can tell.
+abbrev pub StandsBefore : Types → Ty → QueueView → ℕ → Type 0
+StandsBefore types ty queue line =
+    (text : List ℕ) (given : List Value) (rest : List ℕ) → IsQueueOf types ty queue text given rest
+    → (number : ℕ) × (line ≡ min number last_count)
+    × (held : List Value) × (queue.values ≡ map (flat types ty) held) × IsGoodUntil types ty text (given ++ held) (Some number)
+
+-- Why a fill ended: the queue holds what is wanted, or all there is; or the next line is bad; or a read failed.
 abbrev pub EndsFill : Types → Ty → ℕ → QueueView → PortView → PortView → Result (Unit {0}) FillError → Type 0
 EndsFill types ty want queue before after (Ok _) =
-    (after.read_faults ≡ before.read_faults)
-    × (length queue.values < want → (queue.ended ≡ true)
-    × ((text : List ℕ) (given : List Value) → IsQueueOf types ty queue text given []
-    → (held : List Value) × (queue.values ≡ map (flat types ty) held) × IsGoodUntil types ty text (given ++ held) None))
+    (after.read_faults ≡ before.read_faults) × (length queue.values < want → (queue.ended ≡ true) × HasAll types ty queue)
 EndsFill types ty want queue before after (Err (BadValue line)) =
-    (after.read_faults ≡ before.read_faults)
-    × (length queue.values < want)
-    × ((text : List ℕ) (given : List Value) (rest : List ℕ) → IsQueueOf types ty queue text given rest
-    → (number : ℕ) × (line ≡ min number last_count)
-    × (held : List Value) × (queue.values ≡ map (flat types ty) held) × IsGoodUntil types ty text (given ++ held) (Some number))
+    (after.read_faults ≡ before.read_faults) × (length queue.values < want) × StandsBefore types ty queue line
 EndsFill types ty want queue before after (Err Failed) =
     Rose before.read_faults after.read_faults × (length queue.values < want) × (before.room ≡ None)
 
