@@ -27,4 +27,6 @@ mod sample_runs;
 #[cfg(test)]
 mod spelling_tests;
 #[cfg(test)]
+mod stream_tests;
+#[cfg(test)]
 mod word_tests;

@@ -1,0 +1,10 @@
+pub mod RowCuts
+pub mod Newlines
+pub mod NextLines
+pub mod Drawing
+pub mod Judging
+pub mod Filling
+pub mod Draining
+pub mod Givings
+pub mod GoodOnce
+pub mod GoodAlways

@@ -1,0 +1,41 @@
+//! Laws of the definitions, as contracts of functions that do nothing.
+ghost use Rattle.std.specs.Prelude.{◌≡◌, ℕ, List, ◌++◌, map, Option, Some, true, Result};
+ghost use Rattle.hume_base.specs.declared.types.Ty.{Ty};
+ghost use Rattle.hume_base.specs.declared.types.Types.{Types};
+ghost use Rattle.hume_base.specs.declared.types.Value.{Value};
+ghost use Rattle.hume_base.specs.Flat.{flat};
+ghost use Rattle.hume_base.specs.Sizes.{HaveTheirSizes};
+ghost use Rattle.hume_text.specs.Bounds.{IsPrintable};
+ghost use Rattle.hume_text.specs.Names.{HaveNames};
+ghost use Rattle.hume_ports.specs.Port.{PortView};
+ghost use Rattle.hume_streams.specs.declared.queue.FillError.{FillError};
+ghost use Rattle.hume_streams.specs.Good.{IsGoodUntil};
+ghost use Rattle.hume_streams.specs.Queues.{QueueView, IsQueueOf};
+ghost use Rattle.hume_streams.specs.Fills.{Fills};
+
+/// Each text has good values and a first bad line, or none.
+pub fn each_text_has_good_values()
+    ensures { (types : Types) (ty : Ty) (text : List ℕ) → HaveTheirSizes types → HaveNames types → IsPrintable types ty
+        → (good : List Value) × (bad : Option ℕ) × IsGoodUntil types ty text good bad }
+{}
+
+/// A text has its good values and its first bad line once.
+pub fn good_values_are_unique()
+    ensures { (types : Types) (ty : Ty) (text : List ℕ) (good values : List Value) (bad other : Option ℕ) → HaveNames types
+        → IsGoodUntil types ty text good bad → IsGoodUntil types ty text values other → (good ≡ values) × (bad ≡ other) }
+{}
+
+/// What a queue gave and holds is the first of the good values of each text for which it is right.
+pub fn queues_hold_the_next_values()
+    ensures { (types : Types) (ty : Ty) (queue : QueueView) (text rest : List ℕ) (given good : List Value) (bad : Option ℕ) → HaveNames types
+        → IsQueueOf types ty queue text given rest → IsGoodUntil types ty text good bad
+        → (held later : List Value) × (queue.values ≡ map (flat types ty) held) × (good ≡ given ++ (held ++ later)) }
+{}
+
+/// Of a port that tells what it has left, a queue that is right for it before a fill is right for it behind the fill.
+pub fn fills_follow_ports_that_tell()
+    ensures { (types : Types) (ty : Ty) (want : ℕ) (old new : QueueView) (before after : PortView) (result : Result (Unit {0}) FillError)
+        (text left rest : List ℕ) (given : List Value)
+        → Fills types ty want old new before after result → before.left ≡ Some left → after.left ≡ Some rest
+        → IsQueueOf types ty old text given left → IsQueueOf types ty new text given rest }
+{}

@@ -1,0 +1,25 @@
+//! The lines of a port as values, and values as lines of a port.
+//!
+//! `InQueue` reads the values of an input stream, as many as are wanted and no line more. Which lines of a text are bad, and which
+//! values the others have, is said by `specs/Good.antt`; for which text a queue is right by `specs/Queues.antt`; what a fill does
+//! by `specs/Fills.antt`. `OutLog` keeps the values of an output stream and writes each as a line (`specs/Logs.antt`).
+//! Neither takes memory once it is made.
+//! Laws: each text has its good values, once (`each_text_has_good_values`, `good_values_are_unique`); a queue holds the next ones
+//! (`queues_hold_the_next_values`), and stays right for a port that tells what it has left (`fills_follow_ports_that_tell`).
+//! It knows ports, lines and the words of values; it doesn't know cores, wires or streams.
+#![tactic(auto)]
+
+mod buffer;
+mod laws;
+mod line;
+mod log;
+mod log_line;
+mod queue;
+mod rows;
+
+pub use laws::{
+    each_text_has_good_values, fills_follow_ports_that_tell, good_values_are_unique,
+    queues_hold_the_next_values,
+};
+pub use log::OutLog;
+pub use queue::{FillError, InQueue};
