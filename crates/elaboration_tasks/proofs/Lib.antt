@@ -1,2 +1,5 @@
+pub mod FormLaws
 pub mod Given
-pub mod TryLet
+pub mod Lengths
+pub mod ListLaws
+pub mod WholeLaws

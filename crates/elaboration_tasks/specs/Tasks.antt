@@ -1,5 +1,5 @@
 -- What tasks do, one after the other: they find nothing, or go from state to state.
-use Rattle.std.specs.Prelude.{◌≡◌, ℕ, Bool, true, false, List, [], ◌∷◌, ◌++◌, map, take, drop, reverse, length, Option, Some, None}
+use Rattle.std.specs.Prelude.{ℕ, ◌&&◌, Bool, true, false, List, [], ◌∷◌, ◌++◌, map, take, drop, reverse, length, Option, Some, None}
 use Rattle.hume_base.specs.declared.types.Ty.{Ty, Bool as BoolTy, Named as NamedTy, Tuple as TupleTy, Vector as VectorTy, out-Ty}
 use Rattle.hume_ast.specs.declared.tree.Pat.{Pat}
 use Rattle.hume_ast.specs.declared.tree.Exp.{Exp}
@@ -23,6 +23,11 @@ use Rattle.elaboration_tasks.specs.States.{State, with_types, of_cores, with_typ
 
 abbrev pub walks : Signatures → List Exp → List Walk
 walks signatures parts = map (walk signatures) parts
+
+-- all of them are open
+abbrev pub walks_open : List Walk → Bool
+walks_open [] = true
+walks_open (part ∷ parts) = part.is_open && walks_open parts
 
 abbrev pub arm_walks : Signatures → List (Pat × Exp) → List (Pat × Walk)
 arm_walks signatures arms = map (λ arm. (arm.0, walk signatures arm.1)) arms
