@@ -1,3 +1,5 @@
+pub mod Binding
 pub mod Forms
+pub mod Opening
 pub mod Powers
 pub mod Steps

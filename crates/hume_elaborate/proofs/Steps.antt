@@ -7,6 +7,7 @@ use Rattle.hume_base.specs.declared.types.Ty.TheOpen.{Ty-F}
 use Rattle.hume_model.specs.Typing.{is_number_layer, is_ordered_layer, is_scalar_layer}
 use Rattle.hume_types.specs.Contexts.{shape_of}
 use Rattle.hume_typing.specs.Patterns.{is_number_of}
+use Rattle.hume_typing.proofs.SameTypes.{is_same-Decides}
 use Rattle.hume_elaborate.specs.inner.Shapes.{is_number, is_ordered, is_scalar, has_number}
 
 pub number_shape : (layer : Ty-F Ty) → is_number (shape_of layer) ≡ is_number_layer layer
@@ -46,5 +47,7 @@ within_shape number (Ty-F.Vector count item) = refl
 within_shape number (Ty-F.Named number') = refl
 
 pub ruleset type_steps = (common_steps, ty_lemmas)
+
+pub ruleset same_steps = (common_steps, is_same-Decides)
 
 pub ruleset shape_steps = (common_steps, ty_lemmas, number_shape, ordered_shape, scalar_shape, within_shape)

@@ -1,3 +1,3 @@
+pub mod Open
+pub mod Patterns
 pub mod Shapes
-pub mod Steps
-pub mod Tasks

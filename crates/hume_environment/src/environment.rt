@@ -95,6 +95,14 @@ impl<'a> Environment<'a> {
         Ok(())
     }
 
+    /// Puts the last type of the stack on it once more.
+    pub fn repeat(&mut self) -> Result<(), AllocError>
+        ensures { OnOk result (self.new ≡ with_type (top self.old.1) self.old) }
+    {
+        self.context.repeat()?;
+        Ok(())
+    }
+
     /// Puts the last but one type of the stack on it once more.
     pub fn repeat_below(&mut self) -> Result<(), AllocError>
         ensures { OnOk result (self.new ≡ with_type (top (below self.old.1)) self.old) }

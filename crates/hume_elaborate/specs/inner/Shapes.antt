@@ -1,12 +1,13 @@
 -- What is asked of a type, by what is seen of it.
-use Rattle.std.specs.Prelude.{ℕ, ◌^◌, ◌&&◌, nat_le, Bool, true, false, ℤ, pos}
+use Rattle.std.specs.Prelude.{◌≡◌, length, Some, ℕ, ◌^◌, ◌&&◌, nat_le, Bool, true, false, ℤ, pos}
 use Rattle.std.specs.Int.RustNames.{int_le, int_lt}
 use Rattle.hume_base.specs.declared.limits.TheConstants.{MAX_WIDTH}
 use Rattle.hume_base.specs.Values.{is_int_of}
+use Rattle.hume_base.specs.declared.types.Ty.{Ty}
+use Rattle.hume_typing.specs.Partial.{given}
+use Rattle.hume_typing.specs.inner.Walk.{tuple_parts}
 use Rattle.hume_model.specs.declared.core_tree.Op.{Op}
 use Rattle.hume_model.specs.declared.core_tree.Op.TheVariants.{Add, Sub, Mul, Div, Mod, Neg, Not, Convert, Eq, Ne, Lt, Le, Gt, Ge}
-use Rattle.hume_ast.specs.declared.tree.BinOp.{BinOp}
-use Rattle.hume_ast.specs.declared.tree.BinOp.TheVariants as sign
 use Rattle.hume_types.specs.declared.shape.Shape.{Shape}
 use Rattle.hume_types.specs.declared.shape.Shape.TheVariants as shape
 
@@ -41,11 +42,6 @@ has_number number (shape.Int bits) = is_int_of bits number
 has_number number (shape.Nat bits) = int_le (pos 0) number && int_lt number (pos (2 ^ bits))
 has_number number _ = false
 
--- the sign is one between numbers that gives a number
-abbrev pub is_arithmetic_sign : BinOp → Bool
-is_arithmetic_sign sign.Add = true
-is_arithmetic_sign sign.Sub = true
-is_arithmetic_sign sign.Mul = true
-is_arithmetic_sign sign.Div = true
-is_arithmetic_sign sign.Mod = true
-is_arithmetic_sign _ = false
+-- a tuple of so many parts
+abbrev pub HasParts : ℕ → Ty → Type 0
+HasParts count ty = given (tuple_parts ty) (λ tys. Some (length tys)) ≡ Some count
