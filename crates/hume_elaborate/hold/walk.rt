@@ -42,6 +42,21 @@ pub fn against<'a>(alloc: Global, at: &mut Elaboration<'a>, e: &'a Exp) -> Resul
     run_all(alloc, at, tasks)
 }
 
+/// Does one task, with all that it comes to.
+#[tactic(auto, using(crate::proofs::Walking::walk_steps))]
+pub fn perform_one<'a>(
+    alloc: Global,
+    at: &mut Elaboration<'a>,
+    task: Task<'a>,
+) -> Result<(), Stop>
+    ensures ok { OnOk result (step task at.old ≡ Some at.new) }
+    ensures none { IfErr result (λ stop. stop ≡ NoType → step task at.old ≡ None) }
+{
+    let mut tasks = Stack::new(alloc);
+    tasks.push(task)?;
+    run_all(alloc, at, tasks)
+}
+
 // One task after the other. More of them than can be counted would be answered with want of memory.
 #[tactic(auto, using(crate::proofs::Walking::walk_steps))]
 fn run_all<'a>(
@@ -88,6 +103,6 @@ fn perform<'a>(
         Task::Index(b) => index_tasks(at, tasks, b),
         Task::Update(b, d) => update_tasks(at, tasks, b, d),
         Task::Types(task) => at.type_task(task),
-        Task::Cores(task) => at.some_core_task(alloc, task),
+        Task::Cores(task) => at.make(alloc, task),
     }
 }
