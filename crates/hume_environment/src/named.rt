@@ -1,5 +1,5 @@
 //! What names of declarations stand for.
-ghost use Rattle.std.specs.Prelude.{◌≡◌, IfOk};
+ghost use Rattle.std.specs.Prelude.{◌≡◌, ◌+◌, IfOk};
 ghost use Rattle.hume_typing.specs.Signatures.{fun_named, con_named, exn_named};
 ghost use Rattle.hume_environment.specs.Known.{with_function, with_constructor, with_exception};
 
@@ -34,7 +34,8 @@ impl<'a> Environment<'a> {
                     return Ok(Some((small, false)));
                 }
                 let functions = self.names.signatures().funs.len();
-                self.context.push_kept(functions + number as usize)?;
+                let at = added(functions, number as usize)?;
+                self.context.push_kept(at)?;
                 Ok(Some((small, true)))
             }
         }
@@ -49,8 +50,9 @@ impl<'a> Environment<'a> {
             None => Ok(None),
             Some(found) => {
                 let signatures = self.names.signatures();
-                let others = signatures.funs.len() + signatures.exns.len();
-                self.context.push_kept(others + found.number as usize)?;
+                let others = added(signatures.funs.len(), signatures.exns.len())?;
+                let at = added(others, found.number as usize)?;
+                self.context.push_kept(at)?;
                 Ok(Some((found.data_type, found.place)))
             }
         }
@@ -63,5 +65,14 @@ fn small(number: u32) -> Result<u8, AllocError>
     match u8::try_from(number) {
         Ok(same) => Ok(same),
         Err(_) => Err(AllocError),
+    }
+}
+
+fn added(count: usize, more: usize) -> Result<usize, AllocError>
+    ensures { IfOk result (λ all. all ≡ count + more) }
+{
+    match count.checked_add(more) {
+        None => Err(AllocError),
+        Some(all) => Ok(all),
     }
 }
