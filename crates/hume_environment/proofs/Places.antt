@@ -37,7 +37,8 @@ pub exception_at : (s : Signatures) (name : List ℕ) (n : ℕ) (exn : ExnDef) �
     → type_at (kept_types s) (length s.funs + n) ≡ carried_type exn
 exception_at s name n exn h =
     behind signature_type s.funs (map carried_type s.exns ++ constructor_types s.types.sums) n
-    ∙ in_front (map carried_type s.exns) _ n (carried_type exn) (mapped carried_type s.exns n exn (first_stands (λ (exn : ExnDef). exn.name) name s.exns n exn h))
+    ∙ in_front (map carried_type s.exns) _ n (carried_type exn)
+    (mapped carried_type s.exns n exn (first_stands (λ (exn : ExnDef). exn.name) name s.exns n exn h))
 
 -- a constructor of a data type
 of_one : (cons : List ConDef) (more : List Ty) (place : ℕ) (fields : List Ty) → place < length cons → fields_of (slice_get cons place) ≡ fields
@@ -52,7 +53,8 @@ among [] number sum place fields there lt is = cc
 among (one ∷ sums) zero sum place fields there lt is =
     let same : one ≡ sum = cc in
     ap (type_at (constructor_types (one ∷ sums))) (let e : 0 + place ≡ place = omega arith in e)
-    ∙ of_one one.cons (constructor_types sums) place fields (let l : place < length one.cons = rw same lt in l) (ap (λ (s : SumDef). fields_at s place) same ∙ is)
+    ∙ of_one one.cons (constructor_types sums) place fields (let l : place < length one.cons = rw same lt in l)
+    (ap (λ (s : SumDef). fields_at s place) same ∙ is)
 among (one ∷ sums) (suc number) sum place fields there lt is =
     ap (type_at (constructor_types (one ∷ sums)))
     (ap (λ n. n + place) (sum_by-cons (λ (s : SumDef). length s.cons) one (take number sums))

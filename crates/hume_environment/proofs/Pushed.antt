@@ -23,9 +23,12 @@ known_from context s = (context.0, context.1, s)
 abbrev pub with_kept : ℕ → Context → Context
 with_kept at context = (context.0, type_at context.2 at ∷ context.1, context.2)
 
-pushed : (context new : Context) (s : Signatures) (at : ℕ) (ty : Ty) → context.2 ≡ kept_types s → type_at (kept_types s) at ≡ ty → new ≡ with_kept at context
+pushed : (context new : Context) (s : Signatures) (at : ℕ) (ty : Ty) → context.2 ≡ kept_types s → type_at (kept_types s) at ≡ ty
+    → new ≡ with_kept at context
     → known_from new s ≡ with_type ty (known_from context s)
-pushed context new s at ty kept is new_is = ap (λ k. known_from k s) new_is ∙ ap (λ t. with_type t (known_from context s)) (ap (λ tys. type_at tys at) kept ∙ is)
+pushed context new s at ty kept is new_is =
+    ap (λ k. known_from k s) new_is
+    ∙ ap (λ t. with_type t (known_from context s)) (ap (λ tys. type_at tys at) kept ∙ is)
 
 with_something : (carries : Option Ty) (n : ℕ) (known : Known) → is_some carries ≡ true
     → with_carried n carries known ≡ (Some (n, true), with_type (type_or_bool carries) known)
@@ -47,7 +50,8 @@ module _ (context new : Context) (s : Signatures) (known : Known) (name : List �
       ap (λ k. (Some n, k)) (pushed context new s n (signature_type function) kept (function_at s name n function h) new_is)
       ∙ sym (ap (λ found. with_function found (known_from context s)) h) ∙ ap (λ k. with_function (fun_named name k.2) k) view
 
-  pub exception_pushed : (n : ℕ) (exn : ExnDef) → exn_named name s ≡ Some (n, exn) → is_some exn.carries ≡ true → new ≡ with_kept (length s.funs + n) context
+  pub exception_pushed : (n : ℕ) (exn : ExnDef) → exn_named name s ≡ Some (n, exn) → is_some exn.carries ≡ true
+      → new ≡ with_kept (length s.funs + n) context
       → (Some (n, true), known_from new s) ≡ with_exception (exn_named name known.2) known
   exception_pushed n exn h carries new_is =
       ap (λ k. (Some (n, true), k)) (pushed context new s (length s.funs + n) (carried_type exn) kept (exception_at s name n exn h) new_is)

@@ -27,7 +27,8 @@ pub shown_grown : (old new : List Ty) → Grows old new → (ns : List ℕ) → 
 shown_grown old new g [] w = refl
 shown_grown old new g (n ∷ ns) w = λ i. g.1 n w.0 i ∷ shown_grown old new g ns w.1 i
 
-pub kept_shown : (old new : List Ty) → Grows old new → (ns : List ℕ) → all_below (length old) ns → {tys : List Ty} → shown old ns ≡ tys → shown new ns ≡ tys
+pub kept_shown : (old new : List Ty) → Grows old new → (ns : List ℕ) → all_below (length old) ns → {tys : List Ty}
+    → shown old ns ≡ tys → shown new ns ≡ tys
 kept_shown old new g ns w is = shown_grown old new g ns w ∙ is
 
 pub vars_grown : (old new : List Ty) → Grows old new → (vs : List (List ℕ × ℕ)) → all_below (length old) (numbers vs) → shown_vars new vs ≡ shown_vars old vs
