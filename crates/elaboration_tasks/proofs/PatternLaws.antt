@@ -2,7 +2,7 @@
 use native.Mathlib.Omega.{arith}
 use denote.Ref.{Bor}
 use Rattle.std.proofs.Common.{◌≡◌, ◌≤◌, ◌<◌, ◌-◌, ℕ, zero, suc, ◌+◌, List, [], ◌∷◌, ◌++◌, map, length, take, drop, reverse, Option, Some, None, true, false, refl, ap, sym, ◌∙◌}
-use Rattle.std.proofs.lemmas.List.{length-drop, append_assoc}
+use Rattle.std.proofs.lemmas.List.{length-drop, append_assoc, append-nil}
 use Rattle.hume_base.specs.declared.types.Ty.{Ty, Tuple as TupleTy, out-Ty}
 use Rattle.hume_base.specs.declared.types.Ty.TheOpen.{Ty-F}
 use Rattle.hume_ast.specs.declared.tree.Pat.{Pat}

@@ -13,7 +13,7 @@ use crate::list_tasks::{
     parts_tasks, two_tasks, update_tasks,
 };
 use crate::own_tasks::own_tasks;
-use crate::patterns::pattern;
+use crate::pattern_tasks::{match_parts_tasks, pattern_tasks};
 use crate::stop::Stop;
 use core_builder::Stack;
 use elaboration_tasks::Task;
@@ -91,7 +91,8 @@ fn perform<'a>(
         Task::Own(e) => own_tasks(at, tasks, e),
         Task::Against(e) => against_tasks(at, tasks, e),
         Task::Two(a, b) => two_tasks(at, tasks, a, b),
-        Task::Match(p) => pattern(alloc, at, p),
+        Task::Match(p) => pattern_tasks(at, tasks, p),
+        Task::MatchParts(parts, place) => match_parts_tasks(at, tasks, parts, place),
         Task::Enter(name) => at.enter(name),
         Task::Leave(count) => at.leave(count),
         Task::Parts(parts, place) => parts_tasks(at, tasks, parts, place),
