@@ -1,13 +1,13 @@
 -- Exceptions that are found.
 use native.Mathlib.Omega.{arith}
 use denote.Ref.{Bor}
-use Rattle.std.proofs.Common.{◌≡◌, ℕ, List, [], ◌∷◌, Option, Some, None, Bool, true, false, refl, ap, sym, ◌∙◌}
+use Rattle.std.proofs.Common.{◌≡◌, ℕ, List, [], ◌∷◌, Some, None, true, false, refl}
 use Rattle.std.proofs.lemmas.Grind.{common_steps}
 use Rattle.hume_ast.specs.declared.tree.Exp.{Exp}
-use Rattle.hume_typing.specs.Partial.{given}
 use Rattle.hume_typing.specs.Signatures.{exn_named}
 use Rattle.hume_typing.specs.inner.Walk.{walk}
-use Rattle.hume_environment.specs.Known.{Known, with_exception}
+use Rattle.hume_typing.specs.declared.signatures.Signatures.{Signatures}
+use Rattle.hume_environment.specs.Known.{with_exception}
 use Rattle.elaboration_tasks.specs.declared.task.Task.TheVariants as plain
 use Rattle.elaboration_tasks.specs.declared.task.TypeTask.TheVariants as types
 use Rattle.elaboration_tasks.proofs.Given.{by_case, form_steps}
@@ -15,7 +15,7 @@ use Rattle.result_tasks.specs.declared.task.ResultTask.TheVariants as task
 use Rattle.result_tasks.specs.declared.task.ResultMake.TheVariants as make
 use Rattle.result_tasks.specs.ResultStates.{ResultState}
 use Rattle.result_tasks.specs.ResultTasks.{scope_of, signatures_of, last_outputs, result_run, result_of}
-use Rattle.hume_results.specs.inner.ResultPlans.{HasNoResult, raise_found, raise_with_found}
+use Rattle.hume_results.specs.inner.ResultPlans.{HasNoResult, carried_by, raised_found, raise_found, raise_with_found}
 
 -- the name stands for an exception that carries nothing
 pub alone_found : (st new : ResultState) (name : List ℕ) (number : ℕ)
@@ -38,25 +38,26 @@ carried_found st new name a number found keeps =
     by_case exn.1.carries (λ n. grind (arith, form_steps)) (λ carried c.
     by_case ((walk (signatures_of st) a.now).against (scope_of st) carried) (λ n. grind (arith, form_steps)) (λ part f. grind (arith, form_steps))))
 
--- it stands for no exception
-pub none_found : (st : ResultState) (new : Known) (name : List ℕ) (a : Exp) → (None, new) ≡ with_exception (exn_named name (signatures_of st)) st.0.0
+-- what carries nothing can't be raised with something
+pub none_raised : (st : ResultState) (name : List ℕ) (a : Exp) → carried_by (signatures_of st) name ≡ None
     → HasNoResult (raise_with_found (signatures_of st) name a) st
 unfolding raise_with_found
-none_found st new name a found =
+none_raised st name a none =
     by_case (exn_named name (signatures_of st)) (λ n. grind (arith, form_steps)) (λ exn e.
     by_case exn.1.carries (λ n. grind (arith, form_steps)) (λ carried c. grind (arith, form_steps)))
 
--- it stands for one that carries nothing, which can't be raised with something
-pub none_carried : (st : ResultState) (new : Known) (name : List ℕ) (a : Exp) (number : ℕ)
-    → (Some (number, false), new) ≡ with_exception (exn_named name (signatures_of st)) st.0.0
-    → HasNoResult (raise_with_found (signatures_of st) name a) st
-unfolding raise_with_found
-none_carried st new name a number found =
-    by_case (exn_named name (signatures_of st)) (λ n. grind (arith, form_steps)) (λ exn e.
-    by_case exn.1.carries (λ n. grind (arith, form_steps)) (λ carried c. grind (arith, form_steps)))
+pub raised_alone : (s : Signatures) (name : List ℕ) → raised_found s name None ≡ raise_found s name
+unfolding raised_found
+raised_alone s name = refl
+
+pub raised_with : (s : Signatures) (name : List ℕ) (a : Exp) → raised_found s name (Some a) ≡ raise_with_found s name a
+unfolding raised_found
+raised_with s name a = refl
+
+pub ruleset raised_steps = (common_steps, raised_alone, raised_with)
 
 pub ruleset raise_steps = (form_steps, alone_found)
 
-pub ruleset carrying_steps = (form_steps, none_found, none_carried)
+pub ruleset carrying_steps = (form_steps)
 
-pub ruleset raise_with_steps = (form_steps, carried_found)
+pub ruleset raise_with_steps = (form_steps, none_raised)

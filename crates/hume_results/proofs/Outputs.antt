@@ -1,10 +1,5 @@
 -- Outputs, one and many.
-use Rattle.std.proofs.Common.{◌≡◌, length, refl}
 use Rattle.std.proofs.lemmas.Grind.{common_steps}
-use Rattle.hume_base.specs.declared.types.Ty.{Ty, the_lemmas as ty_lemmas}
-use Rattle.hume_base.specs.declared.types.Ty.TheOpen.{Ty-F}
-use Rattle.hume_types.specs.Contexts.{shape_of}
-use Rattle.result_tasks.specs.ResultTasks.{part_types}
 use Rattle.result_tasks.proofs.ResultForms.{value_output}
 use Rattle.result_tasks.proofs.ResultLists.{outputs_none, outputs_more, outputs_past, outputs_lacking, result_arms_none, result_arms_more}
 use Rattle.result_tasks.proofs.ResultWholes.{one_output, more_outputs, no_result}

@@ -1,25 +1,41 @@
 //! The tasks of exceptions.
-ghost use Rattle.std.specs.Prelude.{◌≡◌, Some, true, OnOk, IfOk, IfErr};
-ghost use Rattle.hume_ast.specs.declared.tree.Exp.{Exp as Expression};
+ghost use Rattle.std.specs.Prelude.{◌≡◌, Some, None, true, OnOk, IfOk, IfErr};
 ghost use Rattle.hume_typing.specs.Partial.{given};
 ghost use Rattle.hume_typing.specs.Signatures.{exn_named};
 ghost use Rattle.hume_environment.specs.Known.{with_exception};
 ghost use Rattle.hume_elaborate.specs.declared.stop.Stop.TheVariants.{NoType};
 ghost use Rattle.result_tasks.specs.ResultTasks.{scope_of, last_outputs, result_run, result_of};
-ghost use Rattle.hume_results.specs.inner.ResultPlans.{raise_found, raise_with_found, HasNoResult};
+ghost use Rattle.hume_results.specs.inner.ResultPlans.{carried_by, raised_found, raise_found, raise_with_found, HasNoResult};
 
 use crate::elaboration::ResultElaboration;
 use crate::first::first;
 use core_builder::Stack;
 use elaboration_tasks::{Task, TypeTask};
 use hume_ast::Exp;
-use hume_base::Text;
+use hume_base::{Box, Text};
 use hume_elaborate::Stop;
 use result_tasks::{ResultMake, ResultTask};
 
-/// An exception that carries nothing.
+/// An exception, alone or with what it carries.
+#[tactic(auto, using(crate::proofs::FoundExceptions::raised_steps))]
+pub(crate) fn raise_result<'a>(
+    at: &mut ResultElaboration<'a>,
+    tasks: &mut Stack<ResultTask<'a>>,
+    name: &Text,
+    carried: &'a Option<Box<Exp>>,
+) -> Result<(), Stop>
+    ensures ok { OnOk result (result_run tasks.new at.new ≡ given (result_of ((raised_found at.old.0.0.2 name.now carried.now).result (scope_of at.old) (last_outputs at.old)) at.old) (result_run tasks.old)) }
+    ensures none { IfErr result (λ stop. stop ≡ NoType → HasNoResult (raised_found at.old.0.0.2 name.now carried.now) at.old) }
+{
+    match carried {
+        None => raise_alone(at, tasks, name),
+        Some(a) => raise_with(at, tasks, name, a),
+    }
+}
+
+// An exception that carries nothing.
 #[tactic(auto, using(crate::proofs::FoundExceptions::raise_steps))]
-pub(crate) fn raise_alone<'a>(
+fn raise_alone<'a>(
     at: &mut ResultElaboration<'a>,
     tasks: &mut Stack<ResultTask<'a>>,
     name: &Text,
@@ -30,15 +46,13 @@ pub(crate) fn raise_alone<'a>(
     match at.plain.push_exception(name.bytes())? {
         None => Err(Stop::NoType),
         Some((_, true)) => Err(Stop::NoType),
-        Some((number, false)) => {
-            first(tasks, &[ResultTask::Make(ResultMake::Raise(number))])
-        }
+        Some((number, false)) => { first(tasks, &[ResultTask::Make(ResultMake::Raise(number))]) }
     }
 }
 
-/// An exception with what it carries.
+// An exception with what it carries.
 #[tactic(auto, using(crate::proofs::FoundExceptions::raise_with_steps))]
-pub(crate) fn raise_with<'a>(
+fn raise_with<'a>(
     at: &mut ResultElaboration<'a>,
     tasks: &mut Stack<ResultTask<'a>>,
     name: &Text,
@@ -63,7 +77,7 @@ pub(crate) fn raise_with<'a>(
 fn carrying(at: &mut ResultElaboration, name: &Text) -> Result<u8, Stop>
     ensures found { IfOk result (λ number. (Some (number, true), at.new.0.0) ≡ with_exception (exn_named name.now at.old.0.0.2) at.old.0.0) }
     ensures keeps { OnOk result (at.new ≡ ((at.new.0.0, at.old.0.1, at.old.0.2, at.old.0.3), at.old.1, at.old.2, at.old.3)) }
-    ensures none { IfErr result (λ stop. stop ≡ NoType → (a : Expression) → HasNoResult (raise_with_found at.old.0.0.2 name.now a) at.old) }
+    ensures none { IfErr result (λ stop. stop ≡ NoType → carried_by at.old.0.0.2 name.now ≡ None) }
 {
     match at.plain.push_exception(name.bytes())? {
         None => Err(Stop::NoType),

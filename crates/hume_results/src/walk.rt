@@ -9,7 +9,7 @@ ghost use Rattle.hume_results.specs.inner.ResultPlans.{HasNoResult};
 use crate::elaboration::ResultElaboration;
 use crate::leaves::{single_result, tuple_result};
 use crate::output_tasks::{arms_tasks, output_tasks, outputs_tasks};
-use crate::raises::{raise_alone, raise_with};
+use crate::raises::raise_result;
 use crate::result_forms::{case_result, if_result, let_result, paren_result};
 use core_builder::Stack;
 use hume_ast::Exp;
@@ -84,8 +84,7 @@ fn result_tasks<'a>(
         Exp::Let(name, a, b) => let_result(at, tasks, name, a, b),
         Exp::If(test, a, b) => if_result(at, tasks, test, a, b),
         Exp::Case(a, arms) => case_result(at, tasks, a, arms.as_slice()),
-        Exp::Raise(name, None) => raise_alone(at, tasks, name),
-        Exp::Raise(name, Some(a)) => raise_with(at, tasks, name, a),
+        Exp::Raise(name, carried) => raise_result(at, tasks, name, carried),
         Exp::Paren(a) => paren_result(at, tasks, a),
         Exp::Tuple(parts) => tuple_result(at, tasks, e, parts.as_slice()),
         Exp::Star => single_result(at, tasks, e),

@@ -1,9 +1,11 @@
 -- What tasks come to that were put before others.
-use Rattle.std.specs.Prelude.{◌≡◌, ℕ, List, None}
+use Rattle.std.specs.Prelude.{◌≡◌, ℕ, List, Option, Some, None}
+use Rattle.hume_base.specs.declared.types.Ty.{Ty}
 use Rattle.hume_ast.specs.declared.tree.Pat.{Pat}
 use Rattle.hume_ast.specs.declared.tree.Exp.{Exp}
 use Rattle.hume_types.specs.Contexts.{top}
 use Rattle.hume_typing.specs.Partial.{given}
+use Rattle.hume_typing.specs.Signatures.{exn_named}
 use Rattle.hume_typing.specs.inner.Walk.{walk, star_walk}
 use Rattle.hume_typing.specs.inner.ResultWalk.{ResultWalk, result_walk, leaf_walk, no_outputs, valued, let_result_walk, if_result_walk, case_result_walk, raise_result_walk, raise_with_result_walk}
 use Rattle.hume_typing.specs.declared.signatures.Signatures.{Signatures}
@@ -26,6 +28,10 @@ raise_found s name = raise_result_walk s name star_walk
 
 unfoldable pub raise_with_found : Signatures → List ℕ → Exp → ResultWalk
 raise_with_found s name a = raise_with_result_walk s name star_walk (walk s a)
+
+unfoldable pub raised_found : Signatures → List ℕ → Option Exp → ResultWalk
+raised_found s name None = raise_found s name
+raised_found s name (Some a) = raise_with_found s name a
 
 -- from the state, the tasks come to the result that is found, and then to the others
 abbrev pub DoesResult : ResultWalk → ResultState → List ResultTask → List ResultTask → Type 0
@@ -50,3 +56,7 @@ IsLeaf found = found ≡ leaf_walk found.walk found.output no_outputs
 -- an output of this form is a value
 abbrev pub IsValued : Signatures → Exp → Type 0
 IsValued s e = (result_walk s e).output ≡ valued (walk s e)
+
+-- what the exception of a name carries
+abbrev pub carried_by : Signatures → List ℕ → Option Ty
+carried_by s name = given (exn_named name s) (λ found. found.1.carries)
