@@ -42,3 +42,7 @@ with_arms arms state = (state.0, state.1, state.2, reverse arms ++ state.3)
 -- with the variables of a pattern in scope, and its core on the stack
 abbrev pub with_bound : Bound → State → State
 with_bound bound state = ((state.0.0 ++ bound.0, state.0.1, state.0.2), state.1, bound.1 ∷ state.2, state.3)
+
+-- with the variables of patterns in scope, and their cores on the stack, the last of them last
+abbrev pub with_all_bound : Scope → List CoredPat → State → State
+with_all_bound vars cs state = ((state.0.0 ++ vars, state.0.1, state.0.2), state.1, reverse cs ++ state.2, state.3)

@@ -3,10 +3,11 @@ use Rattle.std.specs.Prelude.{ℕ, ◌&&◌, Bool, true, false, List, [], ◌∷
 use Rattle.hume_base.specs.declared.types.Ty.{Ty, Bool as BoolTy, Named as NamedTy, Tuple as TupleTy, Vector as VectorTy, out-Ty}
 use Rattle.hume_ast.specs.declared.tree.Pat.{Pat}
 use Rattle.hume_ast.specs.declared.tree.Exp.{Exp}
+use Rattle.hume_model.specs.declared.core_tree.PatC.{Con as ConPat, Tuple as TuplePat}
 use Rattle.hume_model.specs.Typing.{is_number_type, is_comparison}
 use Rattle.hume_types.specs.Contexts.{top, below, part_at, item_of}
 use Rattle.hume_typing.specs.Partial.{given, when}
-use Rattle.hume_typing.specs.Patterns.{CoredPat, Bound, pattern}
+use Rattle.hume_typing.specs.Patterns.{CoredPat, Bound, pat_cores, some_pat_too_wide, pattern, patterns}
 use Rattle.hume_typing.specs.Cores.{Cored, CoredArm, let_core, if_core, and_core, or_core, operation_core, neg_core, not_core, convert_core, index_core, update_core, case_core, raise_with_core, call_core, con_core, tuple_core, vector_core}
 use Rattle.hume_typing.specs.Typing.{int32}
 use Rattle.hume_typing.specs.inner.SameTypes.{is_same}
@@ -19,7 +20,7 @@ use Rattle.elaboration_tasks.specs.declared.task.TypeTask.{TypeTask}
 use Rattle.elaboration_tasks.specs.declared.task.TypeTask.TheVariants as types
 use Rattle.elaboration_tasks.specs.declared.task.CoreTask.{CoreTask}
 use Rattle.elaboration_tasks.specs.declared.task.CoreTask.TheVariants as cores
-use Rattle.elaboration_tasks.specs.States.{State, with_types, of_cores, with_typed, with_core, with_cores, with_all_typed, with_arms, with_bound}
+use Rattle.elaboration_tasks.specs.States.{State, with_types, of_cores, with_typed, with_core, with_cores, with_all_typed, with_arms, with_bound, with_all_bound}
 
 abbrev pub walks : Signatures → List Exp → List Walk
 walks signatures parts = map (walk signatures) parts
@@ -82,6 +83,10 @@ core_step (cores.OwnVector count) state =
 core_step cores.Arm state = (state.0, drop 1 state.1, drop 1 state.2, (top_pattern state.2, last state) ∷ state.3)
 core_step (cores.Alternatives count) state =
     (state.0, case_core (top state.0.1) (last state) (reverse (take count state.3)) ∷ drop 1 state.1, state.2, drop count state.3)
+core_step (cores.SameConstructor place count) state =
+    (state.0, state.1, (ConPat place (pat_cores (reverse (take count state.2))), some_pat_too_wide (reverse (take count state.2))) ∷ drop count state.2, state.3)
+core_step (cores.SameTuple count) state =
+    (state.0, state.1, (TuplePat (pat_cores (reverse (take count state.2))), some_pat_too_wide (reverse (take count state.2))) ∷ drop count state.2, state.3)
 core_step (cores.Lift others) state = of_cores (lifted others state.1) state
 core_step (cores.LiftArm others) state = (state.0, state.1, state.2, lifted others state.3)
 
@@ -102,6 +107,10 @@ own_of found state = given found (λ t. Some (with_typed t.0 t.1 state))
 abbrev pub against_of : Option Cored → State → Option State
 against_of found state = given found (λ c. Some (with_core c state))
 
+-- with the variables in scope and the core of the pattern that is found
+abbrev pub bound_of : Option Bound → State → Option State
+bound_of found state = given found (λ bound. Some (with_bound bound state))
+
 -- with the type and the two cores that are found
 abbrev pub two_of : Option (Ty × Cored × Cored) → State → Option State
 two_of found state = given found (λ two. Some ((state.0.0, two.0 ∷ state.0.1, state.0.2), two.2 ∷ two.1 ∷ state.1, state.2, state.3))
@@ -120,7 +129,9 @@ step (task.Against e) state = against_of ((walk state.0.2 e.now).against state.0
 step (task.Two a b) state = two_of (two_own (walk state.0.2 a.now).is_open (walk state.0.2 b.now).is_open (walk state.0.2 a.now) (walk state.0.2 b.now) state.0.0) state
 step (task.OwnEach parts) state = each_of (each_own state.0.0 (walks state.0.2 parts.now)) state
 step (task.OwnArms arms) state = arms_own_of (arms_own state.0.2 state.0.0 (top state.0.1) (arm_walks state.0.2 arms.now)) state
-step (task.Match p) state = given (pattern state.0.2 p.now (top state.0.1)) (λ bound. Some (with_bound bound state))
+step (task.Match p) state = bound_of (pattern state.0.2 p.now (top state.0.1)) state
+step (task.MatchParts pats first) state = given (tuple_parts (top state.0.1)) (λ tys.
+    given (patterns state.0.2 pats.now (drop first tys)) (λ all. Some (with_all_bound all.0 all.1 state)))
 step (task.Enter name) state = Some ((state.0.0 ++ (name.now, top state.0.1) ∷ [], below state.0.1, state.0.2), state.1, state.2, state.3)
 step (task.Leave count) state = Some ((take count state.0.0, state.0.1, state.0.2), state.1, state.2, state.3)
 step (task.Parts parts first) state = given (tuple_parts (top state.0.1)) (λ tys.

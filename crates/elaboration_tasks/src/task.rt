@@ -11,6 +11,8 @@ pub enum Task<'a> {
     Against(&'a Exp),
     /// A pattern against the last type; its variables come into scope.
     Match(&'a Pat),
+    /// Patterns against the types of the last type, a tuple, from a part on; their variables come into scope.
+    MatchParts(&'a [Pat], usize),
     /// The last type goes to a new variable.
     Enter(&'a [u8]),
     /// All but the first variables go out of scope.
@@ -95,6 +97,10 @@ pub enum CoreTask {
     Arm,
     /// A `case` of the last core, which is of the last type, with so many of the last alternatives.
     Alternatives(usize),
+    /// A pattern of a constructor with so many of the last patterns.
+    SameConstructor(u32, usize),
+    /// A pattern of a tuple of so many of the last patterns.
+    SameTuple(usize),
     /// The core below so many others goes to the end.
     Lift(usize),
     /// The alternative below so many others goes to the end.

@@ -1,5 +1,10 @@
 pub mod Binding
+pub mod Dispatch
 pub mod Forms
+pub mod Lists
+pub mod Named
+pub mod Numbers
 pub mod Opening
 pub mod Powers
 pub mod Steps
+pub mod Walking

@@ -1,5 +1,4 @@
 pub mod Open
-pub mod Operators
-pub mod Patterns
 pub mod Plans
 pub mod Shapes
+pub mod Written

@@ -32,6 +32,10 @@ impl<'a> Elaboration<'a> {
             CoreTask::OwnVector(count) => self.own_vector(alloc, count),
             CoreTask::Arm => self.builder.arm(),
             CoreTask::Alternatives(count) => self.alternatives(alloc, count),
+            CoreTask::SameConstructor(place, count) => {
+                self.builder.same_constructor(alloc, place, count)
+            }
+            CoreTask::SameTuple(count) => self.builder.same_tuple(alloc, count),
             CoreTask::Lift(others) => self.builder.lift(others),
             CoreTask::LiftArm(others) => self.builder.lift_arm(others),
         }

@@ -1,14 +1,14 @@
 -- Types that are kept, in their order.
-use native.Mathlib.Omega.{arith}
-use Rattle.std.proofs.Common.{◌≡◌, ◌<◌, ℕ, suc, ◌+◌, List, [], ◌∷◌, ◌++◌, map, length, take, drop, reverse, sum, slice_get, Option, Some, None, refl, ap, sym, ◌∙◌}
+use Rattle.std.proofs.Common.{◌≡◌, ℕ, List, [], ◌∷◌, ◌++◌, length, take, drop, reverse, ap, sym, ◌∙◌}
 use Rattle.std.proofs.lemmas.Grind.{common_steps}
-use Rattle.std.proofs.lemmas.List.{reverse-append, length-reverse, reverse-reverse, append_assoc, map-append}
+use Rattle.std.proofs.lemmas.List.{reverse-append, length-reverse, reverse-reverse, append_assoc}
 use Rattle.std.proofs.Math.Seq.{take-append_seam, drop-append_seam}
 
 module _ {A : Type 0} where
   pub taken_back : (xs ys : List A) (count : ℕ) → length xs ≡ count → reverse (take count (reverse xs ++ ys)) ≡ xs
   taken_back xs ys count h =
-      ap (λ n. reverse (take n (reverse xs ++ ys))) (sym h ∙ sym (length-reverse xs)) ∙ ap reverse (take-append_seam (reverse xs) ys) ∙ reverse-reverse xs
+      ap (λ n. reverse (take n (reverse xs ++ ys))) (sym h ∙ sym (length-reverse xs))
+      ∙ ap reverse (take-append_seam (reverse xs) ys) ∙ reverse-reverse xs
 
   pub left_below : (xs ys : List A) (count : ℕ) → length xs ≡ count → drop count (reverse xs ++ ys) ≡ ys
   left_below xs ys count h = ap (λ n. drop n (reverse xs ++ ys)) (sym h ∙ sym (length-reverse xs)) ∙ drop-append_seam (reverse xs) ys

@@ -1,8 +1,8 @@
 -- What is known where an expression stands.
-use Rattle.std.specs.Prelude.{ℕ, List, [], ◌∷◌, ◌++◌, map, Bool, true, false, Option, Some, None}
+use Rattle.std.specs.Prelude.{ℕ, List, [], ◌∷◌, Bool, true, false, Option, Some, None}
 use Rattle.hume_base.specs.declared.types.Ty.{Ty, Tuple as TupleTy}
 use Rattle.hume_model.specs.declared.core_tree.ExnDef.{ExnDef}
-use Rattle.hume_typing.specs.Signatures.{Scope, Constructor, variable_named, fun_named, con_named, exn_named}
+use Rattle.hume_typing.specs.Signatures.{Scope, Constructor}
 use Rattle.hume_typing.specs.declared.signatures.Signature.{Signature}
 use Rattle.hume_typing.specs.declared.signatures.Signatures.{Signatures}
 

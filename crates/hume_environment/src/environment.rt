@@ -5,7 +5,7 @@ ghost use Rattle.hume_types.specs.Contexts.{top, below, shape_of as shape_seen, 
 ghost use Rattle.hume_typing.specs.Signatures.{variable_named};
 ghost use Rattle.hume_environment.specs.Known.{with_type, with_variable};
 
-
+use crate::signed::signed_context;
 use hume_base::Ty;
 use hume_types::{Context, Node, Shape};
 use hume_typing::Signatures;
@@ -32,6 +32,7 @@ impl<'a> Model for Environment<'a> {
     ghost use Rattle.hume_base.specs.contracts.types.Ty as ty;
     ghost use Rattle.hume_typing.specs.declared.signatures.Signatures.{Signatures};
     ghost use Rattle.hume_typing.specs.contracts.signatures.Signatures as sigs;
+    ghost use Rattle.hume_environment.specs.inner.Kept.{kept_types};
 
     ghost Value = { List (List ℕ × Ty) × List Ty × Signatures };
 
@@ -39,13 +40,20 @@ impl<'a> Model for Environment<'a> {
 
     ghost view = { λ e. (e.context.0, e.context.1, e.names) };
 
+    ghost invariant = { λ e. e.context.2 ≡ kept_types e.names };
 }
 
 impl<'a> Environment<'a> {
     pub fn new(alloc: Global, signatures: &'a Signatures) -> Result<Environment<'a>, AllocError>
         ensures { IfOk result (λ e. e ≡ ([], [], signatures.now)) }
     {
-        Err(AllocError)
+        let names = SignatureTable::make(alloc, signatures)?;
+        let context = signed_context(alloc, signatures)?;
+        Ok(Environment {
+            names,
+            context,
+            room: TYPE_NODES,
+        })
     }
 
     /// How many variables are in scope.
@@ -60,14 +68,16 @@ impl<'a> Environment<'a> {
         requires { IsWithin 0 node }
         ensures { OnOk result (self.new ≡ with_type (ty_of [] node) self.old) }
     {
-        Err(AllocError)
+        self.context.push(node)?;
+        Ok(())
     }
 
     /// Puts a type that is a tree on the stack. It takes time for each of its nodes.
     pub fn push_tree(&mut self, alloc: Global, ty: &Ty) -> Result<(), AllocError>
         ensures { OnOk result (self.new ≡ with_type ty.now self.old) }
     {
-        Err(AllocError)
+        self.context.push_tree(alloc, ty)?;
+        Ok(())
     }
 
     /// Takes the last type off the stack.
@@ -81,35 +91,40 @@ impl<'a> Environment<'a> {
     pub fn pop_below(&mut self) -> Result<(), AllocError>
         ensures { OnOk result (self.new ≡ (self.old.0, top self.old.1 ∷ below (below self.old.1), self.old.2)) }
     {
-        Err(AllocError)
+        self.context.pop_below()?;
+        Ok(())
     }
 
     /// Puts the last type of the stack on it once more.
     pub fn repeat(&mut self) -> Result<(), AllocError>
         ensures { OnOk result (self.new ≡ with_type (top self.old.1) self.old) }
     {
-        Err(AllocError)
+        self.context.repeat()?;
+        Ok(())
     }
 
     /// Puts the last but one type of the stack on it once more.
     pub fn repeat_below(&mut self) -> Result<(), AllocError>
         ensures { OnOk result (self.new ≡ with_type (top (below self.old.1)) self.old) }
     {
-        Err(AllocError)
+        self.context.repeat_below()?;
+        Ok(())
     }
 
     /// What is seen of the last type of the stack.
     pub fn shape(&self) -> Result<Shape, AllocError>
         ensures { IfOk result (λ shape. shape ≡ shape_seen (out-Ty (top self.now.1))) }
     {
-        Err(AllocError)
+        let shape = self.context.shape()?;
+        Ok(shape)
     }
 
     /// Whether the last two types of the stack are one.
     pub fn are_same(&self) -> Result<bool, AllocError>
         ensures { IfOk result (λ same. IsTrue same ↔ (top self.now.1 ≡ top (below self.now.1))) }
     {
-        Err(AllocError)
+        let same = self.context.are_same()?;
+        Ok(same)
     }
 
     /// The last type of the stack as a tree.
@@ -117,42 +132,48 @@ impl<'a> Environment<'a> {
         ensures keeps { OnOk result (self.new ≡ self.old) }
         ensures is { IfOk result (λ ty. ty ≡ top self.old.1) }
     {
-        Err(AllocError)
+        let ty = self.context.tree(alloc, &mut self.room)?;
+        Ok(ty)
     }
 
     /// Puts a part of the last type of the stack, a tuple, on the stack.
     pub fn push_part(&mut self, at: usize) -> Result<(), AllocError>
         ensures { OnOk result (self.new ≡ with_type (part_at at (out-Ty (top self.old.1))) self.old) }
     {
-        Err(AllocError)
+        self.context.push_part(at)?;
+        Ok(())
     }
 
     /// Puts the type of the elements of the last type of the stack, a vector, on the stack.
     pub fn push_item(&mut self) -> Result<(), AllocError>
         ensures { OnOk result (self.new ≡ with_type (item_of (out-Ty (top self.old.1))) self.old) }
     {
-        Err(AllocError)
+        self.context.push_item()?;
+        Ok(())
     }
 
     /// Makes one tuple of the last types of the stack.
     pub fn tuple(&mut self, count: usize) -> Result<(), AllocError>
         ensures { OnOk result (self.new ≡ (self.old.0, TupleTy (reverse (take count self.old.1)) ∷ drop count self.old.1, self.old.2)) }
     {
-        Err(AllocError)
+        self.context.tuple(count)?;
+        Ok(())
     }
 
     /// Makes a vector of so many of the last type of the stack.
     pub fn vector(&mut self, count: u32) -> Result<(), AllocError>
         ensures { OnOk result (self.new ≡ (self.old.0, VectorTy count (top self.old.1) ∷ below self.old.1, self.old.2)) }
     {
-        Err(AllocError)
+        self.context.vector(count)?;
+        Ok(())
     }
 
     /// Moves the last type of the stack to a new variable.
     pub fn enter(&mut self, name: &'a [u8]) -> Result<(), AllocError>
         ensures { OnOk result (self.new ≡ (self.old.0 ++ (name.now, top self.old.1) ∷ [], below self.old.1, self.old.2)) }
     {
-        Err(AllocError)
+        self.context.enter(name)?;
+        Ok(())
     }
 
     /// Leaves all but the first variables.
@@ -166,6 +187,7 @@ impl<'a> Environment<'a> {
     pub fn find(&mut self, name: &[u8]) -> Result<Option<u32>, AllocError>
         ensures { IfOk result (λ number. (number, self.new) ≡ with_variable (variable_named name.now self.old.0) self.old) }
     {
-        Err(AllocError)
+        let number = self.context.find(name)?;
+        Ok(number)
     }
 }

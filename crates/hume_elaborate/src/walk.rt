@@ -13,7 +13,7 @@ use crate::list_tasks::{
     parts_tasks, two_tasks, update_tasks,
 };
 use crate::own_tasks::own_tasks;
-use crate::patterns::pattern;
+use crate::pattern_tasks::{match_parts_tasks, pattern_tasks};
 use crate::stop::Stop;
 use core_builder::Stack;
 use elaboration_tasks::Task;
@@ -39,6 +39,21 @@ pub fn against<'a>(alloc: Global, at: &mut Elaboration<'a>, e: &'a Exp) -> Resul
 {
     let mut tasks = Stack::new(alloc);
     tasks.push(Task::Against(e))?;
+    run_all(alloc, at, tasks)
+}
+
+/// Does one task, with all that it comes to.
+#[tactic(auto, using(crate::proofs::Walking::walk_steps))]
+pub fn perform_one<'a>(
+    alloc: Global,
+    at: &mut Elaboration<'a>,
+    task: Task<'a>,
+) -> Result<(), Stop>
+    ensures ok { OnOk result (step task at.old ≡ Some at.new) }
+    ensures none { IfErr result (λ stop. stop ≡ NoType → step task at.old ≡ None) }
+{
+    let mut tasks = Stack::new(alloc);
+    tasks.push(task)?;
     run_all(alloc, at, tasks)
 }
 
@@ -76,7 +91,8 @@ fn perform<'a>(
         Task::Own(e) => own_tasks(at, tasks, e),
         Task::Against(e) => against_tasks(at, tasks, e),
         Task::Two(a, b) => two_tasks(at, tasks, a, b),
-        Task::Match(p) => pattern(alloc, at, p),
+        Task::Match(p) => pattern_tasks(at, tasks, p),
+        Task::MatchParts(parts, place) => match_parts_tasks(at, tasks, parts, place),
         Task::Enter(name) => at.enter(name),
         Task::Leave(count) => at.leave(count),
         Task::Parts(parts, place) => parts_tasks(at, tasks, parts, place),
@@ -88,6 +104,6 @@ fn perform<'a>(
         Task::Index(b) => index_tasks(at, tasks, b),
         Task::Update(b, d) => update_tasks(at, tasks, b, d),
         Task::Types(task) => at.type_task(task),
-        Task::Cores(task) => at.some_core_task(alloc, task),
+        Task::Cores(task) => at.make(alloc, task),
     }
 }

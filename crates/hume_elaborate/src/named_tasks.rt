@@ -9,7 +9,7 @@ ghost use Rattle.elaboration_tasks.specs.Tasks.{run, own_of, against_of, walks};
 ghost use Rattle.hume_elaborate.specs.declared.stop.Stop.TheVariants.{NoType};
 
 use crate::elaboration::Elaboration;
-use crate::literals::number_node;
+use crate::numbers::number_node;
 use crate::first::first;
 use crate::stop::Stop;
 use core_builder::Stack;
