@@ -1,7 +1,6 @@
 //! From expressions, results and declarations to their cores.
 #![tactic(auto)]
 
-mod access;
 mod against_forms;
 mod against_tasks;
 mod core_tasks;
