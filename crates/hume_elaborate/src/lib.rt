@@ -9,6 +9,7 @@
 //! It knows expressions, patterns, types and cores. It doesn't know results of rules, declarations, or which rule is told.
 #![tactic(auto)]
 
+mod access;
 mod against_forms;
 mod against_tasks;
 mod core_tasks;
