@@ -27,6 +27,10 @@ pub shown_grown : (old new : List Ty) → Grows old new → (ns : List ℕ) → 
 shown_grown old new g [] w = refl
 shown_grown old new g (n ∷ ns) w = λ i. g.1 n w.0 i ∷ shown_grown old new g ns w.1 i
 
+pub kept_shown : (old new : List Ty) → Grows old new → (ns : List ℕ) → all_below (length old) ns → {tys : List Ty}
+    → shown old ns ≡ tys → shown new ns ≡ tys
+kept_shown old new g ns w is = shown_grown old new g ns w ∙ is
+
 pub vars_grown : (old new : List Ty) → Grows old new → (vs : List (List ℕ × ℕ)) → all_below (length old) (numbers vs) → shown_vars new vs ≡ shown_vars old vs
 vars_grown old new g [] w = refl
 vars_grown old new g (v ∷ vs) w = λ i. (v.0, g.1 v.1 w.0 i) ∷ vars_grown old new g vs w.1 i

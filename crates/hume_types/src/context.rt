@@ -63,7 +63,8 @@ impl<'a> Context<'a> {
     /// Puts a type without parts on the stack.
     pub fn push(&mut self, node: Node) -> Result<(), AllocError>
         requires { IsWithin 0 node }
-        ensures { OnOk result (self.new ≡ (self.old.0, ty_of [] node ∷ self.old.1, self.old.2)) }
+        ensures ok { OnOk result (self.new ≡ (self.old.0, ty_of [] node ∷ self.old.1, self.old.2)) }
+        ensures kept { self.new.2 ≡ self.old.2 }
     {
         let number = self.types.number(node)?;
         self.held.push(number)?;
@@ -79,7 +80,8 @@ impl<'a> Context<'a> {
 
     /// Takes the last but one type off the stack.
     pub fn pop_below(&mut self) -> Result<(), AllocError>
-        ensures { OnOk result (self.new ≡ (self.old.0, top self.old.1 ∷ below (below self.old.1), self.old.2)) }
+        ensures ok { OnOk result (self.new ≡ (self.old.0, top self.old.1 ∷ below (below self.old.1), self.old.2)) }
+        ensures kept { self.new.2 ≡ self.old.2 }
     {
         let Some(last) = self.held.pop() else {
             return Err(AllocError);
@@ -91,7 +93,8 @@ impl<'a> Context<'a> {
 
     /// Puts the last type of the stack on it once more.
     pub fn repeat(&mut self) -> Result<(), AllocError>
-        ensures { OnOk result (self.new ≡ (self.old.0, top self.old.1 ∷ self.old.1, self.old.2)) }
+        ensures ok { OnOk result (self.new ≡ (self.old.0, top self.old.1 ∷ self.old.1, self.old.2)) }
+        ensures kept { self.new.2 ≡ self.old.2 }
     {
         let Some(number) = self.held.last() else {
             return Err(AllocError);
@@ -102,7 +105,8 @@ impl<'a> Context<'a> {
 
     /// Puts the last but one type of the stack on it once more.
     pub fn repeat_below(&mut self) -> Result<(), AllocError>
-        ensures { OnOk result (self.new ≡ (self.old.0, top (below self.old.1) ∷ self.old.1, self.old.2)) }
+        ensures ok { OnOk result (self.new ≡ (self.old.0, top (below self.old.1) ∷ self.old.1, self.old.2)) }
+        ensures kept { self.new.2 ≡ self.old.2 }
     {
         let Some(number) = self.held.before_last() else {
             return Err(AllocError);
@@ -148,7 +152,8 @@ impl<'a> Context<'a> {
 
     /// Puts a part of the last type of the stack, a tuple, on the stack.
     pub fn push_part(&mut self, at: usize) -> Result<(), AllocError>
-        ensures { OnOk result (self.new ≡ (self.old.0, part_at at (out-Ty (top self.old.1)) ∷ self.old.1, self.old.2)) }
+        ensures ok { OnOk result (self.new ≡ (self.old.0, part_at at (out-Ty (top self.old.1)) ∷ self.old.1, self.old.2)) }
+        ensures kept { self.new.2 ≡ self.old.2 }
     {
         let Some(number) = self.held.last() else {
             return Err(AllocError);
@@ -164,7 +169,8 @@ impl<'a> Context<'a> {
 
     /// Puts the type of the elements of the last type of the stack, a vector, on the stack.
     pub fn push_item(&mut self) -> Result<(), AllocError>
-        ensures { OnOk result (self.new ≡ (self.old.0, item_of (out-Ty (top self.old.1)) ∷ self.old.1, self.old.2)) }
+        ensures ok { OnOk result (self.new ≡ (self.old.0, item_of (out-Ty (top self.old.1)) ∷ self.old.1, self.old.2)) }
+        ensures kept { self.new.2 ≡ self.old.2 }
     {
         let Some(number) = self.held.last() else {
             return Err(AllocError);
@@ -180,7 +186,8 @@ impl<'a> Context<'a> {
 
     /// Makes one tuple of the last types of the stack.
     pub fn tuple(&mut self, count: usize) -> Result<(), AllocError>
-        ensures { OnOk result (self.new ≡ (self.old.0, TupleTy (reverse (take count self.old.1)) ∷ drop count self.old.1, self.old.2)) }
+        ensures ok { OnOk result (self.new ≡ (self.old.0, TupleTy (reverse (take count self.old.1)) ∷ drop count self.old.1, self.old.2)) }
+        ensures kept { self.new.2 ≡ self.old.2 }
     {
         let parts = self.held.take_last(count)?;
         let number = self.types.number(Node::Tuple(parts))?;
@@ -190,7 +197,8 @@ impl<'a> Context<'a> {
 
     /// Makes a vector of so many of the last type of the stack.
     pub fn vector(&mut self, count: u32) -> Result<(), AllocError>
-        ensures { OnOk result (self.new ≡ (self.old.0, VectorTy count (top self.old.1) ∷ below self.old.1, self.old.2)) }
+        ensures ok { OnOk result (self.new ≡ (self.old.0, VectorTy count (top self.old.1) ∷ below self.old.1, self.old.2)) }
+        ensures kept { self.new.2 ≡ self.old.2 }
     {
         let Some(item) = self.held.pop() else {
             return Err(AllocError);
@@ -202,7 +210,8 @@ impl<'a> Context<'a> {
 
     /// Puts a type that is a tree on the stack.
     pub fn push_tree(&mut self, alloc: Global, ty: &Ty) -> Result<(), AllocError>
-        ensures { OnOk result (self.new ≡ (self.old.0, ty.now ∷ self.old.1, self.old.2)) }
+        ensures ok { OnOk result (self.new ≡ (self.old.0, ty.now ∷ self.old.1, self.old.2)) }
+        ensures kept { self.new.2 ≡ self.old.2 }
     {
         let number = number_of(alloc, &mut self.types, ty)?;
         self.held.push(number)?;
@@ -224,7 +233,8 @@ impl<'a> Context<'a> {
 
     /// Puts a type that is kept on the stack.
     pub fn push_kept(&mut self, at: usize) -> Result<(), AllocError>
-        ensures { OnOk result (self.new ≡ (self.old.0, type_at self.old.2 at ∷ self.old.1, self.old.2)) }
+        ensures ok { OnOk result (self.new ≡ (self.old.0, type_at self.old.2 at ∷ self.old.1, self.old.2)) }
+        ensures kept { self.new.2 ≡ self.old.2 }
     {
         if at >= self.kept.len() {
             return Err(AllocError);
@@ -236,7 +246,8 @@ impl<'a> Context<'a> {
 
     /// Moves the last type of the stack to a new variable.
     pub fn enter(&mut self, name: &'a [u8]) -> Result<(), AllocError>
-        ensures { OnOk result (self.new ≡ (self.old.0 ++ (name.now, top self.old.1) ∷ [], below self.old.1, self.old.2)) }
+        ensures ok { OnOk result (self.new ≡ (self.old.0 ++ (name.now, top self.old.1) ∷ [], below self.old.1, self.old.2)) }
+        ensures kept { self.new.2 ≡ self.old.2 }
     {
         match self.held.pop() {
             None => Err(AllocError),
@@ -256,7 +267,8 @@ impl<'a> Context<'a> {
 
     /// The place of the last variable of a name. Its type goes on the stack.
     pub fn find(&mut self, name: &[u8]) -> Result<Option<u32>, AllocError>
-        ensures { IfOk result (λ place. (place, self.new) ≡ with_found (variable_named name.now self.old.0) self.old) }
+        ensures ok { IfOk result (λ place. (place, self.new) ≡ with_found (variable_named name.now self.old.0) self.old) }
+        ensures kept { self.new.2 ≡ self.old.2 }
     {
         match self.vars.find(name) {
             None => Ok(None),

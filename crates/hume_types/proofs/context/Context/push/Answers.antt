@@ -1,6 +1,6 @@
 use Rattle.std.proofs.Common.{◌∷◌, length, sym, ap, subst, ◌∙◌}
 use Rattle.hume_types.specs.Nodes.{all_below}
-use Rattle.hume_types.proofs.Held.{shown, shown_grown, vars_grown, all_more, plain, plain_within}
+use Rattle.hume_types.proofs.Held.{shown, shown_grown, vars_grown, kept_shown, all_more, plain, plain_within}
 use Rattle.hume_types.proofs.context.Context.push.Goals as goal
 
 pub number-requires : goal.number-requires
@@ -19,8 +19,8 @@ invariant_of-self-2 c =
     let more = all_more _ _ c.number.ensures.grows c.self.inside.vars c.self.inside.held c.self.inside.kept.items c.self.invariant in
     (more.0, subst (all_below (length c.number.new.self)) (sym c.in_ok-push.ensures.ok) (c.in_ok-number.ensures.within, more.1), more.2)
 
-pub returns : goal.returns
-returns c =
+pub returns-clause-ok : goal.returns-clause-ok
+returns-clause-ok c =
     let old = c.self.inside.types in
     let new = c.number.new.self in
     let g = c.number.ensures.grows in
@@ -30,3 +30,12 @@ returns c =
     let first = c.in_ok-number.ensures.is ∙ plain old c.args.node c.requires in
     let held = ap (shown new) c.in_ok-push.ensures.ok ∙ (λ i. first i ∷ rest i) in
     λ i. (vars i, held i, kept i)
+
+pub returns-in_err-number-clause-kept : goal.returns-in_err-number-clause-kept
+returns-in_err-number-clause-kept c = kept_shown _ _ c.number.ensures.grows c.self.inside.kept.items c.self.invariant.2 (ap (λ k. k.2) c.self.view_is)
+
+pub returns-in_err-push-clause-kept : goal.returns-in_err-push-clause-kept
+returns-in_err-push-clause-kept c = kept_shown _ _ c.number.ensures.grows c.self.inside.kept.items c.self.invariant.2 (ap (λ k. k.2) c.self.view_is)
+
+pub returns-clause-kept : goal.returns-clause-kept
+returns-clause-kept c = kept_shown _ _ c.number.ensures.grows c.self.inside.kept.items c.self.invariant.2 (ap (λ k. k.2) c.self.view_is)

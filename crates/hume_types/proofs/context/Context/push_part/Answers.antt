@@ -10,8 +10,8 @@ invariant_of-self-in-Some-part_of_node c =
     let held = c.in_ok-push-in-Some-part_of_node.ensures.ok in
     (c.self.invariant.0, subst (all_below b) (sym held) (c.in-Some-part_of_node.ensures.within b c.node.ensures.within, c.self.invariant.1), c.self.invariant.2)
 
-pub returns-in_ok-push-in-Some-part_of_node : goal.returns-in_ok-push-in-Some-part_of_node
-returns-in_ok-push-in-Some-part_of_node c =
+pub returns-in_ok-push-in-Some-part_of_node-clause-ok : goal.returns-in_ok-push-in-Some-part_of_node-clause-ok
+returns-in_ok-push-in-Some-part_of_node-clause-ok c =
     let tys = c.self.inside.types in
     let level = top_level tys c.self.inside.held (drop 1 c.self.inside.held) c.in-Some.number c.node.result.now c.args.self.now.1 (ap (λ k. k.1) c.self.view_is) c.in-Some.ensures c.node.ensures.is in
     let held : c.push.new.self ≡ c.in-Some-part_of_node.part ∷ c.self.inside.held =

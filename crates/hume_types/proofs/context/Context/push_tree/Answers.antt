@@ -1,6 +1,6 @@
 use Rattle.std.proofs.Common.{◌∷◌, length, sym, ap, subst, ◌∙◌}
 use Rattle.hume_types.specs.Nodes.{all_below}
-use Rattle.hume_types.proofs.Held.{shown, shown_grown, vars_grown, all_more}
+use Rattle.hume_types.proofs.Held.{shown, shown_grown, vars_grown, kept_shown, all_more}
 use Rattle.hume_types.proofs.context.Context.push_tree.Goals as goal
 
 pub invariant_of-self : goal.invariant_of-self
@@ -16,8 +16,8 @@ invariant_of-self-2 c =
     let more = all_more _ _ c.number_of.ensures.grows c.self.inside.vars c.self.inside.held c.self.inside.kept.items c.self.invariant in
     (more.0, subst (all_below (length c.number_of.new.types)) (sym c.in_ok-push.ensures.ok) (c.in_ok-number.ensures.within, more.1), more.2)
 
-pub returns : goal.returns
-returns c =
+pub returns-clause-ok : goal.returns-clause-ok
+returns-clause-ok c =
     let old = c.self.inside.types in
     let new = c.number_of.new.types in
     let g = c.number_of.ensures.grows in
@@ -27,3 +27,12 @@ returns c =
     let first = c.in_ok-number.ensures.is in
     let held = ap (shown new) c.in_ok-push.ensures.ok ∙ (λ i. first i ∷ rest i) in
     λ i. (vars i, held i, kept i)
+
+pub returns-in_err-number-clause-kept : goal.returns-in_err-number-clause-kept
+returns-in_err-number-clause-kept c = kept_shown _ _ c.number_of.ensures.grows c.self.inside.kept.items c.self.invariant.2 (ap (λ k. k.2) c.self.view_is)
+
+pub returns-in_err-push-clause-kept : goal.returns-in_err-push-clause-kept
+returns-in_err-push-clause-kept c = kept_shown _ _ c.number_of.ensures.grows c.self.inside.kept.items c.self.invariant.2 (ap (λ k. k.2) c.self.view_is)
+
+pub returns-clause-kept : goal.returns-clause-kept
+returns-clause-kept c = kept_shown _ _ c.number_of.ensures.grows c.self.inside.kept.items c.self.invariant.2 (ap (λ k. k.2) c.self.view_is)

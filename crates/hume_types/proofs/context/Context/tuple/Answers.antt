@@ -2,7 +2,7 @@ use Rattle.std.proofs.Common.{◌∷◌, length, sym, ap, subst, ◌∙◌, reve
 use Rattle.hume_base.specs.declared.types.Ty.{Tuple as TupleTy}
 use Rattle.hume_base.specs.declared.types.Ty.TheVariants.{rolls-Tuple}
 use Rattle.hume_types.specs.Nodes.{all_below}
-use Rattle.hume_types.proofs.Held.{shown, shown_grown, vars_grown, all_more, below_reverse, below_first, below_rest, shown_last, shown_rest}
+use Rattle.hume_types.proofs.Held.{shown, shown_grown, vars_grown, kept_shown, all_more, below_reverse, below_first, below_rest, shown_last, shown_rest}
 use Rattle.hume_types.proofs.context.Context.tuple.Goals as goal
 
 pub number-requires : goal.number-requires
@@ -29,8 +29,8 @@ invariant_of-self-2 c =
     let more = all_more _ _ c.number.ensures.grows c.self.inside.vars _ c.self.inside.kept.items (c.self.invariant.0, rest, c.self.invariant.2) in
     (more.0, subst (all_below (length c.number.new.self)) (sym c.in_ok-push.ensures.ok) (c.in_ok-number.ensures.within, more.1), more.2)
 
-pub returns : goal.returns
-returns c =
+pub returns-clause-ok : goal.returns-clause-ok
+returns-clause-ok c =
     let old = c.self.inside.types in
     let new = c.number.new.self in
     let g = c.number.ensures.grows in
@@ -43,3 +43,12 @@ returns c =
     let first = c.in_ok-number.ensures.is ∙ rolls-Tuple _ ∙ ap TupleTy parts in
     let stack = ap (shown new) (c.in_ok-push.ensures.ok ∙ ap (λ ns. c.in_ok-number.number ∷ ns) c.in_ok-parts.ensures.left) ∙ (λ i. first i ∷ rest i) in
     λ i. (vars i, stack i, kept i)
+
+pub returns-in_err-number-clause-kept : goal.returns-in_err-number-clause-kept
+returns-in_err-number-clause-kept c = kept_shown _ _ c.number.ensures.grows c.self.inside.kept.items c.self.invariant.2 (ap (λ k. k.2) c.self.view_is)
+
+pub returns-in_err-push-clause-kept : goal.returns-in_err-push-clause-kept
+returns-in_err-push-clause-kept c = kept_shown _ _ c.number.ensures.grows c.self.inside.kept.items c.self.invariant.2 (ap (λ k. k.2) c.self.view_is)
+
+pub returns-clause-kept : goal.returns-clause-kept
+returns-clause-kept c = kept_shown _ _ c.number.ensures.grows c.self.inside.kept.items c.self.invariant.2 (ap (λ k. k.2) c.self.view_is)

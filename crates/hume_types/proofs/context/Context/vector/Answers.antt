@@ -3,7 +3,7 @@ use Rattle.hume_base.specs.declared.types.Ty.{Vector as VectorTy}
 use Rattle.hume_base.specs.declared.types.Ty.TheVariants.{rolls-Vector}
 use Rattle.hume_types.specs.Nodes.{all_below}
 use Rattle.hume_types.specs.Contexts.{top, below}
-use Rattle.hume_types.proofs.Held.{shown, shown_grown, vars_grown, all_more}
+use Rattle.hume_types.proofs.Held.{shown, shown_grown, vars_grown, kept_shown, all_more}
 use Rattle.hume_types.proofs.context.Context.vector.Goals as goal
 
 pub invariant_of-self-in_err-number : goal.invariant_of-self-in_err-number
@@ -23,8 +23,8 @@ invariant_of-self-2 c =
     let more = all_more _ _ c.number.ensures.grows c.self.inside.vars _ c.self.inside.kept.items (c.self.invariant.0, held.1, c.self.invariant.2) in
     (more.0, subst (all_below (length c.number.new.self)) (sym c.in_ok-push.ensures.ok) (c.in_ok-number.ensures.within, more.1), more.2)
 
-pub returns : goal.returns
-returns c =
+pub returns-clause-ok : goal.returns-clause-ok
+returns-clause-ok c =
     let old = c.self.inside.types in
     let new = c.number.new.self in
     let g = c.number.ensures.grows in
@@ -36,3 +36,12 @@ returns c =
     let first = c.in_ok-number.ensures.is ∙ rolls-Vector _ _ ∙ ap (VectorTy c.args.count) (ap top is) in
     let stack = ap (shown new) c.in_ok-push.ensures.ok ∙ (λ i. first i ∷ rest i) in
     λ i. (vars i, stack i, kept i)
+
+pub returns-in_err-number-clause-kept : goal.returns-in_err-number-clause-kept
+returns-in_err-number-clause-kept c = kept_shown _ _ c.number.ensures.grows c.self.inside.kept.items c.self.invariant.2 (ap (λ k. k.2) c.self.view_is)
+
+pub returns-in_err-push-clause-kept : goal.returns-in_err-push-clause-kept
+returns-in_err-push-clause-kept c = kept_shown _ _ c.number.ensures.grows c.self.inside.kept.items c.self.invariant.2 (ap (λ k. k.2) c.self.view_is)
+
+pub returns-clause-kept : goal.returns-clause-kept
+returns-clause-kept c = kept_shown _ _ c.number.ensures.grows c.self.inside.kept.items c.self.invariant.2 (ap (λ k. k.2) c.self.view_is)

@@ -1,0 +1,4 @@
+pub mod Open
+pub mod Plans
+pub mod Shapes
+pub mod Written
