@@ -1,0 +1,2 @@
+//! The cores of functions.
+#![tactic(auto)]
