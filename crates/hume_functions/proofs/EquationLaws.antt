@@ -1,6 +1,7 @@
 -- What an equation comes to.
-use Rattle.std.proofs.Common.{◌≡◌, ℕ, Bool, List, ◌∷◌, ◌++◌, map, length, take, drop, Option, Some, None, reverse, refl, ap, sym, ◌∙◌}
+use Rattle.std.proofs.Common.{◌≡◌, ℕ, List, ◌∷◌, ◌++◌, map, length, take, drop, Option, Some, None, reverse, refl, ap, sym, ◌∙◌}
 use Rattle.std.proofs.lemmas.List.{length-map}
+use Rattle.std.proofs.lemmas.Grind.{common_steps}
 use Rattle.std.proofs.Math.Seq.{take-append_seam}
 use denote.Ref.{Bor}
 use Rattle.hume_base.specs.declared.types.Ty.{Ty}
@@ -45,17 +46,19 @@ with_body body mid = against_of ((walk mid.0.2 body).against mid.0.0 (top (below
 module _ (state : State) (pats : Bor (List Pat)) (body : Exp) where
   in_turn : given (step (task.MatchParts pats 0) (with_parameters state)) (with_body body) ≡ with_equation pats.now body state
   in_turn =
-      given_twice (tuple_parts (top (below state.0.1))) (λ tys. given (patterns state.0.2 pats.now tys) (λ all. Some (with_all_bound all.0 all.1 (with_parameters state)))) (with_body body)
+      given_twice (tuple_parts (top (below state.0.1)))
+      (λ tys. given (patterns state.0.2 pats.now tys) (λ all. Some (with_all_bound all.0 all.1 (with_parameters state)))) (with_body body)
       ∙ (λ i. given (tuple_parts (top (below state.0.1))) (λ tys.
-            given_twice (patterns state.0.2 pats.now tys) (λ all. Some (with_all_bound all.0 all.1 (with_parameters state))) (with_body body) i))
+      given_twice (patterns state.0.2 pats.now tys) (λ all. Some (with_all_bound all.0 all.1 (with_parameters state))) (with_body body) i))
       ∙ (λ i. given (tuple_parts (top (below state.0.1))) (λ tys. given (patterns state.0.2 pats.now tys) (λ all.
-            sym (given_twice ((walk state.0.2 body).against (state.0.0 ++ all.0) (top state.0.1)) (λ core. Some (all, core)) put) i)))
+      sym (given_twice ((walk state.0.2 body).against (state.0.0 ++ all.0) (top state.0.1)) (λ core. Some (all, core)) put) i)))
       ∙ (λ i. given (tuple_parts (top (below state.0.1))) (λ tys.
-            sym (given_twice (patterns state.0.2 pats.now tys) (bodies tys) put) i))
+      sym (given_twice (patterns state.0.2 pats.now tys) (bodies tys) put) i))
       ∙ sym (given_twice (tuple_parts (top (below state.0.1))) (λ tys. given (patterns state.0.2 pats.now tys) (bodies tys)) put)
     where
       put : (Scope × List CoredPat) × Cored → Option State
       put parts = Some (with_core parts.1 (with_all_bound parts.0.0 parts.0.1 state))
+
       bodies : List Ty → Scope × List CoredPat → Option ((Scope × List CoredPat) × Cored)
       bodies tys all = given ((walk state.0.2 body).against (state.0.0 ++ all.0) (top state.0.1)) (λ core. Some (all, core))
 
@@ -115,3 +118,7 @@ module _ (state : State) (pats : List Pat) (body : Exp) where
     equation_left =
         ap (left_of (length state.0.0) count) (sym parts.2)
         ∙ (λ i. ((take-append_seam state.0.0 parts.0.0.0 i, state.0.1, state.0.2), state.1, left_below parts.0.0.1 state.2 count long i, state.3))
+
+pub ruleset checked_steps = (common_steps, equation_checked, patterns_untyped)
+
+pub ruleset found_steps = (common_steps, equation_untyped)

@@ -1,6 +1,7 @@
 -- What the equations of a function come to.
 use native.Mathlib.Omega.{arith}
-use Rattle.std.proofs.Common.{◌≡◌, ℕ, ◌||◌, Bool, true, false, List, [], ◌∷◌, ◌++◌, length, Option, Some, None, refl, ap, sym, ◌∙◌}
+use Rattle.std.proofs.Common.{◌≡◌, ℕ, ◌||◌, Bool, true, false, List, [], ◌∷◌, ◌++◌, Option, Some, None, refl, ap, sym, ◌∙◌}
+use Rattle.std.proofs.lemmas.Grind.{common_steps}
 use Rattle.std.proofs.lemmas.List.{append_assoc}
 use Rattle.hume_base.specs.declared.types.Ty.{Ty, Tuple as TupleTy}
 use Rattle.hume_ast.specs.declared.tree.TyExp.{TyExp}
@@ -45,9 +46,13 @@ equations_none state found equation others h =
     ap (λ first. together found (given first (λ c. given (equations_at state others) (λ cs. Some (c ∷ cs))))) h
 
 -- from nothing on, all of them together
-pub from_nothing : (all : Option (List CoredEquation)) → together ([], false) all ≡ found_together all
+from_nothing : (all : Option (List CoredEquation)) → together ([], false) all ≡ found_together all
 from_nothing None = refl
 from_nothing (Some cs) = refl
+
+not_together : (all : Option (List CoredEquation)) → together ([], false) all ≡ None → all ≡ None
+not_together None h = refl
+not_together (Some cs) h = cc
 
 -- the same of a function of that signature
 equations_of : (state : State) (signature : Signature) (equations : List WrittenEquation) → state.0.0 ≡ []
@@ -60,19 +65,22 @@ equations_of state signature (equation ∷ others) none types =
     cored : Scope → List Ty → Ty → Option CoredEquation
     cored scope tys gives = given (patterns state.0.2 equation.1 tys) (λ bound.
         given ((walk state.0.2 equation.2).against (scope ++ bound.0) gives) (λ body. Some (equation_core bound.1 body)))
+
     parted_at : Scope → List Ty → Ty → Option ((Scope × List CoredPat) × Cored)
     parted_at scope tys gives = given (patterns state.0.2 equation.1 tys) (λ bound.
         given ((walk state.0.2 equation.2).against (scope ++ bound.0) gives) (λ body. Some (bound, body)))
+
     core_of : (Scope × List CoredPat) × Cored → Option CoredEquation
     core_of parts = Some (equation_core parts.0.1 parts.1)
+
     one : equation_walk state.0.2 signature equation ≡ equation_at state equation.1 equation.2
     one =
         (λ i. cored (sym none i) signature.params (sym (ap top types) i))
         ∙ sym (given_twice (patterns state.0.2 equation.1 signature.params) _ core_of
-               ∙ (λ i. given (patterns state.0.2 equation.1 signature.params) (λ bound.
-                     given_twice ((walk state.0.2 equation.2).against (state.0.0 ++ bound.0) (top state.0.1)) (λ body. Some (bound, body)) core_of i)))
+        ∙ (λ i. given (patterns state.0.2 equation.1 signature.params) (λ bound.
+        given_twice ((walk state.0.2 equation.2).against (state.0.0 ++ bound.0) (top state.0.1)) (λ body. Some (bound, body)) core_of i)))
         ∙ (λ i. given (given (sym (tuple_parts-at (top (below state.0.1)) signature.params (ap (λ ts. top (below ts)) types)) i)
-                       (λ tys. parted_at state.0.0 tys (top state.0.1))) core_of)
+        (λ tys. parted_at state.0.0 tys (top state.0.1))) core_of)
 
 -- without the last two types
 abbrev pub unsigned_of : State → State
@@ -89,7 +97,7 @@ module _ (state mid : State) (types : List TyExp) (equations : List WrittenEquat
       let m = given-inv (parted k.0) (λ p. Some (with_parts p)) mid k.2 in
       (k.0, k.1, m.0, m.1, some-same (with_parts m.0) mid m.2)
 
-  pub function_found : (name : List ℕ) → function_walk state.0.2 name types equations ≡ equations_at mid equations
+  function_found : (name : List ℕ) → function_walk state.0.2 name types equations ≡ equations_at mid equations
   function_found name =
       ap (λ o. given (given o (λ all. given (parted all) (λ p. Some (signed_by p)))) walked) parts.1
       ∙ ap (λ o. given (given o (λ p. Some (signed_by p))) walked) parts.3
@@ -98,14 +106,28 @@ module _ (state mid : State) (types : List TyExp) (equations : List WrittenEquat
     where
       signed_by : List Ty × Ty → Signature
       signed_by p = record { name = name; params = p.0; gives = p.1 }
+
       walked : Signature → Option (List CoredEquation)
       walked signature = found_of_all (equation_walk state.0.2 signature) equations
 
   pub function_left : unsigned_of mid ≡ state
   function_left = ap unsigned_of (sym parts.4)
 
+  -- the cores that are found
+  pub function_told : (found : List EqC × Bool) → together ([], false) (equations_at mid equations) ≡ Some found
+      → (name : List ℕ) → found_together (function_walk state.0.2 name types equations) ≡ Some found
+  function_told found h name = ap found_together (function_found name) ∙ sym (from_nothing (equations_at mid equations)) ∙ h
+
+  pub function_untyped : together ([], false) (equations_at mid equations) ≡ None
+      → (name : List ℕ) → function_walk state.0.2 name types equations ≡ None
+  function_untyped h name = function_found name ∙ not_together (equations_at mid equations) h
+
 pub unsigned : (state : State) (types : List TyExp) (equations : List WrittenEquation) (name : List ℕ) → with_signature types state ≡ None
     → function_walk state.0.2 name types equations ≡ None
 unsigned state types equations name h =
     by_case (all_written state.0.2.types types) (λ n. grind (arith, form_steps)) (λ all a.
     by_case (parted all) (λ n. grind (arith, form_steps)) (λ p q. grind (arith, form_steps)))
+
+pub ruleset equations_steps = (common_steps, equations_more, equations_none)
+
+pub ruleset function_steps = (common_steps, function_left, unsigned)

@@ -1,7 +1,7 @@
 -- The types that a function is written with.
-use native.Mathlib.Omega.{arith}
-use Rattle.std.proofs.Common.{◌≡◌, List, [], ◌∷◌, ◌++◌, map, Option, Some, None, refl, ap, sym, ◌∙◌}
+use Rattle.std.proofs.Common.{◌≡◌, List, [], ◌∷◌, ◌++◌, map, Option, Some, None, refl, ap, ◌∙◌}
 use Rattle.std.proofs.lemmas.List.{map-append}
+use Rattle.std.proofs.lemmas.Grind.{common_steps}
 use Rattle.hume_base.specs.declared.types.Ty.{Ty, Tuple as TupleTy}
 use Rattle.hume_ast.specs.declared.tree.TyExp.{TyExp}
 use Rattle.hume_typing.specs.Partial.{given}
@@ -38,20 +38,22 @@ state_of known state = (known, state.1, state.2, state.3)
 
 -- the parameters of a signature and what it gives, one after the other
 both : (params : Option (List Ty)) (gives : Option Ty) (state : State)
-    → given (given params (λ tys. given gives (λ ty. Some (tys ++ ty ∷ [])))) (λ all. given (parted all) (λ p. Some (with_types (p.1 ∷ TupleTy p.0 ∷ state.0.1) state)))
+    → given (given params (λ tys. given gives (λ ty. Some (tys ++ ty ∷ []))))
+    (λ all. given (parted all) (λ p. Some (with_types (p.1 ∷ TupleTy p.0 ∷ state.0.1) state)))
     ≡ given params (λ tys. given gives (λ ty. Some (with_types (ty ∷ TupleTy tys ∷ state.0.1) state)))
 both None gives state = refl
 both (Some tys) None state = refl
 both (Some tys) (Some ty) state = ap (λ o. given o (λ p. Some (with_types (p.1 ∷ TupleTy p.0 ∷ state.0.1) state))) (parted_last tys ty)
 
 signature_is : (state : State) (types params : List TyExp) (gives : TyExp) → types ≡ params ++ gives ∷ []
-    → with_signature types state ≡ given (all_written state.0.2.types params) (λ tys. given (written state.0.2.types gives) (λ ty. Some (with_types (ty ∷ TupleTy tys ∷ state.0.1) state)))
+    → with_signature types state
+    ≡ given (all_written state.0.2.types params) (λ tys. given (written state.0.2.types gives) (λ ty. Some (with_types (ty ∷ TupleTy tys ∷ state.0.1) state)))
 signature_is state types params gives h =
     ap (λ ts. with_signature ts state) h
     ∙ ap (λ os. given (all_there os) (λ all. given (parted all) (λ p. Some (with_types (p.1 ∷ TupleTy p.0 ∷ state.0.1) state))))
-      (map-append (written state.0.2.types) params (gives ∷ []))
+    (map-append (written state.0.2.types) params (gives ∷ []))
     ∙ ap (λ o. given o (λ all. given (parted all) (λ p. Some (with_types (p.1 ∷ TupleTy p.0 ∷ state.0.1) state))))
-      (all_there_last (map (written state.0.2.types) params) (written state.0.2.types gives))
+    (all_there_last (map (written state.0.2.types) params) (written state.0.2.types gives))
     ∙ both (all_written state.0.2.types params) (written state.0.2.types gives) state
 
 module _ (state : State) (types params : List TyExp) (gives : TyExp) (split : types ≡ params ++ gives ∷ []) where
@@ -83,3 +85,5 @@ module _ (state : State) (types params : List TyExp) (gives : TyExp) (split : ty
 
 pub no_types : (state : State) (types : List TyExp) → types ≡ [] → with_signature types state ≡ None
 no_types state types h = ap (λ ts. with_signature ts state) h
+
+pub ruleset signature_steps = (common_steps, no_types)
