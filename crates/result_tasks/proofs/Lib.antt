@@ -1,0 +1,4 @@
+pub mod ResultForms
+pub mod ResultLengths
+pub mod ResultLists
+pub mod ResultWholes

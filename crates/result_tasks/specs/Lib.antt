@@ -1,0 +1,2 @@
+pub mod ResultStates
+pub mod ResultTasks
