@@ -1,11 +1,9 @@
 //! The sizes of all data types, each of which holds only those before it.
-ghost use Rattle.std.specs.Prelude.{◌≡◌, ◌+◌, map, IfOk};
-ghost use Rattle.hume_base.specs.declared.types.ConDef.{ConDef as Constructor};
-ghost use Rattle.hume_base.specs.Sizes.{sizes_with, greatest};
+ghost use Rattle.std.specs.Prelude.{◌≡◌, IfOk};
+ghost use Rattle.hume_base.specs.Sizes.{sizes_with};
 ghost use Rattle.type_sizes.specs.inner.Capped.{capped, named_in, data_words, sizes_of};
 
 use crate::words::{sum, words};
-use hume_base::limits::MAX_WIRE_WORDS;
 use hume_base::{ConDef, List, SumDef, Ty};
 use std::alloc::{AllocError, Global};
 

@@ -1,5 +1,5 @@
 //! Declarations with a type that is too large.
-ghost use Rattle.std.specs.Prelude.{◌≡◌, ◌||◌, ℕ, List, map};
+ghost use Rattle.std.specs.Prelude.{◌≡◌, ℕ, List, map};
 ghost use Rattle.std.specs.List.{list_any, flat_map};
 ghost use Rattle.hume_ast.specs.declared.tree.TyExp.{TyExp as TypeTree};
 ghost use Rattle.hume_typing.specs.Declarations.{WrittenEquation, WrittenRule, WrittenHandler};

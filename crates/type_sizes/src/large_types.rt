@@ -24,6 +24,7 @@ pub fn first_large_type(
     requires are { AreSignatures decls.now table.now }
     ensures { IfOk result (IsLeast (OfRule C73 (HasLargeType decls.now))) }
 {
+    // by this law the rule speaks of the signatures of the table
     signatures_are_unique();
     let sizes = data_sizes(alloc, table.signatures().types.sums.as_slice())?;
     let first = first_large(decls, table, sizes.as_slice());

@@ -1,4 +1,4 @@
-ghost use Rattle.std.specs.Prelude.{◌≡◌, ◌<◌, ◌^◌, ◌≤◌, ◌&&◌, length, option_map, IsTrue, IfOk};
+ghost use Rattle.std.specs.Prelude.{◌≡◌, ◌+◌, ◌<◌, ◌^◌, nat_lt, length, option_map, IsTrue, IfOk};
 ghost use Rattle.hume_base.specs.declared.limits.TheConstants.{MAX_WIRE_WORDS as MOST_WORDS};
 ghost use Rattle.hume_base.specs.declared.rule.Rule.TheVariants.{C74};
 ghost use Rattle.hume_base.specs.Least.{IsFirst, IsLeast, OfRule};
@@ -28,6 +28,7 @@ pub fn first_past_words(
     requires are { AreSignatures decls.now table.now }
     ensures { IfOk result (IsLeast (OfRule C74 (PassesWords decls.now))) }
 {
+    // by this law the rule speaks of the signatures of the table
     signatures_are_unique();
     let types = WireTypes::make(alloc, table, decls)?;
     let sizes = data_sizes(alloc, table.signatures().types.sums.as_slice())?;
@@ -43,12 +44,19 @@ fn first_past(decls: &[(u32, Decl)], types: &WireTypes, sizes: &[u32]) -> Option
     let mut total: u32 = 0;
     for (i, decl) in decls.iter().enumerate() {
         let more = wire_words(types, sizes, &decl.1);
-        if total + more > MAX_WIRE_WORDS {
+        if goes_past(total, more) {
             return Some(i as u32);
         }
         total += more;
     }
     None
+}
+
+fn goes_past(total: u32, more: u32) -> bool
+    requires { total + more < 2 ^ 32 }
+    ensures { result ≡ nat_lt MOST_WORDS (total + more) }
+{
+    total + more > MAX_WIRE_WORDS
 }
 
 // The words of the values that a wire holds at most; what is no wire has none.

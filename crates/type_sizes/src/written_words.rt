@@ -1,12 +1,11 @@
 //! The words of the types that are written.
-ghost use Rattle.std.specs.Prelude.{◌≡◌, ◌*◌, Some, option_map};
+ghost use Rattle.std.specs.Prelude.{◌≡◌, ◌≤◌, ◌+◌, ◌*◌, Some, option_map, IfSome};
+ghost use Rattle.hume_base.specs.declared.limits.TheConstants.{MAX_WIRE_WORDS as MOST_WORDS};
 ghost use Rattle.hume_base.specs.declared.types.Ty.{Tuple};
 ghost use Rattle.hume_typing.specs.Partial.{given, when};
 ghost use Rattle.hume_typing.specs.WrittenTypes.{all_written, is_width as is_width_of, is_length as is_length_of};
 ghost use Rattle.type_sizes.specs.inner.Capped.{capped, named_in, words_by};
 ghost use Rattle.type_sizes.specs.inner.Large.{words_written, is_large as is_large_type, is_large_size as is_large_size_of};
-ghost use Rattle.hume_base.specs.declared.limits.TheConstants.{MAX_WIRE_WORDS as MOST_WORDS};
-ghost use Rattle.std.specs.Prelude.{◌≤◌, ◌+◌, IfSome};
 
 use crate::words::{named, product, sum};
 use hume_ast::TyExp;

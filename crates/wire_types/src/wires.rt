@@ -1,8 +1,7 @@
 //! The types of wires, by the names at their ends.
 ghost use Rattle.std.specs.Prelude.{◌≡◌, option_map, IfOk, OnOk};
-ghost use Rattle.hume_check.specs.TypeRules.{or_else};
 ghost use Rattle.wire_types.specs.NodeTypes.{node_types, node_at, output_at, input_at, type_between};
-ghost use Rattle.wire_types.specs.inner.Adding.{none_yet, with_node, with_declaration, with_all};
+ghost use Rattle.wire_types.specs.inner.Adding.{none_yet, with_node, with_declaration};
 
 use crate::ports::Ports;
 use hume_ast::Decl;

@@ -5,7 +5,6 @@ ghost use Rattle.hume_names.specs.Names.{OfDecl};
 ghost use Rattle.hume_check.specs.Constants.{constant as constant_of};
 ghost use Rattle.hume_check.specs.SignaturesOf.{AreSignatures};
 ghost use Rattle.hume_check.specs.TypeRules.{HasNoInitial};
-ghost use Rattle.wire_types.specs.NodeTypes.{node_types};
 ghost use Rattle.wire_values.specs.inner.Unfit.{is_missing, is_no_value as is_no_value_of, has_unfit_value as has_unfit_value_in};
 
 use first_values::{constant, is_built};
@@ -26,6 +25,7 @@ pub fn first_without_value(
     requires are { AreSignatures decls.now table.now }
     ensures { IfOk result (IsLeast (OfRule C45 (HasNoInitial decls.now))) }
 {
+    // by this law the rule speaks of the signatures of the table
     signatures_are_unique();
     let types = WireTypes::make(alloc, table, decls)?;
     let first = first_unfit(alloc, decls, table, &types)?;
