@@ -4,9 +4,6 @@ use Rattle.std.proofs.lemmas.Bool.{false≢true}
 use Rattle.std.proofs.lemmas.Slice.Eq.{bytes_eq-Decides}
 use Rattle.std.specs.Str.{bytes_eq}
 use Rattle.hume_typing.specs.Signatures.{one_further, first_named}
-use Rattle.std.proofs.Common.{◌≡◌, ℕ, suc, ◌+◌, ◌<◌, List, [], ◌∷◌, ◌++◌, length, Option, Some, None, refl, ap, sym, subst, ◌∙◌, Bool, true, false, if◌then◌else◌, option_map, option_and_then, slice_get, is_some, arith}
-use Rattle.std.proofs.lemmas.Option.{slice_get_within}
-use Rattle.hume_typing.proofs.Maybe.{some-same}
 use Rattle.hume_typing.proofs.NamesFound.{first_stands}
 use Rattle.name_table.specs.Names.{number_of, with_name, with_names}
 use Rattle.signature_table.specs.inner.Tables.{numbered_from, table_of, numbered_item}
@@ -106,9 +103,3 @@ module _ {A : Type 0} (name_of : A → List ℕ) (name : List ℕ) where
           → option_and_then (λ n. option_map (λ x. (n, x)) (slice_get xs n)) (option_map (λ (f : ℕ × A). f.0) f) ≡ f
       by None stands = refl
       by (Some f) stands = ap (option_map (λ x. (f.0, x))) (stands f.0 f.1 refl)
-  pub found_within : (xs : List A) (n : ℕ) → number_of name (table_of name_of xs) ≡ Some n → n < length xs
-  found_within xs n h = by (first_named name_of name xs) (first_stands name_of name xs) (sym (found_number xs) ∙ h)
-    where
-      by : (f : Option (ℕ × A)) → ((i : ℕ) (x : A) → f ≡ Some (i, x) → slice_get xs i ≡ Some x) → option_map (λ (f : ℕ × A). f.0) f ≡ Some n → n < length xs
-      by None stands e = cc
-      by (Some f) stands e = let e' : f.0 ≡ n = some-same _ _ e in slice_get_within xs n f.1 (subst (λ i. slice_get xs i ≡ Some f.1) e' (stands f.0 f.1 refl))
