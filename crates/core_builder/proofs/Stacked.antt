@@ -19,7 +19,7 @@ module _ {A : Type 0} where
   item_lifted before others item count h =
       reverse-append (before ++ others) (item ∷ []) ∙ ap (λ l. item ∷ l) (reverse-append before others)
       ∙ sym (ap (lifted count) (reverse-append before (item ∷ others) ∙ ap (λ l. l ++ reverse before) (reverse-append (item ∷ []) others) ∙ append_assoc (reverse others) (item ∷ []) (reverse before))
-             ∙ at_seam (reverse others) (item ∷ reverse before) count (length-reverse others ∙ h))
+      ∙ at_seam (reverse others) (item ∷ reverse before) count (length-reverse others ∙ h))
     where
       at_seam : (xs ys : List A) (n : ℕ) → length xs ≡ n → lifted n (xs ++ ys) ≡ take 1 ys ++ (xs ++ drop 1 ys)
       at_seam xs ys n e = ap (λ m. lifted m (xs ++ ys)) (sym e)

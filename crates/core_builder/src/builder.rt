@@ -3,9 +3,8 @@ ghost use Rattle.hume_typing.specs.Cores.{Cored, truth_core, letter_core, variab
 ghost use Rattle.hume_model.specs.declared.core_tree.Expr.{Word as WordCore};
 ghost use Rattle.core_builder.specs.Stacks.{top_core, top_pattern, lifted};
 
-use crate::forms;
-use crate::gather;
 use crate::stack::Stack;
+use crate::{forms, gather};
 use hume_base::Ty;
 use hume_model::{Expr, Op, PatC};
 use std::alloc::{AllocError, Global};

@@ -47,10 +47,7 @@ pub(crate) fn patterns(
     patterns_apart(alloc, items)
 }
 
-fn patterns_apart(
-    alloc: Global,
-    items: Vec<(PatC, bool)>,
-) -> Result<(List<PatC>, bool), AllocError>
+fn patterns_apart(alloc: Global, items: Vec<(PatC, bool)>) -> Result<(List<PatC>, bool), AllocError>
     ensures { IfOk result (λ all. all ≡ (pat_cores items.items, some_pat_too_wide items.items)) }
 {
     let mut parts = List::new(alloc);

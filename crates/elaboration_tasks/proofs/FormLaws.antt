@@ -40,7 +40,7 @@ pub if_own : (st : State) (t : Bor Exp) (a : Bor Exp) (b : Bor Exp) →
 if_own st t a b =
     by_case ((walk st.0.2 t.now).against st.0.0 BoolTy) (λ n. grind (arith, form_steps)) (λ test h.
     by_case (two_own (walk st.0.2 a.now).is_open (walk st.0.2 b.now).is_open (walk st.0.2 a.now) (walk st.0.2 b.now) st.0.0)
-      (λ n. grind (arith, form_steps)) (λ two g. grind (arith, form_steps)))
+    (λ n. grind (arith, form_steps)) (λ two g. grind (arith, form_steps)))
 
 pub if_against : (st : State) (t : Bor Exp) (a : Bor Exp) (b : Bor Exp) →
     run (task.Types types.PushBool ∷ task.Against t ∷ task.Types types.Pop ∷ task.Against a ∷ task.Against b ∷ task.Cores cores.Branches ∷ []) st
@@ -75,7 +75,7 @@ pub arithmetic_own : (operation : Op) (st : State) (a : Bor Exp) (b : Bor Exp) �
     ≡ own_of ((arithmetic_walk operation (walk st.0.2 a.now) (walk st.0.2 b.now)).own st.0.0) st
 arithmetic_own operation st a b =
     by_case (two_own (walk st.0.2 a.now).is_open (walk st.0.2 b.now).is_open (walk st.0.2 a.now) (walk st.0.2 b.now) st.0.0)
-      (λ n. grind (arith, form_steps)) (λ two g. by_test (is_number_type two.0) (λ t. grind (arith, form_steps)) (λ t. grind (arith, form_steps)))
+    (λ n. grind (arith, form_steps)) (λ two g. by_test (is_number_type two.0) (λ t. grind (arith, form_steps)) (λ t. grind (arith, form_steps)))
 
 pub arithmetic_against : (operation : Op) (st : State) (a : Bor Exp) (b : Bor Exp) →
     run (task.Types types.IsNumber ∷ task.Against a ∷ task.Against b ∷ task.Cores (cores.Operation operation) ∷ []) st
@@ -90,7 +90,7 @@ pub comparison_own : (operation : Op) (st : State) (a : Bor Exp) (b : Bor Exp) �
     ≡ own_of ((comparison_walk operation (walk st.0.2 a.now) (walk st.0.2 b.now)).own st.0.0) st
 comparison_own operation st a b =
     by_case (two_own (walk st.0.2 a.now).is_open (walk st.0.2 b.now).is_open (walk st.0.2 a.now) (walk st.0.2 b.now) st.0.0)
-      (λ n. grind (arith, form_steps)) (λ two g. by_test (is_comparison operation two.0) (λ t. grind (arith, form_steps)) (λ t. grind (arith, form_steps)))
+    (λ n. grind (arith, form_steps)) (λ two g. by_test (is_comparison operation two.0) (λ t. grind (arith, form_steps)) (λ t. grind (arith, form_steps)))
 
 pub and_own : (st : State) (a : Bor Exp) (b : Bor Exp) →
     run (task.Types types.PushBool ∷ task.Against a ∷ task.Against b ∷ task.Cores cores.Both ∷ []) st

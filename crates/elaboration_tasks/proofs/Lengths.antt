@@ -34,12 +34,12 @@ pub each_own_length : (scope : Scope) (parts : List Walk) (ty : Ty) (cs : List C
 each_own_length scope [] ty cs h = grind (arith, steps)
 each_own_length scope (part ∷ parts) ty cs h =
     by_test part.is_open
-      (λ t. by_case (part.own scope) (λ n. grind (arith, steps)) (λ first f.
-            by_case (each_against scope parts first.0) (λ n. grind (arith, steps)) (λ others g.
-            let e = each_against_length scope parts first.0 others g in grind (arith, steps))))
-      (λ t. by_case (each_own scope parts) (λ n. grind (arith, steps)) (λ others g.
-            by_case (part.against scope others.0) (λ n. grind (arith, steps)) (λ first f.
-            let e = each_own_length scope parts others.0 others.1 g in grind (arith, steps))))
+    (λ t. by_case (part.own scope) (λ n. grind (arith, steps)) (λ first f.
+    by_case (each_against scope parts first.0) (λ n. grind (arith, steps)) (λ others g.
+    let e = each_against_length scope parts first.0 others g in grind (arith, steps))))
+    (λ t. by_case (each_own scope parts) (λ n. grind (arith, steps)) (λ others g.
+    by_case (part.against scope others.0) (λ n. grind (arith, steps)) (λ first f.
+    let e = each_own_length scope parts others.0 others.1 g in grind (arith, steps))))
 
 pub all_own_lengths : (scope : Scope) (parts : List Walk) (tys : List Ty) (cs : List Cored) → all_own scope parts ≡ Some (tys, cs)
     → (length tys ≡ length parts) × (length cs ≡ length parts)
@@ -63,11 +63,11 @@ pub arms_own_length : (s : Signatures) (scope : Scope) (of : Ty) (arms : List (P
 arms_own_length s scope of [] ty cs h = grind (arith, steps)
 arms_own_length s scope of (arm ∷ arms) ty cs h =
     by_test arm.1.is_open
-      (λ t. by_case (pattern s arm.0 of) (λ n. grind (arith, steps)) (λ bound b.
-            by_case (arm.1.own (scope ++ bound.0)) (λ n. grind (arith, steps)) (λ body f.
-            by_case (arms_against s scope of arms body.0) (λ n. grind (arith, steps)) (λ others g.
-            let e = arms_against_length s scope of arms body.0 others g in grind (arith, steps)))))
-      (λ t. by_case (arms_own s scope of arms) (λ n. grind (arith, steps)) (λ others g.
-            by_case (pattern s arm.0 of) (λ n. grind (arith, steps)) (λ bound b.
-            by_case (arm.1.against (scope ++ bound.0) others.0) (λ n. grind (arith, steps)) (λ body f.
-            let e = arms_own_length s scope of arms others.0 others.1 g in grind (arith, steps)))))
+    (λ t. by_case (pattern s arm.0 of) (λ n. grind (arith, steps)) (λ bound b.
+    by_case (arm.1.own (scope ++ bound.0)) (λ n. grind (arith, steps)) (λ body f.
+    by_case (arms_against s scope of arms body.0) (λ n. grind (arith, steps)) (λ others g.
+    let e = arms_against_length s scope of arms body.0 others g in grind (arith, steps)))))
+    (λ t. by_case (arms_own s scope of arms) (λ n. grind (arith, steps)) (λ others g.
+    by_case (pattern s arm.0 of) (λ n. grind (arith, steps)) (λ bound b.
+    by_case (arm.1.against (scope ++ bound.0) others.0) (λ n. grind (arith, steps)) (λ body f.
+    let e = arms_own_length s scope of arms others.0 others.1 g in grind (arith, steps)))))

@@ -2,5 +2,6 @@ pub mod FormLaws
 pub mod Given
 pub mod Lengths
 pub mod ListLaws
+pub mod Order
 pub mod PatternLaws
 pub mod WholeLaws

@@ -92,7 +92,7 @@ parts_lacking st parts first tys is within h = by (drop first tys) refl
 -- the first part that isn't open
 pub each_own_split : (s : Signatures) (scope : Scope) (front behind : List Exp) (part : Exp) → walks_open (walks s front) ≡ true → (walk s part).is_open ≡ false
     → each_own scope (walks s (front ++ part ∷ behind)) ≡ given ((walk s part).own scope) (λ one. given (each_against scope (walks s front) one.0) (λ before.
-      given (each_against scope (walks s behind) one.0) (λ after. Some (one.0, before ++ one.1 ∷ after))))
+    given (each_against scope (walks s behind) one.0) (λ after. Some (one.0, before ++ one.1 ∷ after))))
 each_own_split s scope [] behind part all closed =
     by_case ((walk s part).own scope) (λ n. grind (arith, list_steps)) (λ one o.
     by_case (each_against scope (walks s behind) one.0) (λ n. grind (arith, list_steps)) (λ after a. grind (arith, list_steps)))
@@ -102,9 +102,9 @@ each_own_split s scope (first ∷ front) behind part all closed =
     let rest = each_own_split s scope front behind part others closed in
     by_case ((walk s part).own scope) (λ n. grind (arith, list_steps)) (λ one o.
     by_case (each_against scope (walks s front) one.0)
-      (λ n. by_case ((walk s first).against scope one.0) (λ n. grind (arith, list_steps)) (λ f g. grind (arith, list_steps))) (λ before b.
+    (λ n. by_case ((walk s first).against scope one.0) (λ n. grind (arith, list_steps)) (λ f g. grind (arith, list_steps))) (λ before b.
     by_case (each_against scope (walks s behind) one.0)
-      (λ n. by_case ((walk s first).against scope one.0) (λ n. grind (arith, list_steps)) (λ f g. grind (arith, list_steps))) (λ after a.
+    (λ n. by_case ((walk s first).against scope one.0) (λ n. grind (arith, list_steps)) (λ f g. grind (arith, list_steps))) (λ after a.
     by_case ((walk s first).against scope one.0) (λ n. grind (arith, list_steps)) (λ f g. grind (arith, list_steps)))))
 
 pub each_own_open : (s : Signatures) (scope : Scope) (parts : List Exp) → walks_open (walks s parts) ≡ true
@@ -115,14 +115,14 @@ each_own_open s scope (first ∷ parts) all =
     let others : walks_open (walks s parts) ≡ true = grind (arith, list_steps) in
     let rest = each_own_open s scope parts others in
     by_case ((walk s first).against scope int32)
-      (λ n. by_case (each_against scope (walks s parts) int32) (λ n. grind (arith, list_steps)) (λ f g. grind (arith, list_steps))) (λ one o.
+    (λ n. by_case (each_against scope (walks s parts) int32) (λ n. grind (arith, list_steps)) (λ f g. grind (arith, list_steps))) (λ one o.
     by_case (each_against scope (walks s parts) int32) (λ n. grind (arith, list_steps)) (λ f g. grind (arith, list_steps)))
 
 pub arms_own_split : (s : Signatures) (scope : Scope) (of : Ty) (front behind : List (Pat × Exp)) (arm : Pat × Exp)
     → arm_walks_open (arm_walks s front) ≡ true → (walk s arm.1).is_open ≡ false
     → arms_own s scope of (arm_walks s (front ++ arm ∷ behind)) ≡ given (pattern s arm.0 of) (λ bound. given ((walk s arm.1).own (scope ++ bound.0)) (λ one.
-      given (arms_against s scope of (arm_walks s front) one.0) (λ before.
-      given (arms_against s scope of (arm_walks s behind) one.0) (λ after. Some (one.0, before ++ (bound.1, one.1) ∷ after)))))
+    given (arms_against s scope of (arm_walks s front) one.0) (λ before.
+    given (arms_against s scope of (arm_walks s behind) one.0) (λ after. Some (one.0, before ++ (bound.1, one.1) ∷ after)))))
 arms_own_split s scope of [] behind arm all closed =
     by_case (pattern s arm.0 of) (λ n. grind (arith, list_steps)) (λ bound b.
     by_case ((walk s arm.1).own (scope ++ bound.0)) (λ n. grind (arith, list_steps)) (λ one o.
@@ -136,19 +136,19 @@ arms_own_split s scope of (first ∷ front) behind arm all closed =
   where
     head : (first : Pat × Exp) (front : List (Pat × Exp))
         → arms_own s scope of (arm_walks s (front ++ arm ∷ behind)) ≡ given (pattern s arm.0 of) (λ bound. given ((walk s arm.1).own (scope ++ bound.0)) (λ one.
-          given (arms_against s scope of (arm_walks s front) one.0) (λ before.
-          given (arms_against s scope of (arm_walks s behind) one.0) (λ after. Some (one.0, before ++ (bound.1, one.1) ∷ after)))))
+        given (arms_against s scope of (arm_walks s front) one.0) (λ before.
+        given (arms_against s scope of (arm_walks s behind) one.0) (λ after. Some (one.0, before ++ (bound.1, one.1) ∷ after)))))
         → (walk s first.1).is_open ≡ true → (bound : _) → pattern s arm.0 of ≡ Some bound → (one : _) → (walk s arm.1).own (scope ++ bound.0) ≡ Some one
         → arms_own s scope of (arm_walks s (first ∷ front ++ arm ∷ behind)) ≡ given (pattern s arm.0 of) (λ bound. given ((walk s arm.1).own (scope ++ bound.0)) (λ one.
-          given (arms_against s scope of (arm_walks s (first ∷ front)) one.0) (λ before.
-          given (arms_against s scope of (arm_walks s behind) one.0) (λ after. Some (one.0, before ++ (bound.1, one.1) ∷ after)))))
+        given (arms_against s scope of (arm_walks s (first ∷ front)) one.0) (λ before.
+        given (arms_against s scope of (arm_walks s behind) one.0) (λ after. Some (one.0, before ++ (bound.1, one.1) ∷ after)))))
     head first front rest is_set bound b one o =
         by_case (pattern s first.0 of)
-          (λ n. by_case (arms_against s scope of (arm_walks s front) one.0) (λ n. grind (arith, list_steps)) (λ before b.
-                by_case (arms_against s scope of (arm_walks s behind) one.0) (λ n. grind (arith, list_steps)) (λ after a. grind (arith, list_steps)))) (λ vars v.
+        (λ n. by_case (arms_against s scope of (arm_walks s front) one.0) (λ n. grind (arith, list_steps)) (λ before b.
+        by_case (arms_against s scope of (arm_walks s behind) one.0) (λ n. grind (arith, list_steps)) (λ after a. grind (arith, list_steps)))) (λ vars v.
         by_case ((walk s first.1).against (scope ++ vars.0) one.0)
-          (λ n. by_case (arms_against s scope of (arm_walks s front) one.0) (λ n. grind (arith, list_steps)) (λ before b.
-                by_case (arms_against s scope of (arm_walks s behind) one.0) (λ n. grind (arith, list_steps)) (λ after a. grind (arith, list_steps)))) (λ body f.
+        (λ n. by_case (arms_against s scope of (arm_walks s front) one.0) (λ n. grind (arith, list_steps)) (λ before b.
+        by_case (arms_against s scope of (arm_walks s behind) one.0) (λ n. grind (arith, list_steps)) (λ after a. grind (arith, list_steps)))) (λ body f.
         by_case (arms_against s scope of (arm_walks s front) one.0) (λ n. grind (arith, list_steps)) (λ before b.
         by_case (arms_against s scope of (arm_walks s behind) one.0) (λ n. grind (arith, list_steps)) (λ after a. grind (arith, list_steps)))))
 
@@ -160,7 +160,7 @@ arms_own_open s scope of (first ∷ arms) all =
     let others : arm_walks_open (arm_walks s arms) ≡ true = grind (arith, list_steps) in
     let rest = arms_own_open s scope of arms others in
     by_case (arms_against s scope of (arm_walks s arms) int32)
-      (λ n. by_case (pattern s first.0 of) (λ n. grind (arith, list_steps)) (λ bound b.
-            by_case ((walk s first.1).against (scope ++ bound.0) int32) (λ n. grind (arith, list_steps)) (λ body f. grind (arith, list_steps)))) (λ cs g.
+    (λ n. by_case (pattern s first.0 of) (λ n. grind (arith, list_steps)) (λ bound b.
+    by_case ((walk s first.1).against (scope ++ bound.0) int32) (λ n. grind (arith, list_steps)) (λ body f. grind (arith, list_steps)))) (λ cs g.
     by_case (pattern s first.0 of) (λ n. grind (arith, list_steps)) (λ bound b.
     by_case ((walk s first.1).against (scope ++ bound.0) int32) (λ n. grind (arith, list_steps)) (λ body f. grind (arith, list_steps))))

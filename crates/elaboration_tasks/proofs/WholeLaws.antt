@@ -115,7 +115,7 @@ vector_against st parts count is of =
 pub call_own : (st : State) (name : List ℕ) (parts : Bor (List Exp)) (count number : ℕ) (signature : Signature) (part : Exp) (rest : List Exp) → count ≡ length parts.now
     → parts.now ≡ part ∷ rest → fun_named name st.0.2 ≡ Some (number, signature) →
     run (task.Types (types.PushPart 0) ∷ task.Parts parts 0 ∷ task.Types types.Pop ∷ task.Types (types.PushPart 1) ∷ task.Types types.PopBelow ∷ task.Cores (cores.Call number count) ∷ [])
-      (with_types (TupleTy (TupleTy signature.params ∷ signature.gives ∷ []) ∷ st.0.1) st)
+    (with_types (TupleTy (TupleTy signature.params ∷ signature.gives ∷ []) ∷ st.0.1) st)
     ≡ own_of ((app_walk st.0.2 name (walks st.0.2 parts.now)).own st.0.0) st
 call_own st name parts count number signature part rest is more named =
     by_case (all_against st.0.0 (walks st.0.2 parts.now) signature.params) (λ n. grind (arith, whole_steps)) (λ cs o.
@@ -126,7 +126,7 @@ call_own st name parts count number signature part rest is more named =
 pub con_own : (st : State) (name : List ℕ) (parts : Bor (List Exp)) (count : ℕ) (con : Constructor) → count ≡ length parts.now
     → con_named name st.0.2 ≡ Some con →
     run (task.Parts parts 0 ∷ task.Types types.Pop ∷ task.Types (types.PushNamed con.sum) ∷ task.Cores (cores.Constructor con.place count) ∷ [])
-      (with_types (TupleTy con.fields ∷ st.0.1) st)
+    (with_types (TupleTy con.fields ∷ st.0.1) st)
     ≡ own_of ((con_walk st.0.2 name (walks st.0.2 parts.now)).own st.0.0) st
 con_own st name parts count con is named =
     by_case (all_against st.0.0 (walks st.0.2 parts.now) con.fields) (λ n. grind (arith, whole_steps)) (λ cs o.

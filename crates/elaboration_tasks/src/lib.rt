@@ -5,9 +5,13 @@
 //! in `proofs/` say of each form of expression and of pattern that its list of tasks comes to just what the walk of
 //! `hume_typing` finds of it. So code that does task after task elaborates without recursion, however deep an expression is.
 //!
+//! Laws: `tasks_are_done_in_order`, `open_parts_are_int32`.
+//!
 //! It knows forms and their tasks. Nothing runs here.
 #![tactic(auto)]
 
+mod laws;
 mod task;
 
+pub use laws::{open_parts_are_int32, tasks_are_done_in_order};
 pub use task::{CoreTask, Task, TypeTask};

@@ -8,18 +8,9 @@ use Rattle.elaboration_tasks.specs.declared.task.Task.{Task}
 use Rattle.hume_elaborate.specs.declared.stop.Stop.{Stop}
 use Rattle.elaboration_tasks.specs.States.{State}
 use Rattle.elaboration_tasks.specs.Tasks.{run, step}
+use Rattle.elaboration_tasks.proofs.Order.{run_append}
 use Rattle.elaboration_tasks.proofs.FormLaws.{let_own, let_against, if_own, if_against, arithmetic_own, arithmetic_against, comparison_own, and_own, or_own, neg_own, neg_against, not_own, index_own, update_own, update_against, closed_against}
 use Rattle.elaboration_tasks.proofs.WholeLaws.{case_own, case_against, tuple_own, tuple_against, vector_own}
-
--- what is done first, and then the rest
-pub run_append : (first rest : List Task) (state : State) → run (first ++ rest) state ≡ given (run first state) (run rest)
-run_append [] rest state = refl
-run_append (task ∷ first) rest state = by (step task state) (λ next. run_append first rest next)
-  where
-    by : (o : Option State) → ((next : State) → run (first ++ rest) next ≡ given (run first next) (run rest))
-        → given o (λ next. run (first ++ rest) next) ≡ given (given o (λ next. run first next)) (run rest)
-    by None more = refl
-    by (Some next) more = more next
 
 pub ruleset first_steps = (common_steps, run_append)
 
@@ -64,7 +55,6 @@ pub ruleset neg_against_steps = (common_steps, neg_against)
 pub ruleset update_against_steps = (common_steps, update_against)
 
 pub ruleset tuple_against_steps = (common_steps, tuple_against)
-
 
 -- what tasks come to that were put before others
 pub comes_to : {T E : Type 0} (r : Result T E) (tasks more others : List Task) (state : State) (found : Option State) → run more state ≡ found

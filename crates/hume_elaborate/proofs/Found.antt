@@ -37,7 +37,7 @@ tuple_found ty count h = by (tuple_parts ty) refl h
   where
     by : (o : Option (List Ty)) → tuple_parts ty ≡ o → given o (λ tys. Some (length tys)) ≡ Some count → TupleFound ty count
     by None e h = absurd (none_is_none (sym h))
-    by (Some tys) e h = record { tys = tys; is = e; long = some-same _ _ h; }
+    by (Some tys) e h = record { tys = tys; is = e; long = some-same _ _ h }
 
 pub record FunctionFound (o : Option (ℕ × Signature)) (known new : Known) (number : ℕ) : Type 0 where
   pub signature : Signature
@@ -88,4 +88,4 @@ nonempty [] h = absurd (no_part h)
   where
     no_part : 1 ≤ 0 → ⊥
     no_part h = omega arith
-nonempty (x ∷ xs) h = record { first = x; rest = xs; is = refl; }
+nonempty (x ∷ xs) h = record { first = x; rest = xs; is = refl }

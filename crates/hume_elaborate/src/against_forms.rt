@@ -68,8 +68,7 @@ pub(crate) fn case_against<'a>(
     at: &Elaboration<'a>,
     tasks: &mut Stack<Task<'a>>,
     a: &'a Exp,
-    arms: &'a [(Pat,
-    Exp)],
+    arms: &'a [(Pat, Exp)],
 ) -> Result<(), Stop>
     ensures ok { OnOk result (DoesAgainst ((case_walk at.now.0.2 (walk at.now.0.2 a.now) (arm_walks at.now.0.2 arms.now)).against at.now.0.0 (top at.now.0.1)) at.now tasks.old tasks.new) }
     ensures none { IfErr result (λ stop. stop ≡ NoMemory) }
@@ -139,13 +138,7 @@ pub(crate) fn update_against<'a>(
     ensures ok { OnOk result (DoesAgainst ((update_walk (walk at.now.0.2 a.now) (walk at.now.0.2 b.now) (walk at.now.0.2 d.now)).against at.now.0.0 (top at.now.0.1)) at.now tasks.old tasks.new) }
     ensures none { IfErr result (λ stop. stop ≡ NoMemory) }
 {
-    first(
-        tasks,
-        &[
-            Task::Against(a),
-            Task::Update(b, d),
-        ],
-    )
+    first(tasks, &[Task::Against(a), Task::Update(b, d)])
 }
 
 #[tactic(auto, using(crate::proofs::Forms::tuple_against_steps))]

@@ -56,11 +56,7 @@ pub(crate) fn against_tasks<'a>(
 
 // An expression that must have the last type by itself.
 #[tactic(auto, using(crate::proofs::Forms::closed_steps))]
-fn closed<'a>(
-    at: &Elaboration<'a>,
-    tasks: &mut Stack<Task<'a>>,
-    e: &'a Exp,
-) -> Result<(), Stop>
+fn closed<'a>(at: &Elaboration<'a>, tasks: &mut Stack<Task<'a>>, e: &'a Exp) -> Result<(), Stop>
     ensures ok { OnOk result (DoesAgainst (expected ((walk at.now.0.2 e.now).own at.now.0.0) (top at.now.0.1)) at.now tasks.old tasks.new) }
     ensures none { IfErr result (λ stop. stop ≡ NoMemory) }
 {

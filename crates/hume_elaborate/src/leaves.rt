@@ -12,11 +12,7 @@ use hume_types::Node;
 
 /// A number against the last type.
 #[tactic(auto, using(crate::proofs::Steps::shape_steps))]
-pub(crate) fn number_against(
-    at: &mut Elaboration,
-    negative: bool,
-    amount: u64,
-) -> Result<(), Stop>
+pub(crate) fn number_against(at: &mut Elaboration, negative: bool, amount: u64) -> Result<(), Stop>
     ensures ok { OnOk result (against_of ((literal_walk negative amount).against at.old.0.0 (top at.old.0.1)) at.old ≡ Some at.new) }
     ensures none { IfErr result (λ stop. stop ≡ NoType → (literal_walk negative amount).against at.old.0.0 (top at.old.0.1) ≡ None) }
 {

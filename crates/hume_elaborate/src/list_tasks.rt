@@ -8,8 +8,8 @@ ghost use Rattle.elaboration_tasks.specs.declared.task.Task.TheVariants.{Two as 
 ghost use Rattle.hume_elaborate.specs.declared.stop.Stop.TheVariants.{NoType, NoMemory};
 
 use crate::elaboration::Elaboration;
-use crate::open::{first_closed, first_closed_arm, is_open};
 use crate::first::first;
+use crate::open::{first_closed, first_closed_arm, is_open};
 use crate::stop::Stop;
 use core_builder::Stack;
 use elaboration_tasks::{CoreTask, Task, TypeTask};
@@ -99,10 +99,7 @@ pub(crate) fn each_tasks<'a>(tasks: &mut Stack<Task<'a>>, parts: &'a [Exp]) -> R
 
 /// Expressions by themselves.
 #[tactic(auto, using(crate::proofs::Lists::own_parts_steps))]
-pub(crate) fn own_parts_tasks<'a>(
-    tasks: &mut Stack<Task<'a>>,
-    parts: &'a [Exp],
-) -> Result<(), Stop>
+pub(crate) fn own_parts_tasks<'a>(tasks: &mut Stack<Task<'a>>, parts: &'a [Exp]) -> Result<(), Stop>
     ensures ok { OnOk result ((state : State) → run tasks.new state ≡ given (step (OwnPartsTask parts.entry) state) (run tasks.old)) }
     ensures none { IfErr result (λ stop. stop ≡ NoMemory) }
 {
@@ -182,10 +179,7 @@ pub(crate) fn own_arms_tasks<'a>(
     ensures none { IfErr result (λ stop. stop ≡ NoMemory) }
 {
     let Some(place) = first_closed_arm(at, arms) else {
-        return first(
-            tasks,
-            &[Task::Types(TypeTask::PushInt32), Task::Arms(arms)],
-        );
+        return first(tasks, &[Task::Types(TypeTask::PushInt32), Task::Arms(arms)]);
     };
     let (front, rest) = arms.split_at(place);
     let Some(((pattern, body), behind)) = rest.split_first() else {

@@ -9,8 +9,8 @@ ghost use Rattle.elaboration_tasks.specs.Tasks.{run, own_of, against_of, walks};
 ghost use Rattle.hume_elaborate.specs.declared.stop.Stop.TheVariants.{NoType};
 
 use crate::elaboration::Elaboration;
-use crate::numbers::number_node;
 use crate::first::first;
+use crate::numbers::number_node;
 use crate::stop::Stop;
 use core_builder::Stack;
 use elaboration_tasks::{CoreTask, Task, TypeTask};

@@ -67,8 +67,7 @@ pub(crate) fn case_own<'a>(
     at: &Elaboration<'a>,
     tasks: &mut Stack<Task<'a>>,
     a: &'a Exp,
-    arms: &'a [(Pat,
-    Exp)],
+    arms: &'a [(Pat, Exp)],
 ) -> Result<(), Stop>
     ensures ok { OnOk result (DoesOwn ((case_walk at.now.0.2 (walk at.now.0.2 a.now) (arm_walks at.now.0.2 arms.now)).own at.now.0.0) at.now tasks.old tasks.new) }
     ensures none { IfErr result (λ stop. stop ≡ NoMemory) }
@@ -182,13 +181,7 @@ pub(crate) fn index_own<'a>(
     ensures ok { OnOk result (DoesOwn ((index_walk (walk at.now.0.2 a.now) (walk at.now.0.2 b.now)).own at.now.0.0) at.now tasks.old tasks.new) }
     ensures none { IfErr result (λ stop. stop ≡ NoMemory) }
 {
-    first(
-        tasks,
-        &[
-            Task::Own(a),
-            Task::Index(b),
-        ],
-    )
+    first(tasks, &[Task::Own(a), Task::Index(b)])
 }
 
 #[tactic(auto, using(crate::proofs::Forms::neg_own_steps))]
@@ -240,13 +233,7 @@ pub(crate) fn update_own<'a>(
     ensures ok { OnOk result (DoesOwn ((update_walk (walk at.now.0.2 a.now) (walk at.now.0.2 b.now) (walk at.now.0.2 d.now)).own at.now.0.0) at.now tasks.old tasks.new) }
     ensures none { IfErr result (λ stop. stop ≡ NoMemory) }
 {
-    first(
-        tasks,
-        &[
-            Task::Own(a),
-            Task::Update(b, d),
-        ],
-    )
+    first(tasks, &[Task::Own(a), Task::Update(b, d)])
 }
 
 #[tactic(auto, using(crate::proofs::Forms::tuple_own_steps))]

@@ -9,7 +9,9 @@ ghost use Rattle.hume_elaborate.specs.declared.stop.Stop.TheVariants.{NoType, No
 use crate::elaboration::Elaboration;
 use crate::first::first;
 use crate::leaves::{letter_own, number_own, truth_own};
-use crate::named_tasks::{call_own, cast_own, constructor_own, raise_own, raise_with_own, variable_own};
+use crate::named_tasks::{
+    call_own, cast_own, constructor_own, raise_own, raise_with_own, variable_own,
+};
 use crate::own_forms::{
     and_own, arithmetic_own, case_own, comparison_own, if_own, index_own, let_own, neg_own,
     not_own, or_own, tuple_own, update_own, vector_own,
@@ -86,11 +88,7 @@ fn binary_own<'a>(
 }
 
 #[tactic(auto, using(crate::proofs::Dispatch::same_steps))]
-fn paren_own<'a>(
-    at: &Elaboration<'a>,
-    tasks: &mut Stack<Task<'a>>,
-    a: &'a Exp,
-) -> Result<(), Stop>
+fn paren_own<'a>(at: &Elaboration<'a>, tasks: &mut Stack<Task<'a>>, a: &'a Exp) -> Result<(), Stop>
     ensures ok { OnOk result (DoesOwn ((walk at.now.0.2 a.now).own at.now.0.0) at.now tasks.old tasks.new) }
     ensures none { IfErr result (λ stop. stop ≡ NoMemory) }
 {

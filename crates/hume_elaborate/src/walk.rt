@@ -44,11 +44,7 @@ pub fn against<'a>(alloc: Global, at: &mut Elaboration<'a>, e: &'a Exp) -> Resul
 
 /// Does one task, with all that it comes to.
 #[tactic(auto, using(crate::proofs::Walking::walk_steps))]
-pub fn perform_one<'a>(
-    alloc: Global,
-    at: &mut Elaboration<'a>,
-    task: Task<'a>,
-) -> Result<(), Stop>
+pub fn perform_one<'a>(alloc: Global, at: &mut Elaboration<'a>, task: Task<'a>) -> Result<(), Stop>
     ensures ok { OnOk result (step task.entry at.old ≡ Some at.new) }
     ensures none { IfErr result (λ stop. stop ≡ NoType → step task.entry at.old ≡ None) }
 {

@@ -1,21 +1,7 @@
 -- Tasks, one after the other.
-use Rattle.std.proofs.Common.{◌≡◌, List, [], ◌∷◌, ◌++◌, Option, Some, None, refl}
 use Rattle.std.proofs.lemmas.Grind.{common_steps}
-use Rattle.hume_typing.specs.Partial.{given}
 use Rattle.elaboration_tasks.proofs.Given.{given_some, given_none}
-use Rattle.result_tasks.specs.declared.task.ResultTask.{ResultTask}
-use Rattle.result_tasks.specs.ResultStates.{ResultState}
-use Rattle.result_tasks.specs.ResultTasks.{result_run, result_step}
-
--- what is done first, and then the rest
-pub run_append : (first rest : List ResultTask) (state : ResultState) → result_run (first ++ rest) state ≡ given (result_run first state) (result_run rest)
-run_append [] rest state = refl
-run_append (task ∷ first) rest state = by (result_step task state) (λ next. run_append first rest next)
-  where
-    by : (o : Option ResultState) → ((next : ResultState) → result_run (first ++ rest) next ≡ given (result_run first next) (result_run rest))
-        → given o (λ next. result_run (first ++ rest) next) ≡ given (given o (λ next. result_run first next)) (result_run rest)
-    by None more = refl
-    by (Some next) more = more next
+use Rattle.result_tasks.proofs.ResultOrder.{run_append}
 
 pub ruleset first_steps = (common_steps, run_append)
 

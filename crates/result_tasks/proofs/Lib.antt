@@ -1,4 +1,5 @@
 pub mod ResultForms
 pub mod ResultLengths
 pub mod ResultLists
+pub mod ResultOrder
 pub mod ResultWholes

@@ -1,2 +1,3 @@
 pub mod ResultStates
 pub mod ResultTasks
+pub mod inner

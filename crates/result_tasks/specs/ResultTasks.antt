@@ -77,10 +77,6 @@ result_of found state = given found (λ c. Some (with_result c state))
 abbrev pub output_of : Option CoredOut → ResultState → Option ResultState
 output_of found state = given found (λ out. Some (with_output out state))
 
--- the result of an expression at which it ends
-abbrev pub leaf_result : ResultWalk → Scope → List Ty → Option CoredRes
-leaf_result w scope tys = given (outputs_of w.output w.outputs scope tys) (λ outs. Some (outs_core outs))
-
 abbrev pub result_step : ResultTask → ResultState → Option ResultState
 result_step (task.Result e) state = result_of ((result_walk (signatures_of state) e.now).result (scope_of state) (last_outputs state)) state
 result_step (task.Output e) state = output_of ((result_walk (signatures_of state) e.now).output (scope_of state) (top (types_of state))) state

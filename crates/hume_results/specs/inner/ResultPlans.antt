@@ -11,7 +11,8 @@ use Rattle.hume_typing.specs.inner.ResultWalk.{ResultWalk, result_walk, leaf_wal
 use Rattle.hume_typing.specs.declared.signatures.Signatures.{Signatures}
 use Rattle.result_tasks.specs.declared.task.ResultTask.{ResultTask}
 use Rattle.result_tasks.specs.ResultStates.{ResultState}
-use Rattle.result_tasks.specs.ResultTasks.{scope_of, types_of, last_outputs, result_arm_walks, leaf_result, result_run, result_of, output_of}
+use Rattle.result_tasks.specs.inner.Leaves.{leaf_result}
+use Rattle.result_tasks.specs.ResultTasks.{scope_of, types_of, last_outputs, result_arm_walks, result_run, result_of, output_of}
 
 -- what is found of a result by its form; what the other walk finds of the whole doesn't matter
 unfoldable pub let_found : Signatures → List ℕ → Exp → Exp → ResultWalk

@@ -18,7 +18,7 @@ returns-clause-ok c =
     let part = c.in-Some-split_first.part in
     let behind = c.in-Some-split_first.behind in
     let whole : c.args.parts.now ≡ front.now ++ part.now ∷ behind.now =
-        sym ((λ i. c.split_at.ensures.front i ++ (sym c.in-Some-split_first.ensures.cases.0 ∙ c.split_at.ensures.back) i) ∙ take-append-drop c.in-Some.place c.args.parts.now) in
+    sym ((λ i. c.split_at.ensures.front i ++ (sym c.in-Some-split_first.ensures.cases.0 ∙ c.split_at.ensures.back) i) ∙ take-append-drop c.in-Some.place c.args.parts.now) in
     let first = c.in-Some.ensures.is front.now behind.now part.now whole c.split_at.ensures.front_len in
     comes_to c.first-2.result c.first-2.new.tasks (each_split_plan part front c.in-Some.place behind) c.args.tasks.now c.args.at.now _
-      (own_each_split c.args.at.now c.args.parts front behind part c.in-Some.place whole c.split_at.ensures.front_len first.0 first.1) c.first-2.ensures.ok
+    (own_each_split c.args.at.now c.args.parts front behind part c.in-Some.place whole c.split_at.ensures.front_len first.0 first.1) c.first-2.ensures.ok

@@ -19,10 +19,10 @@ returns-clause-ok c part rest h =
     let name = c.args.name.now in
     let new : Known = c.push_function.new.self in
     let found = function_found (fun_named name env.2) env new c.in-Some.number
-        (ap (λ o. (o, new)) (sym c.in-Some.is) ∙ c.in_ok-number.ensures ∙ ap (λ n. with_function (fun_named n env.2) env) c.bytes.ensures) in
+    (ap (λ o. (o, new)) (sym c.in-Some.is) ∙ c.in_ok-number.ensures ∙ ap (λ n. with_function (fun_named n env.2) env) c.bytes.ensures) in
     subst (λ (s : State). OnOk c.first.result (run c.first.new.tasks (new, b.0, b.1, b.2)
-            ≡ given (own_of ((app_walk s.0.2 name (walks s.0.2 c.args.parts.now)).own s.0.0) s) (run c.args.tasks.now))) c.at.view_is
-      (subst (λ (e : Known). OnOk c.first.result (run c.first.new.tasks (e, b.0, b.1, b.2)
-            ≡ given (own_of ((app_walk st.0.2 name (walks st.0.2 c.args.parts.now)).own st.0.0) st) (run c.args.tasks.now))) (sym found.pushed)
-        (comes_to c.first.result c.first.new.tasks (call_plan c.args.parts c.in-Some.number) c.args.tasks.now _ _
-          (call_own st name c.args.parts _ c.in-Some.number found.signature part rest refl h found.is) c.first.ensures.ok))
+    ≡ given (own_of ((app_walk s.0.2 name (walks s.0.2 c.args.parts.now)).own s.0.0) s) (run c.args.tasks.now))) c.at.view_is
+    (subst (λ (e : Known). OnOk c.first.result (run c.first.new.tasks (e, b.0, b.1, b.2)
+    ≡ given (own_of ((app_walk st.0.2 name (walks st.0.2 c.args.parts.now)).own st.0.0) st) (run c.args.tasks.now))) (sym found.pushed)
+    (comes_to c.first.result c.first.new.tasks (call_plan c.args.parts c.in-Some.number) c.args.tasks.now _ _
+    (call_own st name c.args.parts _ c.in-Some.number found.signature part rest refl h found.is) c.first.ensures.ok))

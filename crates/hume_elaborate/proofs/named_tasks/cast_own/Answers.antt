@@ -22,8 +22,8 @@ returns-clause-ok c =
     let new : Known = c.push.new.self in
     let node = c.in-Some.node in
     subst (λ (s : State). OnOk c.first.result (run c.first.new.tasks (new, b.0, b.1, b.2)
-            ≡ given (own_of ((cast_walk s.0.2 (walk s.0.2 c.args.a.now) c.args.ty.now).own s.0.0) s) (run c.args.tasks.now))) c.at.view_is
-      (subst (λ (e : Known). OnOk c.first.result (run c.first.new.tasks (e, b.0, b.1, b.2)
-            ≡ given (own_of ((cast_walk st.0.2 (walk st.0.2 c.args.a.now) c.args.ty.now).own st.0.0) st) (run c.args.tasks.now))) (sym c.in_ok-push.ensures)
-        (comes_to c.first.result c.first.new.tasks (cast_plan c.args.a) c.args.tasks.now _ _
-          (cast_own st c.args.a c.args.ty.now (ty_of [] node) (c.in-Some.ensures.is st.0.2.types) c.in-Some.ensures.number) c.first.ensures.ok))
+    ≡ given (own_of ((cast_walk s.0.2 (walk s.0.2 c.args.a.now) c.args.ty.now).own s.0.0) s) (run c.args.tasks.now))) c.at.view_is
+    (subst (λ (e : Known). OnOk c.first.result (run c.first.new.tasks (e, b.0, b.1, b.2)
+    ≡ given (own_of ((cast_walk st.0.2 (walk st.0.2 c.args.a.now) c.args.ty.now).own st.0.0) st) (run c.args.tasks.now))) (sym c.in_ok-push.ensures)
+    (comes_to c.first.result c.first.new.tasks (cast_plan c.args.a) c.args.tasks.now _ _
+    (cast_own st c.args.a c.args.ty.now (ty_of [] node) (c.in-Some.ensures.is st.0.2.types) c.in-Some.ensures.number) c.first.ensures.ok))

@@ -19,10 +19,10 @@ returns-clause-ok c =
     let name = c.args.name.now in
     let new : Known = c.push_constructor.new.self in
     let found = constructor_found (con_named name env.2) env new c.in-Some.sum c.in-Some.place
-        (ap (λ o. (o, new)) (sym c.in-Some.is) ∙ c.in_ok-sum.ensures ∙ ap (λ n. with_constructor (con_named n env.2) env) c.bytes.ensures) in
+    (ap (λ o. (o, new)) (sym c.in-Some.is) ∙ c.in_ok-sum.ensures ∙ ap (λ n. with_constructor (con_named n env.2) env) c.bytes.ensures) in
     subst (λ (s : State). OnOk c.first.result (run c.first.new.tasks (new, b.0, b.1, b.2)
-            ≡ given (own_of ((con_walk s.0.2 name (walks s.0.2 c.args.parts.now)).own s.0.0) s) (run c.args.tasks.now))) c.at.view_is
-      (subst (λ (e : Known). OnOk c.first.result (run c.first.new.tasks (e, b.0, b.1, b.2)
-            ≡ given (own_of ((con_walk st.0.2 name (walks st.0.2 c.args.parts.now)).own st.0.0) st) (run c.args.tasks.now))) (sym found.pushed)
-        (comes_to c.first.result c.first.new.tasks (con_plan c.args.parts c.in-Some.sum c.in-Some.place) c.args.tasks.now _ _
-          (con_own st name c.args.parts _ (record { sum = c.in-Some.sum; place = c.in-Some.place; fields = found.fields }) refl found.is) c.first.ensures.ok))
+    ≡ given (own_of ((con_walk s.0.2 name (walks s.0.2 c.args.parts.now)).own s.0.0) s) (run c.args.tasks.now))) c.at.view_is
+    (subst (λ (e : Known). OnOk c.first.result (run c.first.new.tasks (e, b.0, b.1, b.2)
+    ≡ given (own_of ((con_walk st.0.2 name (walks st.0.2 c.args.parts.now)).own st.0.0) st) (run c.args.tasks.now))) (sym found.pushed)
+    (comes_to c.first.result c.first.new.tasks (con_plan c.args.parts c.in-Some.sum c.in-Some.place) c.args.tasks.now _ _
+    (con_own st name c.args.parts _ (record { sum = c.in-Some.sum; place = c.in-Some.place; fields = found.fields }) refl found.is) c.first.ensures.ok))

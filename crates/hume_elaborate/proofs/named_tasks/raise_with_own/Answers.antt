@@ -16,4 +16,4 @@ returns-clause-none c =
     let a = c.args.a.now in
     let found : Known → _ = λ e. given (raised_with (exn_named name e.2) (walk e.2 a) e.0) (λ raised. Some (raise_with_core raised.0 raised.1)) in
     other_reason c.raise_with.result (λ stop. stop ≡ NoType → found c.push.new.self ≡ None) (λ stop. stop ≡ NoType → of_type int32 (found c.args.at.now.0) ≡ None)
-      (λ stop h same. ap (of_type int32) (ap found (sym (ap (λ s. s.0) c.at.view_is)) ∙ sym (ap found c.in_ok-push.ensures) ∙ h same)) c.raise_with.ensures.none
+    (λ stop h same. ap (of_type int32) (ap found (sym (ap (λ s. s.0) c.at.view_is)) ∙ sym (ap found c.in_ok-push.ensures) ∙ h same)) c.raise_with.ensures.none

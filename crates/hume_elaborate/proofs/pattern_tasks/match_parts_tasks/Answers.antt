@@ -13,4 +13,4 @@ returns-else-place-count-2-clause-ok c =
     let few = c.if-place-count-2.false in
     let within : c.args.place < length found.tys = omega arith in
     comes_to c.first.result c.first.new.tasks (match_plan c.in-Some.part c.in-Some.rest c.args.place) c.args.tasks.now c.args.at.now _
-      (match_more c.args.at.now c.args.parts c.in-Some.rest c.in-Some.part c.args.place found.tys found.is within c.in-Some.ensures.cases.0) c.first.ensures.ok
+    (match_more c.args.at.now c.args.parts c.in-Some.rest c.in-Some.part c.args.place found.tys found.is within c.in-Some.ensures.cases.0) c.first.ensures.ok

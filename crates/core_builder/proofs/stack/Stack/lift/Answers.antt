@@ -18,6 +18,6 @@ returns g c =
     let within : at < length all = omega arith in
     let long : length behind ≡ c.args.others = length-drop (suc at) all ∙ omega arith in
     let whole : front ++ x ∷ behind ≡ all =
-        ap (λ l. front ++ l) (ap (λ y. y ∷ behind) c.remove-item.ensures.value ∙ sym (drop-cons all at x within)) ∙ take-append-drop at all in
+    ap (λ l. front ++ l) (ap (λ y. y ∷ behind) c.remove-item.ensures.value ∙ sym (drop-cons all at x within)) ∙ take-append-drop at all in
     ap reverse (c.in_ok-push.ensures.items ∙ ap (λ l. l ++ x ∷ []) c.remove-item.ensures.items)
     ∙ item_lifted front behind x c.args.others long ∙ ap (λ l. lifted c.args.others (reverse l)) whole ∙ ap (lifted c.args.others) c.self.view_is
