@@ -18,7 +18,7 @@ use Rattle.result_tasks.specs.declared.task.ResultTask.TheVariants as task
 use Rattle.result_tasks.specs.declared.task.ResultMake.TheVariants as make
 use Rattle.result_tasks.specs.ResultStates.{ResultState}
 use Rattle.result_tasks.specs.inner.Leaves.{leaf_result}
-use Rattle.result_tasks.specs.ResultTasks.{scope_of, types_of, signatures_of, last_outputs, result_walks, result_arm_walks, result_run, result_of, leaf_result}
+use Rattle.result_tasks.specs.ResultTasks.{scope_of, types_of, signatures_of, last_outputs, result_walks, result_arm_walks, result_run, result_of}
 use Rattle.result_tasks.proofs.ResultLengths.{all_outputs_length, arms_result_length}
 use Rattle.result_tasks.proofs.ResultLists.{output_type_at}
 
