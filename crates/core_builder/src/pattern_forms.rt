@@ -1,13 +1,13 @@
-//! What becomes of the last patterns of a stack.
+//! What becomes of the last patterns of a stack, and what is taken off the stacks.
 ghost use Rattle.std.specs.Prelude.{◌≡◌, ◌∷◌, false, take, drop, reverse, OnOk, IfOk};
 ghost use Rattle.hume_model.specs.declared.core_tree.PatC.{Var as AnyName, Any as AnyValue, Word as WordPat, Con as ConPat, Tuple as TuplePat};
 ghost use Rattle.hume_typing.specs.Patterns.{pat_cores, some_pat_too_wide};
-ghost use Rattle.core_builder.specs.Stacks.{top_pattern};
+ghost use Rattle.core_builder.specs.Stacks.{top_core, top_pattern};
 
 use crate::builder::Builder;
 use crate::gather;
 use hume_base::List;
-use hume_model::PatC;
+use hume_model::{Expr, PatC};
 use std::alloc::{AllocError, Global};
 
 impl Builder {
@@ -66,6 +66,17 @@ impl Builder {
         match self.patterns.pop() {
             None => Err(AllocError),
             Some(pattern) => Ok(pattern),
+        }
+    }
+
+    /// Takes the last core out.
+    pub fn take_core(&mut self) -> Result<(Expr, bool), AllocError>
+        ensures taken { IfOk result (λ core. core ≡ top_core self.old.0) }
+        ensures left { OnOk result (self.new ≡ (drop 1 self.old.0, self.old.1, self.old.2)) }
+    {
+        match self.cores.pop() {
+            None => Err(AllocError),
+            Some(core) => Ok(core),
         }
     }
 

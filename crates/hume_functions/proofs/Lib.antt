@@ -1,0 +1,3 @@
+pub mod EquationLaws
+pub mod FunctionLaws
+pub mod SignatureLaws
