@@ -206,17 +206,6 @@ impl Builder {
         forms::alternatives(alloc, &mut self.cores, ty, arms)
     }
 
-    /// Takes the last core out.
-    pub fn take_core(&mut self) -> Result<(Expr, bool), AllocError>
-        ensures taken { IfOk result (λ core. core ≡ top_core self.old.0) }
-        ensures left { OnOk result (self.new ≡ (drop 1 self.old.0, self.old.1, self.old.2)) }
-    {
-        match self.cores.pop() {
-            None => Err(AllocError),
-            Some(core) => Ok(core),
-        }
-    }
-
     /// Moves the core below so many others to the end.
     pub fn lift(&mut self, others: usize) -> Result<(), AllocError>
         ensures { OnOk result (self.new ≡ (lifted others self.old.0, self.old.1, self.old.2)) }
