@@ -1,8 +1,11 @@
 -- The tasks of each form, one after the other.
-use Rattle.std.proofs.Common.{◌≡◌, ℕ, List, [], ◌∷◌, ◌++◌, Option, Some, None, refl, ap, sym, ◌∙◌}
+use Rattle.std.proofs.Common.{◌≡◌, ℕ, List, [], ◌∷◌, ◌++◌, Option, Some, None, Result, Ok, Err, refl, ap, sym, ◌∙◌}
+use Rattle.std.specs.Result.{OnOk, IfErr}
 use Rattle.std.proofs.lemmas.Grind.{common_steps}
+use Rattle.std.proofs.lemmas.Result.{on_ok_weaker}
 use Rattle.hume_typing.specs.Partial.{given}
 use Rattle.elaboration_tasks.specs.declared.task.Task.{Task}
+use Rattle.hume_elaborate.specs.declared.stop.Stop.{Stop}
 use Rattle.elaboration_tasks.specs.States.{State}
 use Rattle.elaboration_tasks.specs.Tasks.{run, step}
 use Rattle.elaboration_tasks.proofs.FormLaws.{let_own, let_against, if_own, if_against, arithmetic_own, arithmetic_against, comparison_own, and_own, or_own, neg_own, neg_against, not_own, index_own, update_own, update_against, closed_against}
@@ -62,3 +65,13 @@ pub ruleset update_against_steps = (common_steps, update_against)
 
 pub ruleset tuple_against_steps = (common_steps, tuple_against)
 
+
+-- what tasks come to that were put before others
+pub comes_to : {T E : Type 0} (r : Result T E) (tasks more others : List Task) (state : State) (found : Option State) → run more state ≡ found
+    → OnOk r ((s : State) → run tasks s ≡ given (run more s) (run others)) → OnOk r (run tasks state ≡ given found (run others))
+comes_to r tasks more others state found law h = on_ok_weaker r (λ runs. runs state ∙ ap (λ o. given o (run others)) law) h
+
+-- what an error means, said in another way
+pub other_reason : {T : Type 0} (r : Result T Stop) (P Q : Stop → Type 0) → ((stop : Stop) → P stop → Q stop) → IfErr r P → IfErr r Q
+other_reason (Ok x) P Q f h = h
+other_reason (Err stop) P Q f h = f stop h

@@ -1,10 +1,12 @@
 pub mod Binding
 pub mod Dispatch
 pub mod Forms
+pub mod Found
 pub mod Lists
 pub mod Named
-pub mod Numbers
 pub mod Opening
+pub mod PlanLists
 pub mod Powers
 pub mod Steps
 pub mod Walking
+pub mod WrittenNumbers

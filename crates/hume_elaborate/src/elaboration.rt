@@ -9,8 +9,8 @@ use std::marker::Model;
 /// What is known where an elaboration stands, and the cores that it has made so far.
 #[derive(Drop)]
 pub struct Elaboration<'a> {
-    pub(crate) environment: Environment<'a>,
-    pub(crate) builder: Builder,
+    pub environment: Environment<'a>,
+    pub builder: Builder,
 }
 
 impl<'a> Model for Elaboration<'a> {

@@ -1,14 +1,15 @@
 //! The tasks of lists.
-ghost use Rattle.std.specs.Prelude.{◌≡◌, ◌∷◌, ◌++◌, length, None, OnOk, IfErr, IfSome};
+ghost use Rattle.std.specs.Prelude.{◌≡◌, ◌∷◌, ◌++◌, true, false, None, OnOk, IfErr};
 ghost use Rattle.hume_typing.specs.Partial.{given};
 ghost use Rattle.elaboration_tasks.specs.States.{State};
-ghost use Rattle.elaboration_tasks.specs.Tasks.{run, step};
+ghost use Rattle.hume_typing.specs.inner.Walk.{walk, arm_walks_open};
+ghost use Rattle.elaboration_tasks.specs.Tasks.{run, step, arm_walks};
 ghost use Rattle.elaboration_tasks.specs.declared.task.Task.TheVariants.{Two as TwoTask, Parts as PartsTask, Each as EachTask, OwnParts as OwnPartsTask, OwnEach as OwnEachTask, Arms as ArmsTask, OwnArms as OwnArmsTask, Index as IndexTask, Update as UpdateTask};
 ghost use Rattle.hume_elaborate.specs.declared.stop.Stop.TheVariants.{NoType, NoMemory};
 
 use crate::elaboration::Elaboration;
 use crate::open::{first_closed, first_closed_arm, is_open};
-use crate::own_tasks::first;
+use crate::first::first;
 use crate::stop::Stop;
 use core_builder::Stack;
 use elaboration_tasks::{CoreTask, Task, TypeTask};
@@ -22,7 +23,7 @@ pub(crate) fn two_tasks<'a>(
     a: &'a Exp,
     b: &'a Exp,
 ) -> Result<(), Stop>
-    ensures ok { OnOk result (run tasks.new at.now ≡ given (step (TwoTask a b) at.now) (run tasks.old)) }
+    ensures ok { OnOk result (run tasks.new at.now ≡ given (step (TwoTask a.entry b.entry) at.now) (run tasks.old)) }
     ensures none { IfErr result (λ stop. stop ≡ NoMemory) }
 {
     if !is_open(at, a) {
@@ -56,8 +57,8 @@ pub(crate) fn parts_tasks<'a>(
     parts: &'a [Exp],
     place: usize,
 ) -> Result<(), Stop>
-    ensures ok { OnOk result (run tasks.new at.now ≡ given (step (PartsTask parts place) at.now) (run tasks.old)) }
-    ensures none { IfErr result (λ stop. stop ≡ NoType → step (PartsTask parts place) at.now ≡ None) }
+    ensures ok { OnOk result (run tasks.new at.now ≡ given (step (PartsTask parts.entry place) at.now) (run tasks.old)) }
+    ensures none { IfErr result (λ stop. stop ≡ NoType → step (PartsTask parts.entry place) at.now ≡ None) }
 {
     let count = at.expect_tuple()?;
     match parts.split_first() {
@@ -87,7 +88,7 @@ pub(crate) fn parts_tasks<'a>(
 /// Expressions against the last type.
 #[tactic(auto, using(crate::proofs::Lists::each_steps))]
 pub(crate) fn each_tasks<'a>(tasks: &mut Stack<Task<'a>>, parts: &'a [Exp]) -> Result<(), Stop>
-    ensures ok { OnOk result ((state : State) → run tasks.new state ≡ given (step (EachTask parts) state) (run tasks.old)) }
+    ensures ok { OnOk result ((state : State) → run tasks.new state ≡ given (step (EachTask parts.entry) state) (run tasks.old)) }
     ensures none { IfErr result (λ stop. stop ≡ NoMemory) }
 {
     match parts.split_first() {
@@ -102,7 +103,7 @@ pub(crate) fn own_parts_tasks<'a>(
     tasks: &mut Stack<Task<'a>>,
     parts: &'a [Exp],
 ) -> Result<(), Stop>
-    ensures ok { OnOk result ((state : State) → run tasks.new state ≡ given (step (OwnPartsTask parts) state) (run tasks.old)) }
+    ensures ok { OnOk result ((state : State) → run tasks.new state ≡ given (step (OwnPartsTask parts.entry) state) (run tasks.old)) }
     ensures none { IfErr result (λ stop. stop ≡ NoMemory) }
 {
     match parts.split_first() {
@@ -118,7 +119,7 @@ pub(crate) fn arms_tasks<'a>(
     tasks: &mut Stack<Task<'a>>,
     arms: &'a [(Pat, Exp)],
 ) -> Result<(), Stop>
-    ensures ok { OnOk result (run tasks.new at.now ≡ given (step (ArmsTask arms) at.now) (run tasks.old)) }
+    ensures ok { OnOk result (run tasks.new at.now ≡ given (step (ArmsTask arms.entry) at.now) (run tasks.old)) }
     ensures none { IfErr result (λ stop. stop ≡ NoMemory) }
 {
     let count = at.environment.variables();
@@ -146,7 +147,7 @@ pub(crate) fn own_each_tasks<'a>(
     tasks: &mut Stack<Task<'a>>,
     parts: &'a [Exp],
 ) -> Result<(), Stop>
-    ensures ok { OnOk result (run tasks.new at.now ≡ given (step (OwnEachTask parts) at.now) (run tasks.old)) }
+    ensures ok { OnOk result (run tasks.new at.now ≡ given (step (OwnEachTask parts.entry) at.now) (run tasks.old)) }
     ensures none { IfErr result (λ stop. stop ≡ NoMemory) }
 {
     let Some(place) = first_closed(at, parts) else {
@@ -177,10 +178,9 @@ pub(crate) fn own_arms_tasks<'a>(
     tasks: &mut Stack<Task<'a>>,
     arms: &'a [(Pat, Exp)],
 ) -> Result<(), Stop>
-    ensures ok { OnOk result (run tasks.new at.now ≡ given (step (OwnArmsTask arms) at.now) (run tasks.old)) }
+    ensures ok { OnOk result (run tasks.new at.now ≡ given (step (OwnArmsTask arms.entry) at.now) (run tasks.old)) }
     ensures none { IfErr result (λ stop. stop ≡ NoMemory) }
 {
-    let count = at.environment.variables();
     let Some(place) = first_closed_arm(at, arms) else {
         return first(
             tasks,
@@ -191,6 +191,27 @@ pub(crate) fn own_arms_tasks<'a>(
     let Some(((pattern, body), behind)) = rest.split_first() else {
         return Err(Stop::NoMemory);
     };
+    parted_arms_tasks(at, tasks, arms, front, pattern, body, behind)
+}
+
+// Alternatives in three parts: those before the first that has a type by itself, its pattern and its body, and the others.
+#[tactic(auto, using(crate::proofs::Lists::own_arms_steps))]
+fn parted_arms_tasks<'a>(
+    at: &Elaboration<'a>,
+    tasks: &mut Stack<Task<'a>>,
+    arms: &'a [(Pat, Exp)],
+    front: &'a [(Pat, Exp)],
+    pattern: &'a Pat,
+    body: &'a Exp,
+    behind: &'a [(Pat, Exp)],
+) -> Result<(), Stop>
+    requires whole { arms.now ≡ front.now ++ (pattern.now, body.now) ∷ behind.now }
+    requires all_open { arm_walks_open (arm_walks at.now.0.2 front.now) ≡ true }
+    requires is_closed { (walk at.now.0.2 body.now).is_open ≡ false }
+    ensures ok { OnOk result (run tasks.new at.now ≡ given (step (OwnArmsTask arms.entry) at.now) (run tasks.old)) }
+    ensures none { IfErr result (λ stop. stop ≡ NoMemory) }
+{
+    let count = at.environment.variables();
     first(
         tasks,
         &[
@@ -199,7 +220,7 @@ pub(crate) fn own_arms_tasks<'a>(
             Task::Leave(count),
             Task::Cores(CoreTask::Arm),
             Task::Arms(front),
-            Task::Cores(CoreTask::LiftArm(place)),
+            Task::Cores(CoreTask::LiftArm(front.len())),
             Task::Arms(behind),
         ],
     )
@@ -212,8 +233,8 @@ pub(crate) fn index_tasks<'a>(
     tasks: &mut Stack<Task<'a>>,
     b: &'a Exp,
 ) -> Result<(), Stop>
-    ensures ok { OnOk result (run tasks.new at.now ≡ given (step (IndexTask b) at.now) (run tasks.old)) }
-    ensures none { IfErr result (λ stop. stop ≡ NoType → step (IndexTask b) at.now ≡ None) }
+    ensures ok { OnOk result (run tasks.new at.now ≡ given (step (IndexTask b.entry) at.now) (run tasks.old)) }
+    ensures none { IfErr result (λ stop. stop ≡ NoType → step (IndexTask b.entry) at.now ≡ None) }
 {
     let count = at.expect_vector()?;
     first(
@@ -237,8 +258,8 @@ pub(crate) fn update_tasks<'a>(
     b: &'a Exp,
     d: &'a Exp,
 ) -> Result<(), Stop>
-    ensures ok { OnOk result (run tasks.new at.now ≡ given (step (UpdateTask b d) at.now) (run tasks.old)) }
-    ensures none { IfErr result (λ stop. stop ≡ NoType → step (UpdateTask b d) at.now ≡ None) }
+    ensures ok { OnOk result (run tasks.new at.now ≡ given (step (UpdateTask b.entry d.entry) at.now) (run tasks.old)) }
+    ensures none { IfErr result (λ stop. stop ≡ NoType → step (UpdateTask b.entry d.entry) at.now ≡ None) }
 {
     let count = at.expect_vector()?;
     first(

@@ -133,7 +133,7 @@ pub(crate) fn raise_with<'a>(
     a: &'a Exp,
 ) -> Result<(), Stop>
     ensures ok { OnOk result (run tasks.new at.new ≡ given (against_of (given (raised_with (exn_named name.now at.old.0.2) (walk at.old.0.2 a.now) at.old.0.0) (λ raised. Some (raise_with_core raised.0 raised.1))) at.old) (run tasks.old)) }
-    ensures none { IfErr result (λ stop. stop ≡ NoType → raised_with (exn_named name.now at.old.0.2) (walk at.old.0.2 a.now) at.old.0.0 ≡ None) }
+    ensures none { IfErr result (λ stop. stop ≡ NoType → given (raised_with (exn_named name.now at.old.0.2) (walk at.old.0.2 a.now) at.old.0.0) (λ raised. Some (raise_with_core raised.0 raised.1)) ≡ None) }
 {
     match at.environment.push_exception(name.bytes())? {
         None => Err(Stop::NoType),

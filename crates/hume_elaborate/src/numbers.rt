@@ -11,7 +11,7 @@ use hume_base::limits::MAX_WIDTH;
 use hume_types::Node;
 
 /// The type of numbers that is written, if it is one.
-#[tactic(auto, using(crate::proofs::Numbers::number_steps))]
+#[tactic(auto, using(crate::proofs::WrittenNumbers::number_steps))]
 pub(crate) fn number_node(ty: &TyExp) -> Option<Node>
     ensures { MatchOption result (IsNoWrittenNumber ty.now) (IsWrittenNumber ty.now) }
 {

@@ -1,5 +1,5 @@
 //! Whether an expression has no type of its own.
-ghost use Rattle.std.specs.Prelude.{◌≡◌, true, MatchOption};
+ghost use Rattle.std.specs.Prelude.{◌≡◌, ◌<◌, true, length, IfSome, MatchOption};
 ghost use Rattle.hume_typing.specs.inner.Walk.{walk, arm_walks_open};
 ghost use Rattle.elaboration_tasks.specs.Tasks.{walks, arm_walks, walks_open};
 ghost use Rattle.hume_elaborate.specs.inner.Open.{is_arithmetic_sign, IsFirstClosed, IsFirstClosedArm};
@@ -64,7 +64,8 @@ fn is_arithmetic(sign: BinOp) -> bool
 /// The place of the first of the expressions that has a type of its own.
 #[tactic(auto, using(crate::proofs::Opening::first_steps))]
 pub(crate) fn first_closed(at: &Elaboration, parts: &[Exp]) -> Option<usize>
-    ensures { MatchOption result (walks_open (walks at.now.0.2 parts.now) ≡ true) (IsFirstClosed at.now.0.2 parts.now) }
+    ensures is { MatchOption result (walks_open (walks at.now.0.2 parts.now) ≡ true) (IsFirstClosed at.now.0.2 parts.now) }
+    ensures within { IfSome result (λ place. place < length parts.now) }
 {
     for place in 0..parts.len() {
         if !is_open(at, &parts[place]) {
@@ -77,7 +78,8 @@ pub(crate) fn first_closed(at: &Elaboration, parts: &[Exp]) -> Option<usize>
 /// The place of the first of the alternatives whose body has a type of its own.
 #[tactic(auto, using(crate::proofs::Opening::first_steps))]
 pub(crate) fn first_closed_arm(at: &Elaboration, arms: &[(Pat, Exp)]) -> Option<usize>
-    ensures { MatchOption result (arm_walks_open (arm_walks at.now.0.2 arms.now) ≡ true) (IsFirstClosedArm at.now.0.2 arms.now) }
+    ensures is { MatchOption result (arm_walks_open (arm_walks at.now.0.2 arms.now) ≡ true) (IsFirstClosedArm at.now.0.2 arms.now) }
+    ensures within { IfSome result (λ place. place < length arms.now) }
 {
     for place in 0..arms.len() {
         if !is_open(at, &arms[place].1) {

@@ -111,8 +111,8 @@ pub(crate) fn match_parts_tasks<'a>(
     parts: &'a [Pat],
     place: usize,
 ) -> Result<(), Stop>
-    ensures ok { OnOk result (run tasks.new at.now ≡ given (step (MatchPartsTask parts place) at.now) (run tasks.old)) }
-    ensures none { IfErr result (λ stop. stop ≡ NoType → step (MatchPartsTask parts place) at.now ≡ None) }
+    ensures ok { OnOk result (run tasks.new at.now ≡ given (step (MatchPartsTask parts.entry place) at.now) (run tasks.old)) }
+    ensures none { IfErr result (λ stop. stop ≡ NoType → step (MatchPartsTask parts.entry place) at.now ≡ None) }
 {
     let count = at.expect_tuple()?;
     match parts.split_first() {

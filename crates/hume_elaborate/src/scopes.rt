@@ -11,7 +11,7 @@ use std::alloc::Global;
 
 impl<'a> Elaboration<'a> {
     pub(crate) fn enter(&mut self, name: &'a [u8]) -> Result<(), Stop>
-        ensures ok { OnOk result (step (EnterTask name) self.old ≡ Some self.new) }
+        ensures ok { OnOk result (step (EnterTask name.entry) self.old ≡ Some self.new) }
         ensures none { IfErr result (λ stop. stop ≡ NoMemory) }
     {
         self.environment.enter(name)?;

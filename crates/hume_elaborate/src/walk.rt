@@ -49,8 +49,8 @@ pub fn perform_one<'a>(
     at: &mut Elaboration<'a>,
     task: Task<'a>,
 ) -> Result<(), Stop>
-    ensures ok { OnOk result (step task at.old ≡ Some at.new) }
-    ensures none { IfErr result (λ stop. stop ≡ NoType → step task at.old ≡ None) }
+    ensures ok { OnOk result (step task.entry at.old ≡ Some at.new) }
+    ensures none { IfErr result (λ stop. stop ≡ NoType → step task.entry at.old ≡ None) }
 {
     let mut tasks = Stack::new(alloc);
     tasks.push(task)?;
@@ -64,8 +64,8 @@ fn run_all<'a>(
     at: &mut Elaboration<'a>,
     mut tasks: Stack<Task<'a>>,
 ) -> Result<(), Stop>
-    ensures ok { OnOk result (run tasks at.old ≡ Some at.new) }
-    ensures none { IfErr result (λ stop. stop ≡ NoType → run tasks at.old ≡ None) }
+    ensures ok { OnOk result (run tasks.entry at.old ≡ Some at.new) }
+    ensures none { IfErr result (λ stop. stop ≡ NoType → run tasks.entry at.old ≡ None) }
 {
     for _ in 0..usize::MAX {
         match tasks.pop() {
@@ -84,8 +84,8 @@ fn perform<'a>(
     tasks: &mut Stack<Task<'a>>,
     task: Task<'a>,
 ) -> Result<(), Stop>
-    ensures ok { OnOk result (run tasks.new at.new ≡ given (step task at.old) (run tasks.old)) }
-    ensures none { IfErr result (λ stop. stop ≡ NoType → step task at.old ≡ None) }
+    ensures ok { OnOk result (run tasks.new at.new ≡ given (step task.entry at.old) (run tasks.old)) }
+    ensures none { IfErr result (λ stop. stop ≡ NoType → step task.entry at.old ≡ None) }
 {
     match task {
         Task::Own(e) => own_tasks(at, tasks, e),

@@ -1,9 +1,8 @@
-use Rattle.std.proofs.Common.{refl, ap, ◌∙◌}
-use Rattle.std.proofs.lemmas.Result.{on_ok_weaker}
-use Rattle.hume_typing.specs.Partial.{given}
-use Rattle.elaboration_tasks.specs.Tasks.{run}
+use Rattle.std.proofs.Common.{refl}
 use Rattle.elaboration_tasks.proofs.WholeLaws.{case_own}
+use Rattle.hume_elaborate.proofs.Forms.{comes_to}
+use Rattle.hume_elaborate.proofs.PlanLists.{case_own_plan}
 use Rattle.hume_elaborate.proofs.own_forms.case_own.Goals as goal
 
 pub returns-clause-ok : goal.returns-clause-ok
-returns-clause-ok c = on_ok_weaker _ (λ runs. runs c.args.at.now ∙ ap (λ o. given o (run c.args.tasks.now)) (case_own c.args.at.now c.args.a c.args.arms _ refl)) c.first.ensures.ok
+returns-clause-ok c = comes_to c.first.result c.first.new.tasks (case_own_plan c.args.a c.args.arms) c.args.tasks.now c.args.at.now _ (case_own c.args.at.now c.args.a c.args.arms _ refl) c.first.ensures.ok

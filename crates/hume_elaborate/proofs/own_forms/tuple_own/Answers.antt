@@ -1,9 +1,8 @@
-use Rattle.std.proofs.Common.{refl, ap, ◌∙◌}
-use Rattle.std.proofs.lemmas.Result.{on_ok_weaker}
-use Rattle.hume_typing.specs.Partial.{given}
-use Rattle.elaboration_tasks.specs.Tasks.{run}
+use Rattle.std.proofs.Common.{refl}
 use Rattle.elaboration_tasks.proofs.WholeLaws.{tuple_own}
+use Rattle.hume_elaborate.proofs.Forms.{comes_to}
+use Rattle.hume_elaborate.proofs.PlanLists.{tuple_own_plan}
 use Rattle.hume_elaborate.proofs.own_forms.tuple_own.Goals as goal
 
 pub returns-clause-ok : goal.returns-clause-ok
-returns-clause-ok c = on_ok_weaker _ (λ runs. runs c.args.at.now ∙ ap (λ o. given o (run c.args.tasks.now)) (tuple_own c.args.at.now c.args.parts _ refl)) c.first.ensures.ok
+returns-clause-ok c = comes_to c.first.result c.first.new.tasks (tuple_own_plan c.args.parts) c.args.tasks.now c.args.at.now _ (tuple_own c.args.at.now c.args.parts _ refl) c.first.ensures.ok
