@@ -6,7 +6,7 @@ use Rattle.hume_base.specs.declared.types.Ty.{Ty, Tuple as TupleTy}
 use Rattle.hume_base.specs.declared.types.Types.{Types}
 use Rattle.hume_ast.specs.declared.tree.TyExp.{TyExp}
 use Rattle.hume_typing.specs.Partial.{given}
-use Rattle.hume_typing.specs.WrittenTypes.{all_there, written, all_written}
+use Rattle.hume_typing.specs.WrittenTypes.{all_there, written}
 use Rattle.hume_typing.specs.Declarations.{ports_written}
 use Rattle.elaboration_tasks.proofs.Given.{given_some, given_none}
 use Rattle.hume_environment.specs.Known.{Known, with_type}

@@ -1,8 +1,9 @@
 //! Boxes from their ports, rules and handlers to cores.
-ghost use Rattle.std.specs.Prelude.{◌≡◌, Some, None, OnOk, IfOk, IfErr};
+ghost use Rattle.std.specs.Prelude.{◌≡◌, [], Some, None, OnOk, IfOk, IfErr};
 ghost use Rattle.hume_typing.specs.inner.DeclarationWalk.{box_walk};
 ghost use Rattle.hume_elaborate.specs.declared.stop.Stop.TheVariants.{NoType};
 ghost use Rattle.hume_boxes.specs.Boxes.{box_found};
+ghost use Rattle.hume_boxes.specs.inner.Ports.{ported, unported};
 
 use crate::handlers::handler_cores;
 use crate::ports::push_ports;
@@ -38,17 +39,39 @@ pub fn box_cores<'a>(
     ensures ok { IfOk result (λ found. box_found (box_walk at.old.0.0.2 inputs.now outputs.now rules.now handlers.now) ≡ Some (found.rules, found.handlers, found.too_wide)) }
     ensures none { IfErr result (λ stop. stop ≡ NoType → box_walk at.old.0.0.2 inputs.now outputs.now rules.now handlers.now ≡ None) }
 {
-    if at.plain.environment.variables() != 0 {
-        return Err(Stop::NoMemory);
-    }
-    push_ports(&mut at.plain.environment, inputs, outputs)?;
+    enter_ports(at, inputs, outputs)?;
     let (rules, wide_in_rules) = rule_cores(alloc, at, rules)?;
     let (handlers, wide_in_handlers) = handler_cores(alloc, at, handlers)?;
-    at.plain.environment.pop();
-    at.plain.environment.pop();
+    leave_ports(at);
     Ok(BoxCores {
         rules,
         handlers,
         too_wide: wide_in_rules || wide_in_handlers,
     })
+}
+
+// Puts the types of the ports on the stack, where no variable is in scope.
+#[tactic(auto, using(crate::proofs::BoxLaws::enter_steps))]
+fn enter_ports(
+    at: &mut ResultElaboration,
+    inputs: &[(Text, TyExp)],
+    outputs: &[(Text, TyExp)],
+) -> Result<(), Stop>
+    ensures scope { OnOk result (at.old.0.0.0 ≡ []) }
+    ensures ok { OnOk result (ported inputs.now outputs.now at.old ≡ Some at.new) }
+    ensures none { IfErr result (λ stop. stop ≡ NoType → ported inputs.now outputs.now at.old ≡ None) }
+{
+    if at.plain.environment.variables() != 0 {
+        return Err(Stop::NoMemory);
+    }
+    push_ports(&mut at.plain.environment, inputs, outputs)?;
+    Ok(())
+}
+
+// Takes the types of the ports off.
+fn leave_ports(at: &mut ResultElaboration)
+    ensures { at.new ≡ unported at.old }
+{
+    at.plain.environment.pop();
+    at.plain.environment.pop();
 }

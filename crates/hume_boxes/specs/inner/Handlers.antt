@@ -1,8 +1,6 @@
 -- Handlers of the box whose types are the last ones of a state.
-use Rattle.std.specs.Prelude.{◌++◌, ℕ, Bool, List, Option, Some, None}
-use Rattle.hume_base.specs.declared.types.Ty.{Ty}
+use Rattle.std.specs.Prelude.{◌++◌, ℕ, Bool, List, Option, Some}
 use Rattle.hume_ast.specs.declared.tree.Pat.{Pat, out-Pat}
-use Rattle.hume_ast.specs.declared.tree.Exp.{Exp}
 use Rattle.hume_model.specs.declared.core_tree.ExnDef.{ExnDef}
 use Rattle.hume_types.specs.Contexts.{top, below}
 use Rattle.hume_typing.specs.Partial.{given}
@@ -13,7 +11,7 @@ use Rattle.hume_typing.specs.inner.ResultWalk.{result_walk}
 use Rattle.hume_typing.specs.inner.DeclarationWalk.{found_of_all}
 use Rattle.hume_environment.specs.Known.{Known}
 use Rattle.result_tasks.specs.ResultStates.{ResultState, with_plain, with_result}
-use Rattle.result_tasks.specs.ResultTasks.{scope_of, types_of, signatures_of, last_outputs}
+use Rattle.result_tasks.specs.ResultTasks.{scope_of, signatures_of, last_outputs}
 use Rattle.hume_boxes.specs.inner.Rules.{with_variables}
 
 -- what the pattern says of what is carried, of the last type: whether it binds that, and the variable in scope; the type goes

@@ -1,7 +1,7 @@
 -- Rules of the box whose types are the last ones of a state: those of its inputs as one tuple, and on top of it those of its
 -- outputs.
 use Rattle.std.specs.Prelude.{◌≡◌, ◌++◌, ◌||◌, ℕ, Bool, List, length, drop, Option, Some, None}
-use Rattle.hume_base.specs.declared.types.Ty.{Ty, out-Ty}
+use Rattle.hume_base.specs.declared.types.Ty.{out-Ty}
 use Rattle.hume_ast.specs.declared.tree.Pat.{Pat}
 use Rattle.hume_ast.specs.declared.tree.Pat.TheOpen.{Pat-F}
 use Rattle.hume_ast.specs.declared.tree.Exp.{Exp}
