@@ -13,7 +13,7 @@ use std::marker::Model;
 /// What is known where an elaboration of results stands, and the cores that it has made so far.
 #[derive(Drop)]
 pub struct ResultElaboration<'a> {
-    pub(crate) plain: Elaboration<'a>,
+    pub plain: Elaboration<'a>,
     pub(crate) builder: ResultBuilder,
 }
 
