@@ -1,3 +1,0 @@
-pub mod Handlers
-pub mod Ports
-pub mod Rules
