@@ -1,0 +1,3 @@
+pub mod Handlers
+pub mod Ports
+pub mod Rules
