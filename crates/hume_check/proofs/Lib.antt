@@ -1,31 +1,31 @@
-mod InPlace
-mod TypesOnce
-mod SignaturesOnce
-mod CoresOnce
-mod OneFinding
-mod Stands
-mod CoreTyped
-mod OrderedPlaces
-mod Mentioned
-mod TypesOrdered
-mod BoxFrames
-mod FormsCall
-mod FunctionsOrdered
-mod WiresJoin
-mod TypesWritten
-mod PortsWritten
-mod CountsWithin
-mod DataOnce
-mod DataWritten
-mod FirstValues
-mod WiresEnd
-mod FunctionsWithin
-mod SmallParts
-mod SmallNodes
-mod WordsWithin
-mod PatternsWritten
-mod FormsWritten
-mod ExpressionsWritten
-mod ResultsWritten
-mod DeclarationsWritten
-mod WellFormed
+pub mod InPlace
+pub mod TypesOnce
+pub mod SignaturesOnce
+pub mod CoresOnce
+pub mod OneFinding
+pub mod Stands
+pub mod CoreTyped
+pub mod OrderedPlaces
+pub mod Mentioned
+pub mod TypesOrdered
+pub mod BoxFrames
+pub mod FormsCall
+pub mod FunctionsOrdered
+pub mod WiresJoin
+pub mod TypesWritten
+pub mod PortsWritten
+pub mod CountsWithin
+pub mod DataOnce
+pub mod DataWritten
+pub mod FirstValues
+pub mod WiresEnd
+pub mod FunctionsWithin
+pub mod SmallParts
+pub mod SmallNodes
+pub mod WordsWithin
+pub mod PatternsWritten
+pub mod FormsWritten
+pub mod ExpressionsWritten
+pub mod ResultsWritten
+pub mod DeclarationsWritten
+pub mod WellFormed
