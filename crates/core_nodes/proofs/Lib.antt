@@ -1,0 +1,5 @@
+pub mod BoxLaws
+pub mod FunctionLaws
+pub mod Gathered
+pub mod NodeLaws
+pub mod PortLaws

@@ -1,0 +1,2 @@
+pub mod Untyped
+pub mod inner

@@ -1,0 +1,3 @@
+pub mod FoundEnds
+pub mod FoundWires
+pub mod NamedNodes

@@ -1,0 +1,6 @@
+mod Orders
+mod Places
+mod Ends
+mod Wires
+mod Signatures
+mod Cores

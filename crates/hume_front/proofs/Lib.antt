@@ -1,0 +1,4 @@
+pub mod CoreRules
+pub mod Lines
+pub mod ProgramRules
+pub mod Sources

@@ -1,0 +1,86 @@
+-- Which sources are accepted, and which rule a source breaks that isn't.
+use Rattle.std.specs.Prelude.{ℕ, ◌≤◌, ◌<◌, List, length, None}
+use Rattle.hume_base.specs.declared.limits.TheConstants.{MAX_SOURCE_BYTES}
+use Rattle.hume_base.specs.declared.finding.Finding.{Finding}
+use Rattle.hume_base.specs.declared.rule.Rule.{Rule}
+use Rattle.hume_base.specs.declared.rule.Rule.TheVariants.{C10, C11, C12, C20, C70, C71, C77}
+use Rattle.hume_base.specs.declared.rule.Refusal.{Refusal}
+use Rattle.hume_base.specs.declared.token.Token.{Token}
+use Rattle.hume_base.specs.Least.{IsLeast}
+use Rattle.hume_base.specs.Places.{line_at}
+use Rattle.hume_ast.specs.declared.tree.Program.{Program}
+use Rattle.hume_ast.specs.Places.{StandsFor}
+use Rattle.hume_lex.specs.declared.lexer.LexError.{LexError}
+use Rattle.hume_lex.specs.declared.lexer.LexError.TheVariants as lexical
+use Rattle.hume_lex.specs.BadPlaces.{IsRead, IsBadPlace, bad_place}
+use Rattle.hume_parse.specs.declared.parser.ParseError.{ParseError}
+use Rattle.hume_parse.specs.declared.parser.ParseError.TheVariants as syntactic
+use Rattle.hume_parse.specs.Parsing.{IsWrongPlace}
+use Rattle.hume_model.specs.declared.core_tree.Core.{Core}
+use Rattle.hume_model.specs.WireRules.{BreaksWires}
+use Rattle.hume_model.specs.HandlerRules.{BreaksHandlers}
+use Rattle.hume_check.specs.CoreOf.{IsCoreOf}
+use Rattle.hume_check.specs.CheckRules.{BreaksCheck}
+use Rattle.wiring_check.specs.Wires.{IsWiringOf}
+use Rattle.program_check.specs.Refused.{IsRefusedFor}
+use Rattle.hume_front.specs.declared.acceptance.Accepted.{Accepted}
+use Rattle.hume_front.specs.declared.acceptance.FrontError.{FrontError}
+use Rattle.hume_front.specs.declared.acceptance.FrontError.TheVariants.{Refused, NoMemory}
+
+-- what a core breaks: the rules on its wires, and those on exceptions
+pub data BreaksCore (core : Core) (f : Finding) : Type 0 where
+  wires : BreaksWires core f → BreaksCore core f
+  handlers : BreaksHandlers core f → BreaksCore core f
+
+-- what a program breaks, and what its core does
+pub data BreaksProgram (text : List ℕ) (program : Program) (f : Finding) : Type 0 where
+  check : BreaksCheck program.decls f → BreaksProgram text program f
+  core : (core : Core) → IsCoreOf text program core → BreaksCore core f → BreaksProgram text program f
+
+abbrev pub rule_of_lexer : LexError → Rule
+rule_of_lexer (lexical.BadChar place) = C10
+rule_of_lexer (lexical.BadNumber place) = C11
+rule_of_lexer (lexical.LongName place) = C12
+rule_of_lexer (lexical.TooManyTokens place) = C71
+rule_of_lexer lexical.NoMemory = C10
+
+abbrev pub rule_of_parser : ParseError → Rule
+rule_of_parser (syntactic.Syntax place) = C20
+rule_of_parser (syntactic.Deep place) = C77
+rule_of_parser syntactic.NoMemory = C20
+
+abbrev pub wrong_place : ParseError → ℕ
+wrong_place (syntactic.Syntax place) = place
+wrong_place (syntactic.Deep place) = place
+wrong_place syntactic.NoMemory = 0
+
+-- the source is short enough, its tokens are within the limits, and they stand for the program
+pub record IsProgramOf (text : List ℕ) (program : Program) : Type 0 where
+  pub short : length text ≤ MAX_SOURCE_BYTES
+  pub tokens : List Token
+  pub read : IsRead text tokens
+  pub spelled : StandsFor tokens program
+
+-- The source has a program that breaks no rule, the program's core, and the wires of the core's inputs and outputs.
+pub record IsAccepted (text : List ℕ) (accepted : Accepted) : Type 0 where
+  pub program : IsProgramOf text accepted.program
+  pub fine : IsLeast (BreaksProgram text accepted.program) None
+  pub core : IsCoreOf text accepted.program accepted.core
+  pub wiring : IsWiringOf accepted.core accepted.wiring
+
+-- The least rule that the source breaks: it is too long; or else its first bad place is one of the lexer's; or else its
+-- tokens stand for no program; or else the least of the rules that its program breaks.
+pub data Breaks (text : List ℕ) : Refusal → Type 0 where
+  too_long : MAX_SOURCE_BYTES < length text → Breaks text (record { rule = C70; line = 1 })
+  bad_token : length text ≤ MAX_SOURCE_BYTES → (error : LexError) → IsBadPlace text error
+      → Breaks text (record { rule = rule_of_lexer error; line = line_at text (bad_place error) })
+  no_program : length text ≤ MAX_SOURCE_BYTES → (tokens : List Token) → IsRead text tokens
+      → (error : ParseError) → IsWrongPlace tokens (length text) error
+      → Breaks text (record { rule = rule_of_parser error; line = line_at text (wrong_place error) })
+  in_program : (program : Program) → IsProgramOf text program
+      → (refusal : Refusal) → IsRefusedFor (BreaksProgram text program) text program.decls refusal → Breaks text refusal
+
+-- a source isn't accepted for a rule that it breaks, or for want of memory
+abbrev pub IsUnaccepted : List ℕ → FrontError → Type 0
+IsUnaccepted text (Refused refusal) = Breaks text refusal
+IsUnaccepted text NoMemory = Unit {0}

@@ -1,0 +1,23 @@
+-- What is found of a core, and of a program.
+use Rattle.std.specs.Prelude.{ℕ, List, None}
+use Rattle.hume_base.specs.Least.{IsLeast}
+use Rattle.hume_ast.specs.declared.tree.Program.{Program}
+use Rattle.hume_model.specs.declared.core_tree.Core.{Core}
+use Rattle.hume_model.specs.Declarations.{IsRefusal}
+use Rattle.hume_check.specs.CoreOf.{IsCoreOf}
+use Rattle.wiring_check.specs.Wires.{IsWiringOf}
+use Rattle.hume_front.specs.Accepted.{BreaksCore, BreaksProgram}
+use Rattle.hume_front.specs.declared.acceptance.FrontError.{FrontError}
+use Rattle.hume_front.specs.declared.acceptance.FrontError.TheVariants.{Refused, NoMemory}
+use Rattle.hume_front.specs.declared.program_rules.Checked.{Checked}
+
+-- the least rule that the core breaks is refused, or memory is wanting
+abbrev pub IsCoreError : Core → FrontError → Type 0
+IsCoreError core (Refused refusal) = IsRefusal core (BreaksCore core) refusal
+IsCoreError core NoMemory = Unit {0}
+
+-- the program breaks no rule, and has this core and these wires
+pub record IsChecked (text : List ℕ) (program : Program) (checked : Checked) : Type 0 where
+  pub fine : IsLeast (BreaksProgram text program) None
+  pub core : IsCoreOf text program checked.core
+  pub wiring : IsWiringOf checked.core checked.wiring

@@ -1,0 +1,25 @@
+//! Laws of the definitions, as contracts of functions that do nothing.
+ghost use Rattle.std.specs.Prelude.{◌≡◌, ℕ, List, Some, slice_get};
+ghost use Rattle.hume_ast.specs.declared.tree.Program.{Program};
+ghost use Rattle.hume_model.specs.declared.core_tree.BoxC.{BoxC};
+ghost use Rattle.hume_model.specs.declared.core_tree.NodeC.TheVariants.{Rules};
+ghost use Rattle.hume_model.specs.Handling.{HandlesAll};
+ghost use Rattle.hume_model.specs.WellFormed.{IsWellFormed};
+ghost use Rattle.hume_model.specs.Wiring.{IsWired, WiresAgree};
+ghost use Rattle.hume_front.specs.declared.acceptance.Accepted.{Accepted};
+ghost use Rattle.hume_front.specs.Accepted.{IsProgramOf, IsAccepted};
+
+/// A source stands for one program at most, and one that is accepted has one core.
+pub fn one_program()
+    ensures program { (text : List ℕ) (first second : Program) → IsProgramOf text first → IsProgramOf text second → first ≡ second }
+    ensures core { (text : List ℕ) (first second : Accepted) → IsAccepted text first → IsAccepted text second → first.core ≡ second.core }
+{}
+
+/// The core of an accepted source is well-formed, each of its inputs and outputs has one wire between equal types, and its
+/// boxes handle all that they raise.
+pub fn accepted_cores_are_sound()
+    ensures formed { (text : List ℕ) (accepted : Accepted) → IsAccepted text accepted → IsWellFormed accepted.core }
+    ensures wired { (text : List ℕ) (accepted : Accepted) → IsAccepted text accepted → IsWired accepted.core × WiresAgree accepted.core }
+    ensures handled { (text : List ℕ) (accepted : Accepted) → IsAccepted text accepted
+        → (n : ℕ) (b : BoxC) → slice_get accepted.core.nodes n ≡ Some (Rules b) → HandlesAll accepted.core b }
+{}

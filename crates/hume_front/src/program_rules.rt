@@ -1,0 +1,57 @@
+//! The rules that are asked of a program and of its core.
+ghost use Rattle.std.specs.Prelude.{None, IfOk, IfErr};
+ghost use Rattle.hume_base.specs.Least.{IsLeast};
+ghost use Rattle.hume_check.specs.CheckRules.{BreaksCheck};
+ghost use Rattle.hume_check.specs.CoreOf.{IsCoreOf};
+ghost use Rattle.hume_front.specs.Accepted.{IsProgramOf, IsUnaccepted};
+ghost use Rattle.hume_front.specs.inner.Checked.{IsChecked};
+
+use crate::acceptance::FrontError;
+use crate::core_rules::check_core;
+use hume_ast::Program;
+use hume_model::Core;
+use program_checking::{CheckError, check};
+use std::alloc::Global;
+use wiring_check::Wiring;
+
+/// The core of a program, and the wires of its inputs and outputs.
+#[derive(Drop)]
+pub(crate) struct Checked {
+    pub(crate) core: Core,
+    pub(crate) wiring: Wiring,
+}
+
+/// The core of the program of a source and its wiring, if the program breaks no rule.
+pub(crate) fn check_program(
+    alloc: Global,
+    text: &[u8],
+    program: &Program,
+) -> Result<Checked, FrontError>
+    requires { IsProgramOf text.now program.now }
+    ensures checked { IfOk result (IsChecked text.now program.now) }
+    ensures error { IfErr result (IsUnaccepted text.now) }
+{
+    match check(alloc, program, text) {
+        Ok(core) => with_wiring(alloc, text, program, core),
+        Err(CheckError::Refused(refusal)) => Err(FrontError::Refused(refusal)),
+        Err(CheckError::NoMemory) => Err(FrontError::NoMemory),
+    }
+}
+
+fn with_wiring(
+    alloc: Global,
+    text: &[u8],
+    program: &Program,
+    core: Core,
+) -> Result<Checked, FrontError>
+    requires program { IsProgramOf text.now program.now }
+    requires fine { IsLeast (BreaksCheck program.now.decls) None }
+    requires core { IsCoreOf text.now program.now core }
+    ensures checked { IfOk result (IsChecked text.now program.now) }
+    ensures error { IfErr result (IsUnaccepted text.now) }
+{
+    match check_core(alloc, &core) {
+        Ok(wiring) => Ok(Checked { core, wiring }),
+        Err(error) => Err(error),
+    }
+}

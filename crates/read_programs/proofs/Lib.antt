@@ -1,0 +1,3 @@
+pub mod SmallKinds
+pub mod Names
+pub mod Lengths

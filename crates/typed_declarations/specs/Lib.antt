@@ -1,0 +1,2 @@
+pub mod Mistyped
+pub mod inner
