@@ -1,6 +1,6 @@
 #!/usr/bin/env bash
 # sources.sh FOLDER: writes sources NAME.hume into the folder, and a line for each: `NAME CODE LINE` where it is refused,
-# `NAME accepted` where the grammar takes it. What is refused stands in a line of its own, so that the line shows the place.
+# `NAME grammatical` where the grammar takes it. What is refused stands in a line of its own, so that the line shows the place.
 set -euo pipefail
 export LC_ALL=C
 folder=$1
@@ -9,10 +9,10 @@ put() {
     printf '%s' "$2" >"$folder/$1.hume"
 }
 
-# accepted NAME TEXT
-accepted() {
+# grammatical NAME TEXT
+grammatical() {
     put "$1" "$2"
-    printf '%s accepted\n' "$1"
+    printf '%s grammatical\n' "$1"
 }
 
 # refused NAME CODE FRONT TOKEN END: the token is reported
@@ -45,22 +45,22 @@ words() {
     done
 }
 
-# nest NAME FRONT MOST BEFORE TOKEN BEHIND MIDDLE CLOSE END: so many pieces, each the three texts, are accepted, and one more
+# nest NAME FRONT MOST BEFORE TOKEN BEHIND MIDDLE CLOSE END: so many pieces, each the three texts, are grammatical, and one more
 # is refused as too deep at its token
 nest() {
     local name=$1 front=$2 most=$3 piece=$4$5$6
-    accepted "$name-fits" "$front$(times "$piece" "$most")$7$(times "$8" "$most")$9"
+    grammatical "$name-fits" "$front$(times "$piece" "$most")$7$(times "$8" "$most")$9"
     refused "$name-deep" 77 "$front$(times "$piece" "$most")$4" "$5" "$6$7$(times "$8" $((most + 1)))$9"
 }
 
 # cuts NAME SOURCE ANSWERS: each front of the source, by what is reported of it: e the end, t its last token, l that its bytes are
-# no tokens, a that it is accepted
+# no tokens, a that it is grammatical
 cuts() {
     local name=$1 source=$2 answers=$3 count front
     for ((count = 1; count <= ${#source}; count++)); do
         front=${source:0:count}
         case ${answers:count-1:1} in
-        a) accepted "$name-$count" "$front" ;;
+        a) grammatical "$name-$count" "$front" ;;
         e) early "$name-$count" "$front" ;;
         t) refused "$name-$count" 20 "${front% *}" "${front##* }" '' ;;
         l) put "$name-$count" "$front" && printf '%s-%s 10 1\n' "$name" "$count" ;;
@@ -73,28 +73,28 @@ left='f :: bool -> bool; f '
 constructor='data D = A '
 
 # Declarations.
-accepted smallest-1 ''
-accepted smallest-2 'data D = A;'
-accepted smallest-3 ' exception E;'
-accepted smallest-4 'f :: bool -> bool; f x = x;'
-accepted smallest-5 'box b in (x :: bool) out (y :: bool) match (x) -> x;'
-accepted smallest-6 'box b in (x :: bool) out (y :: bool) fair (_) -> *;'
-accepted smallest-7 'stream s from "i";'
-accepted smallest-8 'stream s to "o";'
-accepted smallest-9 'wire a to b;'
-accepted options-1 'data D = A | B (int 8, nat 16) vector 2 of char D | C bool;'
-accepted options-2 'exception E (int 8, vector 2 of bool);'
-accepted options-3 "f :: int 8 -> D -> (bool, char) -> bool; f 0 A (true, 'c') = true; f (-1) (B x _) (_, _) = false;"
-accepted options-4 'f :: bool -> bool; f false = case true of false -> true | _ -> false end;'
-accepted options-5 'box b in (x :: bool, z :: int 8) out (y :: bool, w :: D) fair (x, *) -> (x, A) | (_*, 1) -> (*, raise E 1) | (true, (A x)) -> f x handle E e -> (e, *) | F _ -> * | G -> (true, A);'
-accepted options-6 'wire a.x to b.y initial (1 as nat 8) + 2;'
-accepted options-7 'wire a to b.y initial <<1, 2>>;'
-accepted three-1 'exception E (bool, int 8, D);'
-accepted three-2 'f :: (bool, char, D) -> bool; f (x, _, A y) = x;'
-accepted three-3 'box b in (x :: bool, y :: bool, z :: D) out (w :: bool) fair (*, _*, A x) -> x;'
-accepted functions-1 'f :: bool -> bool; f true = false; f x = x; g :: bool -> bool; g x = x; g y = y; h :: bool -> bool; h x = x;'
-accepted functions-2 'data D = A; f :: D -> bool; f A = true; stream s from "i"; g :: D -> D; g x = x; exception E;'
-accepted functions-3 'f :: bool -> bool; g x = x; h y = y; data D = A;'
+grammatical smallest-1 ''
+grammatical smallest-2 'data D = A;'
+grammatical smallest-3 ' exception E;'
+grammatical smallest-4 'f :: bool -> bool; f x = x;'
+grammatical smallest-5 'box b in (x :: bool) out (y :: bool) match (x) -> x;'
+grammatical smallest-6 'box b in (x :: bool) out (y :: bool) fair (_) -> *;'
+grammatical smallest-7 'stream s from "i";'
+grammatical smallest-8 'stream s to "o";'
+grammatical smallest-9 'wire a to b;'
+grammatical options-1 'data D = A | B (int 8, nat 16) vector 2 of char D | C bool;'
+grammatical options-2 'exception E (int 8, vector 2 of bool);'
+grammatical options-3 "f :: int 8 -> D -> (bool, char) -> bool; f 0 A (true, 'c') = true; f (-1) (B x _) (_, _) = false;"
+grammatical options-4 'f :: bool -> bool; f false = case true of false -> true | _ -> false end;'
+grammatical options-5 'box b in (x :: bool, z :: int 8) out (y :: bool, w :: D) fair (x, *) -> (x, A) | (_*, 1) -> (*, raise E 1) | (true, (A x)) -> f x handle E e -> (e, *) | F _ -> * | G -> (true, A);'
+grammatical options-6 'wire a.x to b.y initial (1 as nat 8) + 2;'
+grammatical options-7 'wire a to b.y initial <<1, 2>>;'
+grammatical three-1 'exception E (bool, int 8, D);'
+grammatical three-2 'f :: (bool, char, D) -> bool; f (x, _, A y) = x;'
+grammatical three-3 'box b in (x :: bool, y :: bool, z :: D) out (w :: bool) fair (*, _*, A x) -> x;'
+grammatical functions-1 'f :: bool -> bool; f true = false; f x = x; g :: bool -> bool; g x = x; g y = y; h :: bool -> bool; h x = x;'
+grammatical functions-2 'data D = A; f :: D -> bool; f A = true; stream s from "i"; g :: D -> D; g x = x; exception E;'
+grammatical functions-3 'f :: bool -> bool; g x = x; h y = y; data D = A;'
 refused wrong-1 20 'stream s from "i" ; wire s' 't' ''
 refused wrong-2 20 'f' 'x' '= x;'
 refused wrong-3 20 'f :: bool -> bool;' 'data' 'D = A;'
@@ -111,9 +111,9 @@ refused wrong-13 20 'wire a.b' '.' 'c to d;'
 refused wrong-14 20 'wire a to b;' ';' ''
 
 # How many values a wire holds: any number of 64 bits, before the first value, and nothing but a number.
-accepted depth-1 'wire a to b @ 2;'
-accepted depth-2 'wire a.x to b.y @ 0 initial 1;'
-accepted depth-3 'wire a.x to b@18446744073709551615 initial v @ 2;'
+grammatical depth-1 'wire a to b @ 2;'
+grammatical depth-2 'wire a.x to b.y @ 0 initial 1;'
+grammatical depth-3 'wire a.x to b@18446744073709551615 initial v @ 2;'
 refused depth-4 11 'wire a to b @' 18446744073709551616 ';'
 refused depth-5 20 'wire a to b @' ';' ''
 refused depth-6 20 'wire a to b @' initial '1;'
@@ -126,7 +126,7 @@ refused depth-12 20 'wire a to b @ 2' @ '2;'
 refused depth-13 20 'wire a to b @ 2' 2 ';'
 refused depth-14 20 'wire a' @ '2 to b;'
 refused depth-15 20 'wire a to b initial' @ '2;'
-accepted depth-16 'wire a to b initial 1 @ 2;'
+grammatical depth-16 'wire a to b initial 1 @ 2;'
 early depth-17 'wire a to b @'
 early depth-18 'wire a to b @ 2'
 
@@ -142,8 +142,8 @@ others=(or and + - '*' div mod @)
 for first in "${compares[@]}" "${others[@]}"; do
     for second in "${others[@]}"; do
         count=$((${count-0} + 1))
-        accepted "group-$count" "${equation}a $first b $second c;"
-        accepted "group-$count-turned" "${equation}a $second b $first c;"
+        grammatical "group-$count" "${equation}a $first b $second c;"
+        grammatical "group-$count-turned" "${equation}a $second b $first c;"
     done
 done
 for first in "${compares[@]}"; do
@@ -154,7 +154,7 @@ for text in '- 1' '- x' '- ( 1 )' '- - 1' '- f x @ 2' '- 1 - - 2' 'x - 1' 'f ( -
     'let x = 1 in x + 2' 'if true then a else b or c' 'case x of 0 -> a | 1 -> b | 2 -> c end' 'raise Full' \
     'update v i ( x )' 'f x ( g y ) Nil' "Pair 1 'c'" '( a , b , c )' '( a as nat 8 )' '<< a >>' '<< a , 1 >>' '*' '* * *' \
     '( a )' '( ( a ) )' '( a * b ) + c' 'f ( x )'; do
-    accepted "form-$((count += 1))" "$equation$text;"
+    grammatical "form-$((count += 1))" "$equation$text;"
 done
 refused form-wrong-1 20 "${equation}let x" 1 'in x;'
 refused form-wrong-2 20 "${equation}( a ," ')' ';'
@@ -167,7 +167,7 @@ early form-end-1 "$equation"
 early form-end-2 "${equation}if a then b"
 early form-end-3 "${equation}case x of 0 -> a |"
 
-# Depth: what is 64 deep is accepted.
+# Depth: what is 64 deep is grammatical.
 nest parens "$equation" 63 '' '(' '' x ')' ';'
 nest let-body "$equation" 63 '' let ' y = x in ' x '' ';'
 nest let-value "$equation" 63 '' let ' y = ' x ' in y' ';'
@@ -188,17 +188,17 @@ for operator in "${others[@]}"; do
 done
 # The sum of 64 names is 64 deep. What binds tighter than it makes it no deeper.
 for operator in == '<' '>=' and or -; do
-    accepted "sum-$((count += 1))-fits" "$equation$(times 'x + ' 62)x $operator x;"
+    grammatical "sum-$((count += 1))-fits" "$equation$(times 'x + ' 62)x $operator x;"
     refused "sum-$count-deep" 77 "$equation$(times 'x + ' 63)x" "$operator" 'x;'
 done
 for text in 'x * y' 'x mod y' 'x @ y' 'x y' '- x' 'not x'; do
-    accepted "sum-$((count += 1))" "$equation$(times 'x + ' 63)$text;"
+    grammatical "sum-$((count += 1))" "$equation$(times 'x + ' 63)$text;"
 done
 nest right "${equation}x + " 62 '' '(' '' x ')' ';'
 # A negation is reported behind its minus: with its number it would be one deep.
-accepted minus-name-fits "$equation$(times '- ' 63)x;"
+grammatical minus-name-fits "$equation$(times '- ' 63)x;"
 refused minus-name-deep 77 "$equation$(times '- ' 64)" x ';'
-accepted minus-number-fits "$equation$(times '- ' 64)1;"
+grammatical minus-number-fits "$equation$(times '- ' 64)1;"
 refused minus-number-deep 77 "$equation$(times '- ' 64)" - '1;'
 # An argument is reported where it begins, and `update` itself.
 nest argument-1 "$equation(" 31 'f ' '(' '' x ')' ');'
@@ -218,15 +218,15 @@ nest pattern "$left" 63 '' '(' '' x ')' ' = x;'
 nest pattern-second "$left" 63 '' '(' 'x, ' x ')' ' = x;'
 nest pattern-first "$left" 63 '' '(' '' x ', x)' ' = x;'
 nest input 'box b in (x :: bool) out (y :: bool) match (' 63 '' '(' '' x ')' ') -> x;'
-accepted pattern-part-fits "$left$(times '(' 62)A x$(times ')' 62) = x;"
+grammatical pattern-part-fits "$left$(times '(' 62)A x$(times ')' 62) = x;"
 refused pattern-part-deep 77 "$left$(times '(' 63)A" x "$(times ')' 63) = x;"
 nest pattern-parts "${equation}case x of (" 31 'A ' '(' '' y ')' ') -> x end;'
 # Types and patterns within an expression are measured by themselves.
-accepted cast-type-fits "$equation$(times '(' 62)(x as $(times 'vector 1 of ' 63)bool)$(times ')' 62);"
+grammatical cast-type-fits "$equation$(times '(' 62)(x as $(times 'vector 1 of ' 63)bool)$(times ')' 62);"
 refused cast-type-deep 77 "$equation$(times '(' 62)(x as $(times 'vector 1 of ' 63)" vector "1 of bool)$(times ')' 62);"
 cases=$(times 'case x of y -> ' 62)
 ends=$(times ' end' 62)
-accepted case-pattern-fits "$equation${cases}case x of $(times '(' 63)y$(times ')' 63) -> x end$ends;"
+grammatical case-pattern-fits "$equation${cases}case x of $(times '(' 63)y$(times ')' 63) -> x end$ends;"
 refused case-pattern-deep 77 "$equation${cases}case x of $(times '(' 63)" '(' "y$(times ')' 64) -> x end$ends;"
 
 # Each token where only one more is allowed.
@@ -290,8 +290,8 @@ cuts six-lines 'box b in (x :: int 32) out (y :: int 32) match (x) -> (x + 1) ; 
 cuts ten-lines 'data Light = Red | Amber | Green ; exception Broken nat 8 ; next :: Light -> Light ; next Red = Green ; next light = case light of Green -> Amber | _ -> Red end ; box b in (light :: Light, tick :: bool) out (shown :: Light) fair (light, true) -> next light | (*, _*) -> raise Broken 3 handle Broken number -> Red ; stream s from "i" ; wire s to b.light initial (Red) ; ' \
     'eeeeeeeeeeeeeeeeeeeeeeeeeeeeeeeeeaaeeeeeeeeeeeeeeeeetteeeeaaeeeeeleeeeeeeeteeeeeeeeeeeeeeeeeeeeeeeeeeeaaeeeeeeeeeeeeeeeeeeeeeeeeeeeeeeeeeeeeeeeeeeeeeeteeeeeeeeeeaaeeeeeeteeeeeeeeeleeeeeeeeeeeeeeleettteeetteeeeeeeeeleeeeeeeeettteeeeeeeeeeeeeeeeteeeeeeeeeeeeeeeeeeeeeeeteeeeeeeeeeeeeeeeettttteeeeeeeeeeeeeeeeteeeeeeaaeeeeeeeeettteelleeaaeeeeeeeteeeeeeeeeetttttteeeeeeeeaa'
 refused cut-comment-1 20 '' - ''
-accepted cut-comment-2 '--'
-accepted cut-comment-3 '-- a'$'\n'
-accepted cut-comment-4 '-- a'$'\n''wire a to b ; -- b'$'\n\n'
+grammatical cut-comment-2 '--'
+grammatical cut-comment-3 '-- a'$'\n'
+grammatical cut-comment-4 '-- a'$'\n''wire a to b ; -- b'$'\n\n'
 put cut-comment-5 $'-- a\nwire a'
 echo 'cut-comment-5 20 2'

@@ -1,4 +1,6 @@
+pub mod Accepting
 pub mod CoreRules
 pub mod Lines
+pub mod OneProgram
 pub mod ProgramRules
 pub mod Sources

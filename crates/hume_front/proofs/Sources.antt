@@ -2,10 +2,7 @@
 use Rattle.std.proofs.Common.{◌≡◌, ℕ, ◌<◌, ◌^◌, List, length, Some, None, slice_get, refl, ap, sym, subst, ◌∙◌, arith}
 use Rattle.hume_base.specs.Least.{IsLeast}
 use Rattle.hume_ast.specs.declared.tree.Program.{Program}
-use Rattle.hume_ast.specs.Places.{StandsFor}
 use Rattle.hume_ast.specs.Fits.{Each}
-use Rattle.token_readers.proofs.OneSpelling.{one_placed}
-use Rattle.hume_lex.proofs.Unique.{one_reading}
 use Rattle.hume_model.specs.declared.core_tree.BoxC.{BoxC}
 use Rattle.hume_model.specs.declared.core_tree.NodeC.TheVariants.{Rules}
 use Rattle.hume_model.specs.declared.core_tree.Core.{Core}
@@ -23,14 +20,14 @@ use Rattle.read_programs.proofs.Lengths.{all_few, short, tokens_bound}
 use Rattle.wiring_check.proofs.TheWires.{are_wired, wires_agree}
 use Rattle.hume_exceptions.proofs.Handles.{handles_all}
 use Rattle.hume_front.specs.Accepted as front
-use Rattle.hume_front.specs.Accepted.{BreaksCore, BreaksProgram, IsProgramOf, IsAccepted}
+use Rattle.hume_front.specs.Accepted.{BreaksCore, IsProgramOf, IsAccepted, IsUnaccepted}
+use Rattle.hume_front.specs.inner.Checked.{IsCoreError}
+use Rattle.hume_front.specs.declared.acceptance.FrontError.{FrontError}
+use Rattle.hume_front.specs.declared.acceptance.FrontError.TheVariants.{Refused, NoMemory}
 use Rattle.hume_front.specs.declared.acceptance.Accepted.{Accepted}
 use Rattle.hume_front.proofs.CoreRules.{fine_wires, fine_handlers}
-
-pub one_program_of : (text : List ℕ) (p q : Program) → IsProgramOf text p → IsProgramOf text q → p ≡ q
-one_program_of text p q a b =
-    let same : b.tokens ≡ a.tokens = one_reading text b.tokens a.tokens b.read.0 a.read.0 in
-    one_placed a.tokens p q a.spelled (subst (λ tokens. StandsFor tokens q) same b.spelled)
+use Rattle.hume_front.proofs.OneProgram.{one_program}
+use Rattle.hume_front.proofs.ProgramRules.{refused_core}
 
 pub of_tokens : (text : List ℕ) (program : Program) → IsProgramOf text program → IsOfTokens program
 of_tokens text program h = record {
@@ -44,6 +41,12 @@ few_declarations text program h = omega (arith, short program.decls, tokens_boun
 pub sound_core : (text : List ℕ) (program : Program) (core : Core) → IsProgramOf text program → IsLeast (BreaksCheck program.decls) None
     → IsCoreOf text program core → IsWellFormed core
 sound_core text program core h fine is = well_formed text program core fine h.spelled.0 (of_tokens text program h) is
+
+-- a core that isn't accepted is why its source isn't
+pub core_told : (text : List ℕ) (program : Program) (core : Core) → IsProgramOf text program → IsLeast (BreaksCheck program.decls) None
+    → IsCoreOf text program core → (error : FrontError) → IsCoreError core error → IsUnaccepted text error
+core_told text program core h fine is (Refused refusal) e = front.in_program program h refusal (refused_core text program core is fine refusal e)
+core_told text program core h fine is NoMemory e = tt
 
 -- the rules of an accepted source, phase by phase
 module _ (text : List ℕ) (accepted : Accepted) (h : IsAccepted text accepted) where
@@ -66,5 +69,5 @@ module _ (text : List ℕ) (accepted : Accepted) (h : IsAccepted text accepted) 
 
 pub one_accepted_core : (text : List ℕ) (a b : Accepted) → IsAccepted text a → IsAccepted text b → a.core ≡ b.core
 one_accepted_core text a b p q =
-    let same : b.program ≡ a.program = one_program_of text b.program a.program q.program p.program in
+    let same : b.program ≡ a.program = one_program text b.program a.program q.program p.program in
     the_core text a.program a.core b.core p.core (subst (λ program. IsCoreOf text program b.core) same q.core)

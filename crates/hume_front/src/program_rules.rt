@@ -10,7 +10,7 @@ use crate::acceptance::FrontError;
 use crate::core_rules::check_core;
 use hume_ast::Program;
 use hume_model::Core;
-use program_checking::{CheckError, check};
+use program_check::{CheckError, check};
 use std::alloc::Global;
 use wiring_check::Wiring;
 

@@ -1,0 +1,67 @@
+-- Each place that is told is one of the source, and each refusal a rule that it breaks.
+use Rattle.std.proofs.Common.{◌≡◌, ◌⊎◌, ℕ, suc, ◌≤◌, ◌<◌, List, [], ◌∷◌, ◌++◌, length, sym, ap, ◌∙◌, subst, arith, inl, inr}
+use Rattle.std.specs.List.{All}
+use Rattle.hume_base.specs.declared.limits.TheConstants.{MAX_SOURCE_BYTES}
+use Rattle.hume_base.specs.declared.rule.Rule.TheVariants.{C70}
+use Rattle.hume_base.specs.declared.rule.Refusal.{Refusal}
+use Rattle.hume_base.specs.declared.token.Token.{Token}
+use Rattle.hume_base.specs.Places.{line_at}
+use Rattle.hume_lex.specs.declared.lexer.LexError.{LexError}
+use Rattle.hume_lex.specs.declared.lexer.LexError.TheVariants as lexical
+use Rattle.hume_lex.specs.BadPlaces.{IsRead, IsBadPlace, bad_place}
+use Rattle.hume_lex.proofs.Places.{token_within}
+use Rattle.hume_parse.specs.declared.parser.ParseError.{ParseError}
+use Rattle.hume_parse.specs.declared.parser.ParseError.TheVariants as syntactic
+use Rattle.hume_parse.specs.Parsing.{IsWrongToken, IsWrongPlace}
+use Rattle.hume_front.specs.declared.acceptance.FrontError.{FrontError}
+use Rattle.hume_front.specs.declared.acceptance.FrontError.TheVariants.{Refused}
+use Rattle.hume_front.specs.Accepted.{Breaks, too_long, bad_token, no_program, IsUnaccepted, rule_of_lexer, rule_of_parser, wrong_place}
+
+-- places
+
+all_middle : {A : Type 0} (P : A → Type 0) (front : List A) (x : A) (rest : List A) → All P (front ++ x ∷ rest) → P x
+all_middle P [] x rest all = all 0 x (omega arith)
+all_middle P (y ∷ front) x rest all = all_middle P front x rest (λ k d h. all (suc k) d (omega (arith, h)))
+
+token_place : (text : List ℕ) (tokens : List Token) (place : ℕ) → IsRead text tokens → IsWrongToken tokens place → place < length text
+token_place text tokens place read wrong =
+    let Within : Token → Type 0 = λ token. token.place < length text in
+    let all : All Within (wrong.front ++ wrong.token ∷ wrong.rest) = subst (All Within) wrong.cut (token_within text tokens read.0) in
+    subst (λ p. p < length text) wrong.here (all_middle Within wrong.front wrong.token wrong.rest all)
+
+fault_place : (text : List ℕ) (tokens : List Token) (error : ParseError) → IsRead text tokens → IsWrongPlace tokens (length text) error → wrong_place error ≤ length text
+fault_place text tokens (syntactic.Syntax place) read (none, inl wrong) = omega (arith, token_place text tokens place read wrong)
+fault_place text tokens (syntactic.Syntax place) read (none, inr end) = omega (arith, end)
+fault_place text tokens (syntactic.Deep place) read (none, wrong) = omega (arith, token_place text tokens place read wrong)
+fault_place text tokens syntactic.NoMemory read wrong = absurd wrong
+
+pub told_within : (text : List ℕ) (tokens : List Token) (given told : ParseError) → IsRead text tokens → (given ≡ syntactic.NoMemory) ⊎ IsWrongPlace tokens (length text) given
+    → given ≡ told → wrong_place told ≤ length text
+told_within text tokens given told read (inl none) same = subst (λ e. wrong_place e ≤ length text) (sym none ∙ same) (omega arith)
+told_within text tokens given told read (inr wrong) same = fault_place text tokens told read (subst (IsWrongPlace tokens (length text)) same wrong)
+
+-- refusals
+
+unaccepted : (text : List ℕ) (refusal : Refusal) (result : FrontError) → Breaks text refusal → result ≡ Refused refusal → IsUnaccepted text result
+unaccepted text refusal result breaks is = subst (IsUnaccepted text) (sym is) breaks
+
+pub too_long_told : (text : List ℕ) (result : FrontError) → MAX_SOURCE_BYTES < length text → result ≡ Refused (record { rule = C70; line = 1 }) → IsUnaccepted text result
+too_long_told text result long is = unaccepted text (record { rule = C70; line = 1 }) result (too_long long) is
+
+pub bad_token_told : (text : List ℕ) (given told : LexError) (line : ℕ) (result : FrontError) → length text ≤ MAX_SOURCE_BYTES
+    → (given ≡ lexical.NoMemory) ⊎ IsBadPlace text given → given ≡ told → (told ≡ lexical.NoMemory → ⊥) → line ≡ line_at text (bad_place told)
+    → result ≡ Refused (record { rule = rule_of_lexer told; line = line }) → IsUnaccepted text result
+bad_token_told text given told line result short (inl none) same other line_is is = absurd (other (sym same ∙ none))
+bad_token_told text given told line result short (inr bad) same other line_is is =
+    let told_bad : IsBadPlace text told = subst (IsBadPlace text) same bad in
+    unaccepted text (record { rule = rule_of_lexer told; line = line_at text (bad_place told) }) result (bad_token short told told_bad)
+    (is ∙ ap (λ l. Refused (record { rule = rule_of_lexer told; line = l })) line_is)
+
+pub no_program_told : (text : List ℕ) (tokens : List Token) (given told : ParseError) (line : ℕ) (result : FrontError) → length text ≤ MAX_SOURCE_BYTES → IsRead text tokens
+    → (given ≡ syntactic.NoMemory) ⊎ IsWrongPlace tokens (length text) given → given ≡ told → (told ≡ syntactic.NoMemory → ⊥) → line ≡ line_at text (wrong_place told)
+    → result ≡ Refused (record { rule = rule_of_parser told; line = line }) → IsUnaccepted text result
+no_program_told text tokens given told line result short read (inl none) same other line_is is = absurd (other (sym same ∙ none))
+no_program_told text tokens given told line result short read (inr wrong) same other line_is is =
+    let told_wrong : IsWrongPlace tokens (length text) told = subst (IsWrongPlace tokens (length text)) same wrong in
+    unaccepted text (record { rule = rule_of_parser told; line = line_at text (wrong_place told) }) result (no_program short tokens read told told_wrong)
+    (is ∙ ap (λ l. Refused (record { rule = rule_of_parser told; line = l })) line_is)
