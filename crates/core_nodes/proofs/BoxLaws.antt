@@ -65,5 +65,3 @@ module _ (s : Signatures) (parts : BoxParts) where
       by (Some ins) = ap (with_outputs ins) h
 
 pub ruleset interface_steps = (common_steps, inputs_missing, outputs_missing)
-
-pub ruleset box_steps = (common_steps, box_made)

@@ -112,6 +112,4 @@ module _ (text : List ℕ) (s : Signatures) (decls : Decls) (order : List ℕ) w
                 (others_left (IsSignature s) f (functions_at (drop (place + 1) order)) s.funs (length found) next_signed);
           }
 
-pub ruleset function_steps = (common_steps, function_made)
-
 pub ruleset order_steps = (common_steps, none_made)

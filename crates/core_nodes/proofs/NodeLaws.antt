@@ -92,6 +92,6 @@ module _ (text : List ℕ) (s : Signatures) (decls : Decls) where
             (subst (λ nodes. GoesOn IsNode (nodes_in decls) nodes found) (left_at (Some (numbered place d)) h.0) are.goes) h.1);
       }
 
-pub ruleset node_steps = (common_steps, box_node, box_untyped, stream_node)
+pub ruleset node_steps = (common_steps, box_untyped)
 
 pub ruleset nodes_steps = (common_steps, none_made)

@@ -1,7 +1,6 @@
 -- Inputs and outputs with the types that are written.
 use native.Mathlib.Omega.{arith}
 use Rattle.std.proofs.Common.{◌≡◌, ℕ, zero, suc, ◌<◌, List, [], ◌∷◌, length, get_or, Option, Some, None, refl, ap, sym, ◌∙◌}
-use Rattle.std.proofs.lemmas.Grind.{common_steps}
 use Rattle.hume_base.specs.declared.types.Ty.{Ty}
 use Rattle.hume_base.specs.declared.types.Types.{Types}
 use Rattle.hume_ast.specs.declared.tree.TyExp.{TyExp}
@@ -21,5 +20,3 @@ type_missing types (first ∷ places) zero place lt e h =
     ap (λ o. given o (λ (ty : Ty). given (ports_written types places) (λ tys. Some (ty ∷ tys)))) (ap (λ (p : List ℕ × TyExp). written types p.1) (sym e) ∙ h)
 type_missing types (first ∷ places) (suc at) place lt e h =
     without_end (written types first.1) (ports_written types places) (type_missing types places at place (omega arith) e h)
-
-pub ruleset ports_steps = common_steps

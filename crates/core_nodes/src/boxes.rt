@@ -26,7 +26,6 @@ pub(crate) struct Interface {
 
 /// A box with its inputs and outputs and the cores of its rules and handlers. The declaration has the number, and its
 /// first token the place.
-#[tactic(auto, using(crate::proofs::BoxLaws::box_steps))]
 pub(crate) fn box_core<'a>(
     alloc: Global,
     lines: &LineTable,

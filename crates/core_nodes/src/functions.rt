@@ -62,7 +62,6 @@ fn all_functions<'a>(
 }
 
 // A function with its signature and the cores of its equations.
-#[tactic(auto, using(crate::proofs::FunctionLaws::function_steps))]
 fn function_core<'a>(
     alloc: Global,
     lines: &LineTable,

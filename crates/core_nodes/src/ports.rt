@@ -14,7 +14,6 @@ use std::alloc::Global;
 use wire_types::written;
 
 /// Inputs or outputs in their order, with the types that are written.
-#[tactic(auto, using(crate::proofs::PortLaws::ports_steps))]
 pub(crate) fn port_cores(
     alloc: Global,
     table: &SignatureTable,

@@ -8,7 +8,11 @@ use std::test::Fail;
 const DIVISION: &[u8] = b"f :: int 32 -> int 32 -> int 32 ;\nf x y = x div y ;\n";
 
 // What the first function of the core comes to for these words.
-fn first_function(alloc: Global, core: &Core, words: &[u64]) -> Result<Option<Outcome>, AllocError> {
+fn first_function(
+    alloc: Global,
+    core: &Core,
+    words: &[u64],
+) -> Result<Option<Outcome>, AllocError> {
     let mut env = List::new(alloc);
     for word in words {
         env.push(Value::Word(*word))?;

@@ -1,5 +1,5 @@
 -- The word that names the source's port, and the promise of the whole call.
-use Rattle.std.proofs.Common.{◌≡◌, ℕ, ◌<◌, List, [], map, length, Option, Some, IfSome, refl, ap, sym, ◌∙◌, subst, slice_index_or}
+use Rattle.std.proofs.Common.{◌≡◌, ◌⊎◌, ℕ, ◌<◌, List, [], map, length, Option, Some, IfSome, refl, ap, sym, ◌∙◌, subst, slice_index_or}
 use Rattle.std.proofs.lemmas.List.{get_or-map}
 use Rattle.hume_ports.specs.Port.{PortView}
 use Rattle.hume_run.specs.declared.status.Status.{Status}
@@ -8,7 +8,7 @@ use Rattle.hume_run.specs.declared.order.Order.{Order}
 use Rattle.hume_run.specs.declared.order.Order.TheVariants.{Run, Check}
 use Rattle.hume_run.specs.inner.Places.{source_place}
 use Rattle.hume_run.specs.Words.{order_of, source_of}
-use Rattle.hume_run.specs.Headline.{AnswersFrom, Headline}
+use Rattle.hume_run.specs.Headline.{EndsEarly, AnswersFrom, Headline}
 
 source_at : (words : List (List ℕ)) (order : Order) → source_of words order ≡ slice_index_or words (source_place order) []
 source_at words (Run steps place) = refl
@@ -22,8 +22,8 @@ source_named bytes_of words order place word name same within is named =
     ∙ sym (get_or-map bytes_of words (source_place order) word [] within) ∙ sym (source_at (map bytes_of words) order)
 
 pub headlined : (words : List (List ℕ)) (order : Order) (name : List ℕ) (olds news : List PortView) (status : Status) → Some order ≡ order_of words
-    → name ≡ source_of words order → AnswersFrom order name olds news status → Headline words olds news status
-headlined words order name olds news status asked named answers =
-    let Promise : Option Order → Type 0 = λ asks. IfSome asks (λ o. (status ≡ Usage → ⊥) → AnswersFrom o (source_of words o) olds news status) in
-    let From : List ℕ → Type 0 = λ n. AnswersFrom order n olds news status in
-    subst Promise asked (λ form. subst From named answers)
+    → name ≡ source_of words order → EndsEarly name olds news status ⊎ AnswersFrom order name olds news status → Headline words olds news status
+headlined words order name olds news status asked named ends =
+    let Ended : Order → List ℕ → Type 0 = λ o n. EndsEarly n olds news status ⊎ AnswersFrom o n olds news status in
+    let Promise : Option Order → Type 0 = λ asks. IfSome asks (λ o. (status ≡ Usage → ⊥) → Ended o (source_of words o)) in
+    subst Promise asked (λ form. subst (Ended order) named ends)

@@ -63,7 +63,7 @@ use Rattle.hume_model.specs.declared.outcome.Outputs.TheVariants.{Asserts, Throw
 use Rattle.hume_model.proofs.Layers.{out-word, int-value, eval-prim, eval-variable, eval-word}
 use Rattle.hume_model.proofs.ResultTypes.{result-outs}
 use Rattle.hume_model.proofs.PatternTypes.{both_true}
-use Rattle.hume_run.specs.Accepted.{IsAccepted}
+use Rattle.hume_front.specs.Accepted.{IsProgramOf}
 use Rattle.hume_run.specs.OneBox.{OneBox, HasCore, operation, rule_tree, trees, int_32, one_rule, one_box, core_of}
 use Rattle.hume_model.specs.OwnExceptions.{plain_exception}
 
@@ -83,9 +83,9 @@ all_short place [] rest are = tt
 all_short place (gap bytes ∷ pieces) rest are = all_short (place + length bytes) pieces rest are.2
 all_short place (token k bytes ∷ pieces) rest are = (short k bytes are.0, all_short (place + length bytes) pieces rest are.2)
 
-accepted_short : (text : List ℕ) (program : _) (accepted : IsAccepted text program) → AllByRecursion IsShort (kinds accepted.tokens)
-accepted_short text program accepted =
-    let reading = accepted.read.0 in
+read_short : (text : List ℕ) (program : _) (is : IsProgramOf text program) → AllByRecursion IsShort (kinds is.tokens)
+read_short text program is =
+    let reading = is.read.0 in
     subst (λ tokens. AllByRecursion IsShort (kinds tokens)) reading.same (all_short 0 reading.pieces [] reading.longest)
 
 later : {X : Type 0} (P : X → Type 0) (xs ys : List X) → AllByRecursion P (xs ++ ys) → AllByRecursion P ys
@@ -108,11 +108,12 @@ port_names : (text : List ℕ) (core : Core) (stands : HasCore text core) → Is
 port_names text core stands =
     let spelled = stands.spelled in
     let is = spelled.is in
+    let read = spelled.is_accepted.program in
     let boxed : Decl = BoxD (codes "b") ((codes "x", IntType 32) ∷ []) ((codes "y", IntType 32) ∷ []) false (rule_tree is.operator stands.parts.amount ∷ []) [] in
     let wired : List Kind = beside (map spelled_decl (Wire (codes "s", None) (codes "b", Some (codes "x")) None None ∷ Wire (codes "b", Some (codes "y")) (codes "t", None) None None ∷ [])) in
-    let tokens : kinds spelled.accepted.tokens ≡ beside (map spelled_decl (trees is.operator stands.parts)) =
-    sym spelled.accepted.spelled.1 ∙ decls_beside spelled.program.decls ∙ ap (λ decls. beside (map spelled_decl decls)) is.decls in
-    streams_short (spelled_decl boxed) wired stands.parts.input stands.parts.output (subst (AllByRecursion IsShort) tokens (accepted_short text spelled.program spelled.accepted))
+    let tokens : kinds read.tokens ≡ beside (map spelled_decl (trees is.operator stands.parts)) =
+    sym read.spelled.1 ∙ decls_beside spelled.accepted.program.decls ∙ ap (λ decls. beside (map spelled_decl decls)) is.decls in
+    streams_short (spelled_decl boxed) wired stands.parts.input stands.parts.output (subst (AllByRecursion IsShort) tokens (read_short text spelled.accepted.program read))
 
 -- types
 

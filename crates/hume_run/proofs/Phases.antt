@@ -13,7 +13,7 @@ use Rattle.hume_run.specs.Owed.{Owed}
 use Rattle.hume_run.specs.Headline.{Ends, Fails, FailedRead, FailedWrite, FailedFinish}
 use Rattle.hume_run.proofs.Ending.{ends_failed, ends_without_memory}
 
-read_after : (reads : List (List ℕ)) (olds mids news : List PortView) (taken : Pairs) → Progress olds mids taken [] → FailedRead reads mids news → FailedRead reads olds news
+pub read_after : (reads : List (List ℕ)) (olds mids news : List PortView) (taken : Pairs) → Progress olds mids taken [] → FailedRead reads mids news → FailedRead reads olds news
 read_after reads olds mids news taken p f = record {
   name = f.name;
   is_read = f.is_read;
@@ -45,7 +45,7 @@ fails_after owed olds mids news taken p (inl f) = inl (read_after owed.reads old
 fails_after owed olds mids news taken p (inr (inl f)) = inr (inl (write_after owed.writes olds mids news taken p f))
 fails_after owed olds mids news taken p (inr (inr f)) = inr (inr (finish_after owed.finishes owed.writes olds mids news taken p f))
 
-quiet_after : (olds mids news : List PortView) → SameFaults olds mids → SameFaults mids news → SameFaults olds news
+pub quiet_after : (olds mids news : List PortView) → SameFaults olds mids → SameFaults mids news → SameFaults olds news
 quiet_after olds mids news p q = record { reads = q.reads ∙ p.reads; writes = q.writes ∙ p.writes; finishes = q.finishes ∙ p.finishes }
 
 pub ends_after : (owed : Owed) (olds mids news : List PortView) (status : Status) (taken : Pairs) → Progress olds mids taken []

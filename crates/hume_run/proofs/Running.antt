@@ -1,32 +1,31 @@
 -- From the parts of a call to the whole.
-use Rattle.std.proofs.Common.{◌≡◌, ℕ, Bool, true, false, ◌||◌, List, [], ◌∷◌, ◌++◌, Option, Some, None, IfSome, refl, ap, sym, ◌∙◌, subst, inl, inr}
+use Rattle.std.proofs.Common.{◌≡◌, ◌⊎◌, ℕ, Bool, true, false, ◌||◌, List, [], ◌∷◌, Option, Some, None, IfSome, refl, ap, sym, ◌∙◌, subst, inl, inr}
 use Rattle.std.specs.Str.{bytes_eq}
 use Rattle.hume_base.specs.declared.rule.Refusal.{Refusal}
 use Rattle.hume_base.specs.declared.rule.Rule.TheVariants.{NotBuilt, C55}
-use Rattle.hume_ast.specs.declared.tree.Program.{Program}
 use Rattle.hume_model.specs.declared.core_tree.Core.{Core}
 use Rattle.hume_ports.specs.Port.{PortView}
 use Rattle.hume_ports.specs.Ports.{names, is_among, left_of, place_of, ForNameAt, Untouched}
 use Rattle.hume_ports.specs.Delivery.{Pairs, Progress, ReadFailure, Roomy}
 use Rattle.hume_ports.proofs.Names.{bytes_eq-self}
-use Rattle.hume_ports.proofs.Progress.{Progress-start}
-use Rattle.hume_ports.proofs.Untouched.{Untouched-start, of_first-untouched}
+use Rattle.hume_ports.proofs.Progress.{Delivered-nothing, Delivered-on, Progress-start}
+use Rattle.hume_ports.proofs.Rooms.{Roomy-on}
+use Rattle.hume_ports.proofs.Untouched.{Untouched-start, Untouched-on, of_first-untouched}
+use Rattle.hume_front.specs.declared.acceptance.Accepted.{Accepted}
+use Rattle.hume_front.specs.Accepted.{IsAccepted, Breaks}
 use Rattle.hume_run.specs.declared.status.Status.{Status}
 use Rattle.hume_run.specs.declared.status.Status.TheVariants.{Fault, NoMemory}
 use Rattle.hume_run.specs.declared.input.Input.{Input}
 use Rattle.hume_run.specs.declared.order.Order.{Order}
 use Rattle.hume_run.specs.declared.order.Order.TheVariants.{Run, Check}
-use Rattle.hume_run.specs.Accepted.{IsAccepted, Breaks}
 use Rattle.hume_run.specs.OneBox.{OneBox, IsOneBox, HasCore, core_of}
 use Rattle.hume_run.specs.Owed.{Owed, IsRefusal, broken, not_built, unfit, IsOwed, owed_run, owed_refused, owed_accepted, streams, unfit_line}
-use Rattle.hume_run.specs.Headline.{Ends, Answers, AnswersFrom, source_text}
+use Rattle.hume_run.specs.Headline.{Ends, EndsEarly, FailedRead, Answers, AnswersFrom, source_text}
 use Rattle.hume_run.specs.inner.BoxRuns.{RunsBox}
 use Rattle.hume_run.specs.inner.Reading.{GivesInput, IsInputFrom, ReadsSome, FailsToRead}
 use Rattle.hume_run.specs.inner.Reports.{IsPlaceOf}
-use Rattle.hume_run.proofs.Accepting.{IsJudged, judged}
-use Rattle.hume_run.proofs.ReaderLaws.{Decided, one_box_decided, one_accepted}
-use Rattle.hume_run.proofs.Ending.{ends_without_memory}
-use Rattle.hume_run.proofs.Phases.{ends_after, ends_unread, ends_unstarted, read_touched}
+use Rattle.hume_run.proofs.ReaderLaws.{one_accepted}
+use Rattle.hume_run.proofs.Phases.{read_after, quiet_after, ends_after, ends_unread, ends_unstarted, read_touched}
 use Rattle.hume_run.proofs.Texts.{told_texts, told_by_all, texts_with, text_with, told_by_others}
 
 -- the name means the port at its place
@@ -109,82 +108,51 @@ pub refused_answers : (order : Order) (source text : List ℕ) (olds news : List
 refused_answers order source text olds news status refusal breaks ends =
     owed_answers order source text olds news status (owed_refused source refusal) (broken_owed order source text (names olds) (told_texts olds) refusal breaks) (ends source)
 
-pub check_answers : (place : ℕ) (source text : List ℕ) (olds news : List PortView) (status : Status) (program : Program) → IsAccepted text program
+pub check_answers : (place : ℕ) (source text : List ℕ) (olds news : List PortView) (status : Status) (accepted : Accepted) → IsAccepted text accepted
     → ((source : List ℕ) → Ends (owed_accepted source) olds news status) → Answers (Check place) source text olds news status
-check_answers place source text olds news status program accepted ends =
-    owed_answers (Check place) source text olds news status (owed_accepted source) (inr (program, accepted, refl)) (ends source)
+check_answers place source text olds news status accepted is_accepted ends =
+    owed_answers (Check place) source text olds news status (owed_accepted source) (inr (accepted, is_accepted, refl)) (ends source)
 
 -- an accepted program that isn't a one-box program stands for no core
-no_core : (text : List ℕ) (program : Program) → IsAccepted text program → ((parts : OneBox) → IsOneBox text program parts → ⊥) → (core : Core) → HasCore text core → ⊥
-no_core text program accepted none core stands =
-    none stands.parts (subst (λ p. IsOneBox text p stands.parts) (one_accepted text stands.spelled.program program stands.spelled.accepted accepted) stands.spelled.is)
+no_core : (text : List ℕ) (accepted : Accepted) → IsAccepted text accepted → ((parts : OneBox) → IsOneBox text accepted.program parts → ⊥) → (core : Core) → HasCore text core → ⊥
+no_core text accepted is_accepted none core stands =
+    let same = one_accepted text stands.spelled.accepted accepted stands.spelled.is_accepted is_accepted in
+    none stands.parts (subst (λ p. IsOneBox text p stands.parts) same stands.spelled.is)
 
 -- the core of an accepted one-box program
-stands_for : (text : List ℕ) (program : Program) (parts : OneBox) → IsAccepted text program → IsOneBox text program parts → HasCore text (core_of parts)
-stands_for text program parts accepted is = record {
+stands_for : (text : List ℕ) (accepted : Accepted) (parts : OneBox) → IsAccepted text accepted → IsOneBox text accepted.program parts → HasCore text (core_of parts)
+stands_for text accepted parts is_accepted is = record {
   parts = parts;
-  spelled = record { program = program; accepted = accepted; is = is };
+  spelled = record { accepted = accepted; is_accepted = is_accepted; is = is };
   is = refl;
 }
 
-pub not_built_answers : (place steps : ℕ) (source text : List ℕ) (olds news : List PortView) (status : Status) (refusal : Refusal) (program : Program) → IsAccepted text program
-    → ((parts : OneBox) → IsOneBox text program parts → ⊥) → refusal ≡ record { rule = NotBuilt; line = 1 }
+pub not_built_answers : (place steps : ℕ) (source text : List ℕ) (olds news : List PortView) (status : Status) (refusal : Refusal) (accepted : Accepted) → IsAccepted text accepted
+    → ((parts : OneBox) → IsOneBox text accepted.program parts → ⊥) → refusal ≡ record { rule = NotBuilt; line = 1 }
     → ((source : List ℕ) → Ends (owed_refused source refusal) olds news status) → Answers (Run steps place) source text olds news status
-not_built_answers place steps source text olds news status refusal program accepted none is ends =
-    let refuses : IsRefusal text (names olds) source refusal = subst (IsRefusal text (names olds) source) (sym is) (not_built program accepted (no_core text program accepted none)) in
+not_built_answers place steps source text olds news status refusal accepted is_accepted none is ends =
+    let refuses : IsRefusal text (names olds) source refusal = subst (IsRefusal text (names olds) source) (sym is) (not_built accepted is_accepted (no_core text accepted is_accepted none)) in
     owed_answers (Run steps place) source text olds news status (owed_refused source refusal) (inl (refusal, refuses, refl)) (ends source)
 
-pub unfit_answers : (place steps : ℕ) (source text : List ℕ) (olds news : List PortView) (status : Status) (refusal : Refusal) (program : Program) (parts : OneBox) → IsAccepted text program
-    → IsOneBox text program parts
+pub unfit_answers : (place steps : ℕ) (source text : List ℕ) (olds news : List PortView) (status : Status) (refusal : Refusal) (accepted : Accepted) (parts : OneBox) → IsAccepted text accepted
+    → IsOneBox text accepted.program parts
     → ((line : ℕ) × (unfit_line (names olds) source [] (streams (core_of parts)) ≡ Some line) × (refusal ≡ record { rule = C55; line = line }))
     → ((source : List ℕ) → Ends (owed_refused source refusal) olds news status) → Answers (Run steps place) source text olds news status
-unfit_answers place steps source text olds news status refusal program parts accepted is found ends =
+unfit_answers place steps source text olds news status refusal accepted parts is_accepted is found ends =
     let refuses : IsRefusal text (names olds) source refusal =
-    subst (IsRefusal text (names olds) source) (sym found.2) (unfit (core_of parts) (stands_for text program parts accepted is) found.0 found.1) in
+    subst (IsRefusal text (names olds) source) (sym found.2) (unfit (core_of parts) (stands_for text accepted parts is_accepted is) found.0 found.1) in
     owed_answers (Run steps place) source text olds news status (owed_refused source refusal) (inl (refusal, refuses, refl)) (ends source)
 
-pub run_answers : (place steps : ℕ) (source text : List ℕ) (olds news : List PortView) (status : Status) (program : Program) (parts : OneBox) → IsAccepted text program
-    → IsOneBox text program parts → unfit_line (names olds) source [] (streams (core_of parts)) ≡ None → RunsBox steps parts olds news status
+pub run_answers : (place steps : ℕ) (source text : List ℕ) (olds news : List PortView) (status : Status) (accepted : Accepted) (parts : OneBox) → IsAccepted text accepted
+    → IsOneBox text accepted.program parts → unfit_line (names olds) source [] (streams (core_of parts)) ≡ None → RunsBox steps parts olds news status
     → Answers (Run steps place) source text olds news status
-run_answers place steps source text olds news status program parts accepted is fit runs = record {
+run_answers place steps source text olds news status accepted parts is_accepted is fit runs = record {
   texts = runs.texts;
   told = λ name other. runs.told name;
   owed = owed_run steps source runs.texts (core_of parts);
-  owes = inr (core_of parts, stands_for text program parts accepted is, fit, refl);
+  owes = inr (core_of parts, stands_for text accepted parts is_accepted is, fit, refl);
   ends = runs.ends source;
 }
-
--- whatever the text, something is owed
-
-run_owed : (place steps : ℕ) (source text : List ℕ) (ns : List (List ℕ)) (texts : List ℕ → List ℕ) (core : Core) (line : Option ℕ) → HasCore text core
-    → unfit_line ns source [] (streams core) ≡ line → (owed : Owed) × IsOwed (Run steps place) source text ns texts owed
-run_owed place steps source text ns texts core None stands fit = (owed_run steps source texts core, inr (core, stands, fit, refl))
-run_owed place steps source text ns texts core (Some line) stands found =
-    let refusal : Refusal = record { rule = C55; line = line } in
-    (owed_refused source refusal, inl (refusal, unfit core stands line found, refl))
-
-program_owed : (place steps : ℕ) (source text : List ℕ) (ns : List (List ℕ)) (texts : List ℕ → List ℕ) (program : Program) → IsAccepted text program
-    → Decided text program → (owed : Owed) × IsOwed (Run steps place) source text ns texts owed
-program_owed place steps source text ns texts program accepted (inl (parts, is)) =
-    run_owed place steps source text ns texts (core_of parts) (unfit_line ns source [] (streams (core_of parts))) (stands_for text program parts accepted is) refl
-program_owed place steps source text ns texts program accepted (inr none) =
-    let refusal : Refusal = record { rule = NotBuilt; line = 1 } in
-    (owed_refused source refusal, inl (refusal, not_built program accepted (no_core text program accepted none), refl))
-
-judged_owed : (order : Order) (source text : List ℕ) (ns : List (List ℕ)) (texts : List ℕ → List ℕ) → IsJudged text → (owed : Owed) × IsOwed order source text ns texts owed
-judged_owed order source text ns texts (inr (refusal, breaks)) = (owed_refused source refusal, broken_owed order source text ns texts refusal breaks)
-judged_owed (Run steps place) source text ns texts (inl (program, accepted)) = program_owed place steps source text ns texts program accepted (one_box_decided text program)
-judged_owed (Check place) source text ns texts (inl (program, accepted)) = (owed_accepted source, inr (program, accepted, refl))
-
-pub something_owed : (order : Order) (source text : List ℕ) (ns : List (List ℕ)) (texts : List ℕ → List ℕ) → (owed : Owed) × IsOwed order source text ns texts owed
-something_owed order source text ns texts = judged_owed order source text ns texts (judged text)
-
--- memory was refused before any port was called
-pub answers_unstarted : (order : Order) (source text : List ℕ) (olds : List PortView) → Answers order source text olds olds NoMemory
-answers_unstarted order source text olds =
-    let owed = something_owed order source text (names olds) (told_texts olds) in
-    owed_answers order source text olds olds NoMemory owed.0 owed.1
-    (ends_without_memory owed.0 olds olds [] (Progress-start olds) (Untouched-start (owed.0.reads ++ owed.0.finishes) olds))
 
 -- the call from its source's port
 
@@ -196,7 +164,7 @@ owed_reads : (order : Order) (source text : List ℕ) (ns : List (List ℕ)) (te
 owed_reads (Run steps place) source text ns texts owed (inl (refusal, is, same)) = ap (λ o. is_among source o.reads) same ∙ first_among source []
 owed_reads (Run steps place) source text ns texts owed (inr (core, stands, fit, same)) = ap (λ o. is_among source o.reads) same ∙ first_among source _
 owed_reads (Check place) source text ns texts owed (inl (refusal, is, same)) = ap (λ o. is_among source o.reads) same ∙ first_among source []
-owed_reads (Check place) source text ns texts owed (inr (program, is, same)) = ap (λ o. is_among source o.reads) same ∙ first_among source []
+owed_reads (Check place) source text ns texts owed (inr (accepted, is, same)) = ap (λ o. is_among source o.reads) same ∙ first_among source []
 
 answers_after : (order : Order) (source text : List ℕ) (olds mids news : List PortView) (status : Status) → Progress olds mids ((source, text) ∷ []) []
     → Untouched (source ∷ []) olds mids → Answers order source text mids news status → Answers order source text olds news status
@@ -214,55 +182,80 @@ answers_after order source text olds mids news status progress untouched answers
           (read_touched answers.owed olds mids source (owed_reads order source text (names mids) answers.texts answers.owed answers.owes) untouched) answers.ends;
     }
 
--- the text of a source that wasn't read
-some_text : (left : Option (List ℕ)) → (text : List ℕ) × IfSome left (λ bytes. text ≡ source_text bytes)
-some_text None = ([], tt)
-some_text (Some bytes) = (source_text bytes, refl)
+-- a call that ends early
 
--- a call that didn't get to its source, whatever the source is
-ends_anyhow : (order : Order) (source : List ℕ) (olds news : List PortView) (status : Status)
-    → ((owed : Owed) → is_among source owed.reads ≡ true → Ends owed olds news status) → AnswersFrom order source olds news status
-ends_anyhow order source olds news status ends =
-    let text = some_text (left_of source olds) in
-    let owed = something_owed order source text.0 (names olds) (told_texts olds) in
-    record {
-      text = text.0;
-      told = text.1;
-      answers = owed_answers order source text.0 olds news status owed.0 owed.1
-          (ends owed.0 (owed_reads order source text.0 (names olds) (told_texts olds) owed.0 owed.1));
-    }
+-- memory was refused before any port was called
+pub early_unstarted : (source : List ℕ) (ports : List PortView) → EndsEarly source ports ports NoMemory
+early_unstarted source ports = record {
+  cause = inl refl;
+  memory = λ is. Delivered-nothing ports;
+  quiet = λ other. (Progress-start ports).same_faults;
+  complete = λ roomy is. cc;
+  untouched = Untouched-start (source ∷ []) ports;
+}
+
+abbrev Cause : List ℕ → List PortView → List PortView → Status → Type 0
+Cause source olds news status = (status ≡ NoMemory) ⊎ ((status ≡ Fault) × FailedRead (source ∷ []) olds news)
+
+cause_after : (source : List ℕ) (olds mids news : List PortView) (status : Status) (taken : Pairs) → Progress olds mids taken [] → Cause source mids news status → Cause source olds news status
+cause_after source olds mids news status taken progress (inl memory) = inl memory
+cause_after source olds mids news status taken progress (inr (fault, failed)) = inr (fault, read_after (source ∷ []) olds mids news taken progress failed)
+
+pub early_after : (source text : List ℕ) (olds mids news : List PortView) (status : Status) → Progress olds mids ((source, text) ∷ []) []
+    → Untouched (source ∷ []) olds mids → EndsEarly source mids news status → EndsEarly source olds news status
+early_after source text olds mids news status progress untouched early = record {
+  cause = cause_after source olds mids news status ((source, text) ∷ []) progress early.cause;
+  memory = λ m. Delivered-on olds mids news [] [] progress.delivered progress.same_names (early.memory m);
+  quiet = λ other. quiet_after olds mids news progress.same_faults (early.quiet other);
+  complete = λ roomy. early.complete (Roomy-on olds mids ((source, text) ∷ []) [] [] progress roomy);
+  untouched = Untouched-on (source ∷ []) olds mids news untouched progress.same_names early.untouched;
+}
 
 pub source_unread : (order : Order) (source : List ℕ) (olds news : List PortView) (at : ℕ) → IsPlaceOf source (names olds) at
     → ForNameAt at olds (λ name. (taken : Pairs) × ReadFailure name olds news taken []) → (Roomy olds [] → ⊥)
-    → ForNameAt at olds (λ name. Untouched (name ∷ []) olds news) → AnswersFrom order source olds news Fault
+    → ForNameAt at olds (λ name. Untouched (name ∷ []) olds news) → EndsEarly source olds news Fault ⊎ AnswersFrom order source olds news Fault
 source_unread order source olds news at place failed no_room untouched =
     let e = meant source (names olds) at place in
     let f = failed source e in
-    ends_anyhow order source olds news Fault (λ owed reads. ends_unread owed olds news source f.0 reads f.1 no_room (untouched source e))
+    inl (record {
+      cause = inr (refl, record { name = source; is_read = first_among source []; taken = f.0; failure = f.1 });
+      memory = λ is. cc;
+      quiet = λ other. absurd (other refl);
+      complete = λ roomy is. no_room roomy;
+      untouched = untouched source e;
+    })
 
-pub source_unstarted : (order : Order) (source : List ℕ) (olds news : List PortView) → news ≡ olds → AnswersFrom order source olds news NoMemory
+pub source_unstarted : (order : Order) (source : List ℕ) (olds news : List PortView) → news ≡ olds
+    → EndsEarly source olds news NoMemory ⊎ AnswersFrom order source olds news NoMemory
 source_unstarted order source olds news same =
-    let P : List PortView → Type 0 = λ ports. AnswersFrom order source olds ports NoMemory in
-    subst P (sym same) (ends_anyhow order source olds olds NoMemory (λ owed reads. ends_without_memory owed olds olds [] (Progress-start olds) (Untouched-start (owed.reads ++ owed.finishes) olds)))
+    let P : List PortView → Type 0 = λ ports. EndsEarly source olds ports NoMemory in
+    inl (subst P (sym same) (early_unstarted source olds))
+
+from_text : (order : Order) (source text : List ℕ) (olds mids news : List PortView) (status : Status) → IfSome (left_of source olds) (λ left. text ≡ source_text left)
+    → Progress olds mids ((source, text) ∷ []) [] → Untouched (source ∷ []) olds mids
+    → EndsEarly source mids news status ⊎ Answers order source text mids news status → EndsEarly source olds news status ⊎ AnswersFrom order source olds news status
+from_text order source text olds mids news status told progress untouched (inl early) = inl (early_after source text olds mids news status progress untouched early)
+from_text order source text olds mids news status told progress untouched (inr answers) =
+    inr (record { text = text; told = told; answers = answers_after order source text olds mids news status progress untouched answers })
 
 pub answers_from : (order : Order) (source text : List ℕ) (olds mids news : List PortView) (at : ℕ) (status : Status) → IsPlaceOf source (names olds) at
     → ForNameAt at olds (λ name. Progress olds mids ((name, text) ∷ []) [])
     → ForNameAt at olds (λ name. IfSome (left_of name olds) (λ left. text ≡ source_text left))
     → ForNameAt at olds (λ name. Untouched (name ∷ []) olds mids)
-    → Answers order source text mids news status → AnswersFrom order source olds news status
-answers_from order source text olds mids news at status place taken told untouched answers =
+    → EndsEarly source mids news status ⊎ Answers order source text mids news status → EndsEarly source olds news status ⊎ AnswersFrom order source olds news status
+answers_from order source text olds mids news at status place taken told untouched ends =
     let e = meant source (names olds) at place in
-    record { text = text; told = told source e; answers = answers_after order source text olds mids news status (taken source e) (untouched source e) answers }
+    from_text order source text olds mids news status (told source e) (taken source e) (untouched source e) ends
 
 pub same_answers : (order : Order) (source other text copy : List ℕ) (olds news : List PortView) (status : Status) → other ≡ source → copy ≡ text
-    → Answers order other copy olds news status → Answers order source text olds news status
-same_answers order source other text copy olds news status same_source same_text answers =
-    let P : List ℕ → Type 0 = λ s. Answers order s text olds news status in
-    let Q : List ℕ → Type 0 = λ t. Answers order other t olds news status in
-    subst P same_source (subst Q same_text answers)
+    → EndsEarly other olds news status ⊎ Answers order other copy olds news status → EndsEarly source olds news status ⊎ Answers order source text olds news status
+same_answers order source other text copy olds news status same_source same_text ends =
+    let P : List ℕ → Type 0 = λ s. EndsEarly s olds news status ⊎ Answers order s text olds news status in
+    let Q : List ℕ → Type 0 = λ t. EndsEarly other olds news status ⊎ Answers order other t olds news status in
+    subst P same_source (subst Q same_text ends)
 
 pub of_order : (order told : Order) (source text : List ℕ) (olds news : List PortView) (status : Status) → order ≡ told
-    → Answers told source text olds news status → Answers order source text olds news status
-of_order order told source text olds news status same answers =
-    let P : Order → Type 0 = λ o. Answers o source text olds news status in
-    subst P (sym same) answers
+    → EndsEarly source olds news status ⊎ Answers told source text olds news status → EndsEarly source olds news status ⊎ Answers order source text olds news status
+of_order order told source text olds news status same ends =
+    let P : Order → Type 0 = λ o. EndsEarly source olds news status ⊎ Answers o source text olds news status in
+    subst P (sym same) ends

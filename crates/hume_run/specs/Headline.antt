@@ -90,7 +90,18 @@ pub record AnswersFrom (order : Order) (source : List ℕ) (old new : List PortV
   pub told : IfSome (left_of source old) (λ left. text ≡ source_text left)
   pub answers : Answers order source text old new status
 
--- Words with a form, over ports that are there, are answered as the source says.
+-- The call ended before its source was accepted or refused: a read of the source's port failed, or memory was wanting.
+pub record EndsEarly (source : List ℕ) (old new : List PortView) (status : Status) : Type 0 where
+  pub cause : (status ≡ NoMemory) ⊎ ((status ≡ Fault) × FailedRead (source ∷ []) old new)
+  -- where memory was wanting, nothing was written and no count has changed
+  pub memory : status ≡ NoMemory → Delivered old new []
+  pub quiet : (status ≡ Fault → ⊥) → SameFaults old new
+  -- where each port tells its bytes and a room, no read fails
+  pub complete : Roomy old [] → status ≡ Fault → ⊥
+  -- no port but the source's is touched
+  pub untouched : Untouched (source ∷ []) old new
+
+-- Words with a form, over ports that are there, are answered as the source says, or the call ends before that.
 abbrev pub Headline : List (List ℕ) → List PortView → List PortView → Status → Type 0
 Headline words old new status = IfSome (order_of words) (λ order.
-    (status ≡ Usage → ⊥) → AnswersFrom order (source_of words order) old new status)
+    (status ≡ Usage → ⊥) → EndsEarly (source_of words order) old new status ⊎ AnswersFrom order (source_of words order) old new status)

@@ -1,6 +1,5 @@
 pub mod Statuses
 pub mod Words
-pub mod Accepted
 pub mod OneBox
 pub mod Inputs
 pub mod Owed

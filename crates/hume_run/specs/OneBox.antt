@@ -22,8 +22,9 @@ use Rattle.hume_model.specs.declared.core_tree.BoxC.{BoxC}
 use Rattle.hume_model.specs.declared.core_tree.NodeC.TheVariants.{Rules, From, To}
 use Rattle.hume_model.specs.declared.core_tree.Core.{Core}
 use Rattle.hume_model.specs.OwnExceptions.{own_exceptions}
+use Rattle.hume_front.specs.declared.acceptance.Accepted.{Accepted}
+use Rattle.hume_front.specs.Accepted.{IsAccepted}
 use Rattle.hume_run.specs.declared.one_box.DeclarationLines.{DeclarationLines}
-use Rattle.hume_run.specs.Accepted.{IsAccepted}
 
 -- What is free in a one-box source: the ports of its streams, the operation, its right operand, and the lines.
 pub record OneBox : Type 0 where
@@ -110,9 +111,9 @@ core_of parts = record {
 
 -- The source is accepted, and is a box of these parts between two streams.
 pub record Spells (parts : OneBox) (text : List ℕ) : Type 0 where
-  pub program : Program
-  pub accepted : IsAccepted text program
-  pub is : IsOneBox text program parts
+  pub accepted : Accepted
+  pub is_accepted : IsAccepted text accepted
+  pub is : IsOneBox text accepted.program parts
 
 -- The source stands for the core.
 pub record HasCore (text : List ℕ) (core : Core) : Type 0 where

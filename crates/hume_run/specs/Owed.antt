@@ -6,7 +6,6 @@ use Rattle.std.specs.Option.{is_none}
 use Rattle.std.specs.Str.{bytes_eq}
 use Rattle.hume_base.specs.declared.rule.Refusal.{Refusal}
 use Rattle.hume_base.specs.declared.rule.Rule.TheVariants.{NotBuilt, C55}
-use Rattle.hume_ast.specs.declared.tree.Program.{Program}
 use Rattle.hume_base.specs.declared.types.Value.{Value}
 use Rattle.hume_base.specs.Rules.{code_of}
 use Rattle.hume_base.specs.Words.{int_of}
@@ -19,12 +18,13 @@ use Rattle.hume_net.specs.Lockstep.{lockstep}
 use Rattle.hume_net.specs.Start.{start}
 use Rattle.hume_ports.specs.Ports.{place_of, is_among, other_names}
 use Rattle.hume_ports.specs.Delivery.{Pairs}
+use Rattle.hume_front.specs.declared.acceptance.Accepted.{Accepted}
+use Rattle.hume_front.specs.Accepted.{IsAccepted, Breaks}
 use Rattle.hume_run.specs.declared.status.Status.{Status}
 use Rattle.hume_run.specs.declared.status.Status.TheVariants.{Done, Refused, BadValue}
 use Rattle.hume_run.specs.declared.order.Order.{Order}
 use Rattle.hume_run.specs.declared.order.Order.TheVariants.{Run, Check}
 use Rattle.hume_run.specs.Inputs.{good, bad}
-use Rattle.hume_run.specs.Accepted.{IsAccepted, Breaks}
 use Rattle.hume_run.specs.OneBox.{HasCore}
 
 -- each write as the name of its port and its bytes, in order; a name stands for the first port that has it
@@ -79,11 +79,10 @@ unfit_line names source earlier [] = None
 unfit_line names source earlier (stream ∷ later) =
     if is_unfit names source earlier stream.port then Some stream.line else unfit_line names source (stream.port ∷ earlier) later
 
--- The source breaks this rule, and no earlier one: one of its text, of its tokens or of its tree; or it isn't in the part
--- of the language that is built; or a stream's port is unfit.
+-- The source isn't accepted for this rule; or it isn't in the part of the language that is built; or a stream's port is unfit.
 pub data IsRefusal (text : List ℕ) (names : List (List ℕ)) (source : List ℕ) : Refusal → Type 0 where
   broken : (refusal : Refusal) → Breaks text refusal → IsRefusal text names source refusal
-  not_built : (program : Program) → IsAccepted text program → ((core : Core) → HasCore text core → ⊥)
+  not_built : (accepted : Accepted) → IsAccepted text accepted → ((core : Core) → HasCore text core → ⊥)
       → IsRefusal text names source (record { rule = NotBuilt; line = 1 })
   unfit : (core : Core) → HasCore text core → (line : ℕ) → unfit_line names source [] (streams core) ≡ Some line
       → IsRefusal text names source (record { rule = C55; line = line })
@@ -185,7 +184,7 @@ owed_accepted source = record {
 abbrev pub IsOwedCheck : List ℕ → List ℕ → Owed → Type 0
 IsOwedCheck source text owed =
     ((refusal : Refusal) × Breaks text refusal × (owed ≡ owed_refused source refusal))
-    ⊎ ((program : Program) × IsAccepted text program × (owed ≡ owed_accepted source))
+    ⊎ ((accepted : Accepted) × IsAccepted text accepted × (owed ≡ owed_accepted source))
 
 -- What the words ask for.
 abbrev pub IsOwed : Order → List ℕ → List ℕ → List (List ℕ) → (List ℕ → List ℕ) → Owed → Type 0

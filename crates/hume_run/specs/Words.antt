@@ -1,5 +1,5 @@
 -- The words of a call: `check SOURCE`, or `run STEPS WORKERS SOURCE PORT..`
-use Rattle.std.specs.Prelude.{ℕ, ◌==◌, Bool, ◌&&◌, List, [], ◌∷◌, length, Option, None, Some, if◌then◌else◌, nat_le, codes}
+use Rattle.std.specs.Prelude.{ℕ, Bool, ◌&&◌, List, [], ◌∷◌, length, Option, None, Some, if◌then◌else◌, nat_le, codes}
 use Rattle.std.specs.List.{slice_index_or}
 use Rattle.std.specs.Str.{bytes_eq, all_ascii_digits}
 use Rattle.std.specs.Str.Parse.{digits_value}

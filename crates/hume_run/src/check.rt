@@ -1,22 +1,23 @@
-ghost use Rattle.std.specs.Prelude.{◌≡◌, ℕ, List, map, IfOk};
+ghost use Rattle.std.specs.Prelude.{◌≡◌, ◌⊎◌, ℕ, List, map, IfOk};
 ghost use Rattle.hume_ports.specs.Ports.{names};
 ghost use Rattle.hume_run.specs.declared.order.Order.TheVariants.{Check};
-ghost use Rattle.hume_run.specs.Headline.{Ends, Answers};
+ghost use Rattle.hume_run.specs.Headline.{Ends, EndsEarly, Answers};
 ghost use Rattle.hume_run.specs.Owed.{owed_accepted, std_out};
 ghost use Rattle.hume_run.specs.inner.Reports.{IsPlaceOf, IsReport};
 
-use crate::acceptance::accept;
 use crate::refuse::end_unaccepted;
 use crate::report::{Report, one_place};
 use crate::settle::settle;
 use crate::status::Status;
+use hume_front::accept;
 use hume_ports::Port;
 use std::alloc::{AllocError, Global};
 
 /// Says whether a source of that text is accepted. The port of the report is given by its place.
 pub fn check_text(alloc: Global, ports: &mut [Box<dyn Port>], text: &[u8], out: usize) -> Status
     requires { IsPlaceOf std_out (names (map view ports.old)) out }
-    ensures { (place : ℕ) (source : List ℕ) → Answers (Check place) source text.now (map view ports.old) (map view ports.new) result }
+    ensures { (place : ℕ) (source : List ℕ) → EndsEarly source (map view ports.old) (map view ports.new) result
+        ⊎ Answers (Check place) source text.now (map view ports.old) (map view ports.new) result }
 {
     match accept(alloc, text) {
         Ok(_) => {}

@@ -1,5 +1,4 @@
 ghost use Rattle.std.specs.Prelude.{◌≡◌, ℕ, List, Some, slice_get};
-ghost use Rattle.hume_ast.specs.declared.tree.Program.{Program};
 ghost use Rattle.hume_model.specs.declared.core_tree.BoxC.{BoxC};
 ghost use Rattle.hume_model.specs.declared.core_tree.NodeC.TheVariants.{Rules};
 ghost use Rattle.hume_model.specs.declared.core_tree.Core.{Core};
@@ -7,13 +6,7 @@ ghost use Rattle.hume_model.specs.Handling.{HandlesAll};
 ghost use Rattle.hume_model.specs.WellFormed.{IsWellFormed};
 ghost use Rattle.hume_model.specs.Wiring.{WiresAgree};
 ghost use Rattle.hume_model.specs.Wiring.{IsWired};
-ghost use Rattle.hume_run.specs.Accepted.{IsAccepted};
 ghost use Rattle.hume_run.specs.OneBox.{HasCore};
-
-/// The law of sources: each is accepted as one program at most.
-pub fn one_program()
-    ensures { (text : List ℕ) (first second : Program) → IsAccepted text first → IsAccepted text second → first ≡ second }
-{}
 
 /// The law of one-box sources: each stands for one core at most.
 pub fn one_core()

@@ -1,14 +1,12 @@
 //! The top call: from the words, the source's bytes and the ports to the answer.
 //!
 //! The call is `hume`. Its contract is the promise of the tool: `specs/Headline.antt` says it, over what a call owes
-//! (`specs/Owed.antt`); `docs/PROMISE.md` lists every definition that it rests on. `accept` gives the program that a source is,
-//! or the rule that it breaks (`specs/Accepted.antt`).
-//! Laws: a source is accepted as one program at most (`one_program`) and stands for one core at most (`one_core`), and that core
-//! is well-formed and wired, and handles what it raises (`one_box_cores_are_well_formed`).
+//! (`specs/Owed.antt`); `docs/PROMISE.md` lists every definition that it rests on.
+//! Laws: a source stands for one core at most (`one_core`), and that core is well-formed and wired, and handles what it raises
+//! (`one_box_cores_are_well_formed`).
 //! It knows ports, words and what is owed to them; it doesn't know files, command lines or exit statuses.
 #![tactic(auto)]
 
-mod acceptance;
 mod box_report;
 mod build;
 mod check;
@@ -31,8 +29,7 @@ mod streams;
 mod top;
 mod words;
 
-pub use acceptance::{AcceptError, accept};
-pub use laws::{one_box_cores_are_well_formed, one_core, one_program};
+pub use laws::{one_box_cores_are_well_formed, one_core};
 pub use order::Order;
 pub use status::Status;
 pub use top::hume;

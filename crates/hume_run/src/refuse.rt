@@ -1,34 +1,35 @@
-ghost use Rattle.std.specs.Prelude.{◌≡◌, ℕ, List, map, IfOk};
+ghost use Rattle.std.specs.Prelude.{◌≡◌, ◌⊎◌, ℕ, List, map, IfOk};
+ghost use Rattle.hume_front.specs.Accepted.{IsUnaccepted};
 ghost use Rattle.hume_ports.specs.Ports.{names};
 ghost use Rattle.hume_run.specs.Owed.{owed_refused, std_out};
 ghost use Rattle.hume_run.specs.declared.order.Order.{Order};
-ghost use Rattle.hume_run.specs.Accepted.{IsUnaccepted};
-ghost use Rattle.hume_run.specs.Headline.{Ends, Answers};
+ghost use Rattle.hume_run.specs.Headline.{Ends, EndsEarly, Answers};
 ghost use Rattle.hume_run.specs.inner.Reports.{IsPlaceOf, IsReport};
 
-use crate::acceptance::AcceptError;
 use crate::lines::refused_line;
 use crate::report::{Report, one_place, one_write};
 use crate::settle::settle;
 use crate::status::Status;
 use hume_base::Refusal;
+use hume_front::FrontError;
 use hume_ports::Port;
 use std::alloc::{AllocError, Global};
 
-/// Ends a call of a source that isn't accepted.
+/// Ends a call of a source that isn't accepted: a rule that it breaks is told, and want of memory ends it early.
 pub fn end_unaccepted(
     alloc: Global,
     ports: &mut [Box<dyn Port>],
     out: usize,
-    error: AcceptError,
+    error: FrontError,
 ) -> Status
     requires { IsPlaceOf std_out (names (map view ports.old)) out }
     ensures { (order : Order) (source text : List ℕ) → IsUnaccepted text error
-        → Answers order source text (map view ports.old) (map view ports.new) result }
+        → EndsEarly source (map view ports.old) (map view ports.new) result
+        ⊎ Answers order source text (map view ports.old) (map view ports.new) result }
 {
     match error {
-        AcceptError::Refused(refusal) => refuse(alloc, ports, out, refusal),
-        AcceptError::NoMemory => Status::NoMemory,
+        FrontError::Refused(refusal) => refuse(alloc, ports, out, refusal),
+        FrontError::NoMemory => Status::NoMemory,
     }
 }
 

@@ -1,17 +1,16 @@
-ghost use Rattle.std.specs.Prelude.{◌≡◌, ℕ, List, map};
+ghost use Rattle.std.specs.Prelude.{◌≡◌, ◌⊎◌, ℕ, List, map};
 ghost use Rattle.hume_base.specs.declared.rule.Rule.TheVariants.{NotBuilt};
+ghost use Rattle.hume_front.specs.Accepted.{IsAccepted};
 ghost use Rattle.hume_ports.specs.Ports.{names};
 ghost use Rattle.hume_run.specs.inner.BoxRuns.{RunsBox};
-ghost use Rattle.hume_run.specs.Accepted.{IsAccepted};
 ghost use Rattle.hume_run.specs.declared.order.Order.TheVariants.{Run};
-ghost use Rattle.hume_run.specs.Headline.{Ends, Answers};
+ghost use Rattle.hume_run.specs.Headline.{Ends, EndsEarly, Answers};
 ghost use Rattle.hume_run.specs.OneBox.{core_of};
 ghost use Rattle.hume_run.specs.Owed.{owed_run, std_out};
 ghost use Rattle.hume_run.specs.inner.PartsOf.{parts_of};
 ghost use Rattle.hume_run.specs.inner.Reading.{IsInputFrom};
 ghost use Rattle.hume_run.specs.inner.Reports.{IsPlaceOf};
 
-use crate::acceptance::accept;
 use crate::box_report::box_report;
 use crate::input::{Input, InputError, read_input};
 use crate::one_box::{Parts, read_one_box};
@@ -19,8 +18,8 @@ use crate::refuse::{end_unaccepted, refuse};
 use crate::settle::settle;
 use crate::status::Status;
 use crate::streams::{Streams, find_streams};
-use hume_ast::Program;
 use hume_base::{Refusal, Rule};
+use hume_front::{Accepted, accept};
 use hume_ports::Port;
 use std::alloc::Global;
 
@@ -35,13 +34,14 @@ pub fn run_text(
     out: usize,
 ) -> Status
     requires { IsPlaceOf std_out (names (map view ports.old)) out }
-    ensures { (place : ℕ) → Answers (Run steps place) source.now text.now (map view ports.old) (map view ports.new) result }
+    ensures { (place : ℕ) → EndsEarly source.now (map view ports.old) (map view ports.new) result
+        ⊎ Answers (Run steps place) source.now text.now (map view ports.old) (map view ports.new) result }
 {
-    let program = match accept(alloc, text) {
-        Ok(program) => program,
+    let accepted = match accept(alloc, text) {
+        Ok(accepted) => accepted,
         Err(error) => return end_unaccepted(alloc, ports, out, error),
     };
-    run_program(alloc, ports, steps, source, text, &program, out)
+    run_program(alloc, ports, steps, source, text, &accepted, out)
 }
 
 fn run_program(
@@ -50,14 +50,14 @@ fn run_program(
     steps: u32,
     source: &[u8],
     text: &[u8],
-    program: &Program,
+    accepted: &Accepted,
     out: usize,
 ) -> Status
     requires out { IsPlaceOf std_out (names (map view ports.old)) out }
-    requires program { IsAccepted text.now program.now }
+    requires accepted { IsAccepted text.now accepted.now }
     ensures { (place : ℕ) → Answers (Run steps place) source.now text.now (map view ports.old) (map view ports.new) result }
 {
-    let Some(parts) = read_one_box(text, program) else {
+    let Some(parts) = read_one_box(text, &accepted.program) else {
         return refuse(alloc, ports, out, not_built());
     };
     match find_streams(ports, &parts, source) {

@@ -1,6 +1,6 @@
-ghost use Rattle.std.specs.Prelude.{◌≡◌, ◌↔◌, map, string_bytes};
+ghost use Rattle.std.specs.Prelude.{◌≡◌, ◌↔◌, ◌⊎◌, map, string_bytes};
 ghost use Rattle.hume_ports.specs.Ports.{names};
-ghost use Rattle.hume_run.specs.Headline.{Headline, IsUsage, Answers, AnswersFrom};
+ghost use Rattle.hume_run.specs.Headline.{Headline, IsUsage, EndsEarly, Answers, AnswersFrom};
 ghost use Rattle.hume_run.specs.Owed.{std_out};
 ghost use Rattle.hume_run.specs.inner.Reports.{IsPlaceOf};
 
@@ -42,7 +42,8 @@ fn answer(
 ) -> Status
     requires source { IsPlaceOf name.now (names (map view ports.old)) at }
     requires out { IsPlaceOf std_out (names (map view ports.old)) out }
-    ensures { AnswersFrom order name.now (map view ports.old) (map view ports.new) result }
+    ensures { EndsEarly name.now (map view ports.old) (map view ports.new) result
+        ⊎ AnswersFrom order name.now (map view ports.old) (map view ports.new) result }
 {
     match read_source(alloc, ports, at) {
         Ok(text) => answer_text(alloc, ports, order, name.as_bytes(), &text, out),
@@ -60,7 +61,8 @@ fn answer_text(
     out: usize,
 ) -> Status
     requires { IsPlaceOf std_out (names (map view ports.old)) out }
-    ensures { Answers order source.now text.now (map view ports.old) (map view ports.new) result }
+    ensures { EndsEarly source.now (map view ports.old) (map view ports.new) result
+        ⊎ Answers order source.now text.now (map view ports.old) (map view ports.new) result }
 {
     match order {
         Order::Run { steps, .. } => run_text(alloc, ports, steps, source, text, out),

@@ -13,8 +13,8 @@ use hume_results::ResultElaboration;
 use hume_typing::{Signatures, declaration_walk_is_typing};
 use std::alloc::{AllocError, Global};
 
-/// The first declaration in which something has no type, or a literal is out of the range of its type, by the signatures
-/// of the program, with the rule that it breaks so.
+/// The first declaration in which something has no type, or a literal is out of the range of its type, by the
+/// signatures of the program, with the rule that it breaks so.
 pub fn first_mistyped(
     alloc: Global,
     decls: &[(u32, Decl)],

@@ -1,3 +1,4 @@
+use Rattle.std.proofs.Common.{inr}
 use Rattle.hume_run.specs.declared.order.Order.TheVariants.{Check}
 use Rattle.hume_run.proofs.Running.{check_answers}
 use Rattle.hume_run.proofs.check.check_text.Goals as goal
@@ -6,4 +7,4 @@ pub returns-in-Err : goal.returns-in-Err
 returns-in-Err g c place source = c.end_unaccepted.ensures (Check place) source _ c.in-Err.ensures.error
 
 pub returns : goal.returns
-returns g c place source = check_answers place source _ _ _ _ c.in-Ok.field-0 c.in-Ok.ensures.program c.report_accepted.ensures
+returns g c place source = inr (check_answers place source _ _ _ _ c.in-Ok.field-0 c.in-Ok.ensures.accepted c.report_accepted.ensures)
