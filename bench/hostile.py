@@ -53,6 +53,10 @@ def one_name_many_times(n):
     return "f::int 8->int 8;\nf x=f x;\n" * n
 
 
+def one_data_type_many_times(n):
+    return "data A=B A;\n" * n
+
+
 def equations(n):
     return "f::int 8->int 8;\n" + "".join(f"f {i % 100}={i % 100};\n" for i in range(n))
 
@@ -156,7 +160,7 @@ one_box = "box b in(x::int 8)out(y::int 8)match(x)->x;\n"
 
 SOURCES = [
     chain_of_functions, chain_of_few_functions, cycle_of_functions, chain_of_data_types, cycle_of_data_types, names_in_one_space,
-    one_name_many_times, equations, doubling_types, deep_operators, deep_comparisons, deep_open_comparisons, deep_ifs, deep_cases,
+    one_name_many_times, one_data_type_many_times, equations, doubling_types, deep_operators, deep_comparisons, deep_open_comparisons, deep_ifs, deep_cases,
     long_sums, wires_to_one_box, wires_with_first_values, boxes, rules, streams, long_vectors, constructors, alternatives, parameters,
     large_data_types, one_type_of_many_variables, calls_of_all,
 ]
