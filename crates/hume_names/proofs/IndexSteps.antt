@@ -44,7 +44,7 @@ none_from : (x : Option ℕ) → is_some x ≡ false → x ≡ None
 none_from None h = refl
 none_from (Some n) h = absurd (false≢true (sym h))
 
-index_push : (es owners : List (List ℕ × ℕ)) (o : List ℕ × ℕ) → among o.0 (names_of es) ≡ false → IsIndex es owners → IsIndex (es ++ o ∷ []) (owners ++ o ∷ [])
+pub index_push : (es owners : List (List ℕ × ℕ)) (o : List ℕ × ℕ) → among o.0 (names_of es) ≡ false → IsIndex es owners → IsIndex (es ++ o ∷ []) (owners ++ o ∷ [])
 unfolding after
 index_push es owners o off h name = by (bytes_eq name o.0) refl
   where
@@ -71,3 +71,25 @@ index_more table new owners at o distinct is_new is h fresh added t = by distinc
     by true true h e t false q =
         let there : new ≡ table ++ o ∷ [] = added ∙ ap (λ b. if b then table else table ++ o ∷ []) (is_some-number_of o.0 table ∙ q) in
         subst (λ es. IsIndex es (take (at + 1) owners)) (sym there) (subst (IsIndex (table ++ o ∷ [])) (sym more) (index_push table (take at owners) o q (h refl)))
+
+-- what is beside a name, with one entry more
+module _ (es : List (List ℕ × ℕ)) (o : List ℕ × ℕ) where
+  pub itself : bytes_eq o.0 o.0 ≡ true
+  itself = (bytes_eq-Decides o.0 o.0).1 refl
+
+  pub numbers_own : numbers_of o.0 (es ++ o ∷ []) ≡ numbers_of o.0 es ++ o.1 ∷ []
+  numbers_own = numbers_of-push o.0 es o ∙ ap (λ b. numbers_of o.0 es ++ (if b then o.1 ∷ [] else [])) itself
+
+  pub numbers_other : (name : List ℕ) → bytes_eq name o.0 ≡ false → numbers_of name (es ++ o ∷ []) ≡ numbers_of name es
+  numbers_other name off = numbers_of-push name es o ∙ ap (λ b. numbers_of name es ++ (if b then o.1 ∷ [] else [])) off ∙ append-nil (numbers_of name es)
+
+  pub number_own : number_of o.0 es ≡ None → number_of o.0 (es ++ o ∷ []) ≡ Some o.1
+  unfolding after
+  number_own none = number_of-push o.0 es o ∙ (λ i. after (none i) (if itself i then Some o.1 else None))
+
+  pub number_other : (name : List ℕ) → bytes_eq name o.0 ≡ false → number_of name (es ++ o ∷ []) ≡ number_of name es
+  number_other name off = number_of-push name es o ∙ ap (λ b. after (number_of name es) (if b then Some o.1 else None)) off ∙ after_none (number_of name es)
+
+  pub number_kept : (name : List ℕ) (n : ℕ) → number_of name es ≡ Some n → number_of name (es ++ o ∷ []) ≡ Some n
+  unfolding after
+  number_kept name n h = number_of-push name es o ∙ ap (λ x. after x (if bytes_eq name o.0 then Some o.1 else None)) h

@@ -6,3 +6,5 @@ pub mod Steps
 pub mod NameRules
 pub mod CaseSteps
 pub mod IndexSteps
+pub mod NodeSteps
+pub mod NodePaths

@@ -2,3 +2,4 @@ pub mod Spaces
 pub mod Alternatives
 pub mod KnownTables
 pub mod Indexed
+pub mod NameNodes

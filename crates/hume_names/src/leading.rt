@@ -2,11 +2,15 @@ ghost use Rattle.std.specs.Prelude.{◌≡◌, ◌<◌, ◌^◌, [], ◌++◌, m
 ghost use Rattle.hume_base.specs.Least.{IsFirst};
 ghost use Rattle.hume_names.specs.Mentions as mentioned;
 ghost use Rattle.hume_names.specs.inner.Indexed.{IsIndexed};
-ghost use Rattle.hume_names.specs.Leading.{same_kind, numbers_of, meant, graph_of, CallsItself, HoldsItself};
+ghost use Rattle.hume_names.specs.inner.NameNodes.{IsByNames};
+ghost use Rattle.hume_graph.specs.Cycles.{InCycle};
+ghost use Rattle.hume_names.specs.Leading.{same_kind, owners_from, numbers_of, meant, graph_of, CallsItself, HoldsItself};
 
 use crate::mention_decls::mentions_of;
 use crate::mention_list::{MentionList, NameKind};
+use crate::name_nodes::{NameNodes, name_nodes};
 use crate::owner_index::{OwnerIndex, index_of};
+use crate::owners::Owners;
 use hume_ast::{Decl, Program};
 use hume_base::List;
 use hume_graph::first_in_cycle;
@@ -17,9 +21,7 @@ pub fn first_in_call_cycle(alloc: Global, program: &Program) -> Result<Option<u3
     requires { length program.now.decls < 2 ^ 32 }
     ensures { IfOk result (IsFirst (CallsItself program.now.decls)) }
 {
-    let graph = name_graph(alloc, NameKind::Function, program.decls.as_slice())?;
-    let found = first_in_cycle(alloc, &graph)?;
-    Ok(found)
+    first_leading_back(alloc, NameKind::Function, program.decls.as_slice())
 }
 
 /// The first data type that holds itself.
@@ -27,9 +29,70 @@ pub fn first_self_holding(alloc: Global, program: &Program) -> Result<Option<u32
     requires { length program.now.decls < 2 ^ 32 }
     ensures { IfOk result (IsFirst (HoldsItself program.now.decls)) }
 {
-    let graph = name_graph(alloc, NameKind::DataType, program.decls.as_slice())?;
-    let found = first_in_cycle(alloc, &graph)?;
-    Ok(found)
+    first_leading_back(alloc, NameKind::DataType, program.decls.as_slice())
+}
+
+// The first declaration that leads to itself. Only where a name is declared again do names have nodes.
+fn first_leading_back(
+    alloc: Global,
+    kind: NameKind,
+    decls: &[(u32, Decl)],
+) -> Result<Option<u32>, AllocError>
+    requires { length decls.now < 2 ^ 32 }
+    ensures { IfOk result (IsFirst (InCycle (graph_of kind decls.now))) }
+{
+    let owners = index_of(alloc, kind, decls)?;
+    if owners.distinct {
+        return first_by_declarations(alloc, kind, &owners, decls);
+    }
+    first_by_names(alloc, kind, &owners, decls)
+}
+
+fn first_by_declarations(
+    alloc: Global,
+    kind: NameKind,
+    owners: &OwnerIndex,
+    decls: &[(u32, Decl)],
+) -> Result<Option<u32>, AllocError>
+    requires few { length decls.now < 2 ^ 32 }
+    requires owners { owners.now.owners ≡ owners_from kind 0 decls.now }
+    requires indexed { IsIndexed owners.now }
+    ensures { IfOk result (IsFirst (InCycle (graph_of kind decls.now))) }
+{
+    let graph = graph_by(alloc, kind, owners, decls)?;
+    first_in_cycle(alloc, &graph)
+}
+
+fn first_by_names(
+    alloc: Global,
+    kind: NameKind,
+    owners: &OwnerIndex,
+    decls: &[(u32, Decl)],
+) -> Result<Option<u32>, AllocError>
+    requires few { length decls.now < 2 ^ 32 }
+    requires owners { owners.now.owners ≡ owners_from kind 0 decls.now }
+    ensures { IfOk result (IsFirst (InCycle (graph_of kind decls.now))) }
+{
+    let graph = graph_by_names(alloc, kind, &owners.owners, decls)?;
+    first_in_cycle(alloc, &graph)
+}
+
+// A declaration leads to the nodes of the names that it mentions, and the node of a name to all declarations of the name:
+// so there are no more edges than names in the source, however often each is declared.
+fn graph_by_names(
+    alloc: Global,
+    kind: NameKind,
+    owners: &Owners,
+    decls: &[(u32, Decl)],
+) -> Result<List<List<u32>>, AllocError>
+    requires few { length decls.now < 2 ^ 32 }
+    ensures few { IfOk result (λ graph. length graph < 2 ^ 32) }
+    ensures by_names { IfOk result (IsByNames kind decls.now owners.now) }
+{
+    let NameNodes { index, rows } = name_nodes(alloc, decls.len(), owners)?;
+    let mut graph = graph_by(alloc, kind, &index, decls)?;
+    graph.append(rows)?;
+    Ok(graph)
 }
 
 /// Which declarations lead to which by the names of a kind that they mention.

@@ -20,6 +20,7 @@ mod mention_list;
 mod mention_types;
 mod misnamed;
 mod name_list;
+mod name_nodes;
 mod owner_index;
 mod owners;
 mod repeated;

@@ -25,7 +25,7 @@ impl<'a> Model for Owners<'a> {
 }
 
 impl<'a> Owners<'a> {
-    fn new(alloc: Global) -> Owners<'a>
+    pub(crate) fn new(alloc: Global) -> Owners<'a>
         ensures { result ≡ [] }
     {
         Owners {
@@ -33,7 +33,7 @@ impl<'a> Owners<'a> {
         }
     }
 
-    fn push(&mut self, name: &'a [u8], number: u32) -> Result<(), AllocError>
+    pub(crate) fn push(&mut self, name: &'a [u8], number: u32) -> Result<(), AllocError>
         ensures { OnOk result (self.new ≡ self.old ++ (name.now, number) ∷ []) }
     {
         self.owners.push((name, number))?;

@@ -13,7 +13,8 @@ use Rattle.hume_run.specs.Owed.{Owed}
 use Rattle.hume_run.specs.Headline.{Ends, Fails, FailedRead, FailedWrite, FailedFinish}
 use Rattle.hume_run.proofs.Ending.{ends_failed, ends_without_memory}
 
-pub read_after : (reads : List (List ℕ)) (olds mids news : List PortView) (taken : Pairs) → Progress olds mids taken [] → FailedRead reads mids news → FailedRead reads olds news
+pub read_after : (reads : List (List ℕ)) (olds mids news : List PortView) (taken : Pairs) → Progress olds mids taken []
+    → FailedRead reads mids news → FailedRead reads olds news
 read_after reads olds mids news taken p f = record {
   name = f.name;
   is_read = f.is_read;

@@ -96,5 +96,6 @@ one_accepted text one other a b = one_program text one.program other.program a.p
 pub one_core : (text : List ℕ) (first second : Core) → HasCore text first → HasCore text second → first ≡ second
 one_core text first second a b =
     let program = one_accepted text b.spelled.accepted a.spelled.accepted b.spelled.is_accepted a.spelled.is_accepted in
-    let same : a.parts ≡ b.parts = one_parts text a.spelled.accepted.program a.parts b.parts a.spelled.is (subst (λ p. IsOneBox text p b.parts) program b.spelled.is) in
+    let same : a.parts ≡ b.parts = one_parts text a.spelled.accepted.program a.parts b.parts a.spelled.is
+    (subst (λ p. IsOneBox text p b.parts) program b.spelled.is) in
     a.is ∙ (ap core_of same ∙ sym b.is)

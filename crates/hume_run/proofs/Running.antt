@@ -114,28 +114,31 @@ check_answers place source text olds news status accepted is_accepted ends =
     owed_answers (Check place) source text olds news status (owed_accepted source) (inr (accepted, is_accepted, refl)) (ends source)
 
 -- an accepted program that isn't a one-box program stands for no core
-no_core : (text : List ℕ) (accepted : Accepted) → IsAccepted text accepted → ((parts : OneBox) → IsOneBox text accepted.program parts → ⊥) → (core : Core) → HasCore text core → ⊥
+no_core : (text : List ℕ) (accepted : Accepted) → IsAccepted text accepted → ((parts : OneBox) → IsOneBox text accepted.program parts → ⊥)
+    → (core : Core) → HasCore text core → ⊥
 no_core text accepted is_accepted none core stands =
     let same = one_accepted text stands.spelled.accepted accepted stands.spelled.is_accepted is_accepted in
     none stands.parts (subst (λ p. IsOneBox text p stands.parts) same stands.spelled.is)
 
 -- the core of an accepted one-box program
-stands_for : (text : List ℕ) (accepted : Accepted) (parts : OneBox) → IsAccepted text accepted → IsOneBox text accepted.program parts → HasCore text (core_of parts)
+stands_for : (text : List ℕ) (accepted : Accepted) (parts : OneBox) → IsAccepted text accepted
+    → IsOneBox text accepted.program parts → HasCore text (core_of parts)
 stands_for text accepted parts is_accepted is = record {
   parts = parts;
   spelled = record { accepted = accepted; is_accepted = is_accepted; is = is };
   is = refl;
 }
 
-pub not_built_answers : (place steps : ℕ) (source text : List ℕ) (olds news : List PortView) (status : Status) (refusal : Refusal) (accepted : Accepted) → IsAccepted text accepted
-    → ((parts : OneBox) → IsOneBox text accepted.program parts → ⊥) → refusal ≡ record { rule = NotBuilt; line = 1 }
+pub not_built_answers : (place steps : ℕ) (source text : List ℕ) (olds news : List PortView) (status : Status) (refusal : Refusal) (accepted : Accepted)
+    → IsAccepted text accepted → ((parts : OneBox) → IsOneBox text accepted.program parts → ⊥) → refusal ≡ record { rule = NotBuilt; line = 1 }
     → ((source : List ℕ) → Ends (owed_refused source refusal) olds news status) → Answers (Run steps place) source text olds news status
 not_built_answers place steps source text olds news status refusal accepted is_accepted none is ends =
-    let refuses : IsRefusal text (names olds) source refusal = subst (IsRefusal text (names olds) source) (sym is) (not_built accepted is_accepted (no_core text accepted is_accepted none)) in
+    let refuses : IsRefusal text (names olds) source refusal =
+    subst (IsRefusal text (names olds) source) (sym is) (not_built accepted is_accepted (no_core text accepted is_accepted none)) in
     owed_answers (Run steps place) source text olds news status (owed_refused source refusal) (inl (refusal, refuses, refl)) (ends source)
 
-pub unfit_answers : (place steps : ℕ) (source text : List ℕ) (olds news : List PortView) (status : Status) (refusal : Refusal) (accepted : Accepted) (parts : OneBox) → IsAccepted text accepted
-    → IsOneBox text accepted.program parts
+pub unfit_answers : (place steps : ℕ) (source text : List ℕ) (olds news : List PortView) (status : Status) (refusal : Refusal) (accepted : Accepted)
+    (parts : OneBox) → IsAccepted text accepted → IsOneBox text accepted.program parts
     → ((line : ℕ) × (unfit_line (names olds) source [] (streams (core_of parts)) ≡ Some line) × (refusal ≡ record { rule = C55; line = line }))
     → ((source : List ℕ) → Ends (owed_refused source refusal) olds news status) → Answers (Run steps place) source text olds news status
 unfit_answers place steps source text olds news status refusal accepted parts is_accepted is found ends =
@@ -143,8 +146,9 @@ unfit_answers place steps source text olds news status refusal accepted parts is
     subst (IsRefusal text (names olds) source) (sym found.2) (unfit (core_of parts) (stands_for text accepted parts is_accepted is) found.0 found.1) in
     owed_answers (Run steps place) source text olds news status (owed_refused source refusal) (inl (refusal, refuses, refl)) (ends source)
 
-pub run_answers : (place steps : ℕ) (source text : List ℕ) (olds news : List PortView) (status : Status) (accepted : Accepted) (parts : OneBox) → IsAccepted text accepted
-    → IsOneBox text accepted.program parts → unfit_line (names olds) source [] (streams (core_of parts)) ≡ None → RunsBox steps parts olds news status
+pub run_answers : (place steps : ℕ) (source text : List ℕ) (olds news : List PortView) (status : Status) (accepted : Accepted)
+    (parts : OneBox) → IsAccepted text accepted → IsOneBox text accepted.program parts
+    → unfit_line (names olds) source [] (streams (core_of parts)) ≡ None → RunsBox steps parts olds news status
     → Answers (Run steps place) source text olds news status
 run_answers place steps source text olds news status accepted parts is_accepted is fit runs = record {
   texts = runs.texts;
@@ -184,6 +188,14 @@ answers_after order source text olds mids news status progress untouched answers
 
 -- a call that ends early
 
+-- it ended early, or as one of a source with that text
+abbrev pub Ended : Order → List ℕ → List ℕ → List PortView → List PortView → Status → Type 0
+Ended order source text olds news status = EndsEarly source olds news status ⊎ Answers order source text olds news status
+
+-- it ended early, or as the text says that is read from the source's port
+abbrev pub EndedFrom : Order → List ℕ → List PortView → List PortView → Status → Type 0
+EndedFrom order source olds news status = EndsEarly source olds news status ⊎ AnswersFrom order source olds news status
+
 -- memory was refused before any port was called
 pub early_unstarted : (source : List ℕ) (ports : List PortView) → EndsEarly source ports ports NoMemory
 early_unstarted source ports = record {
@@ -197,7 +209,8 @@ early_unstarted source ports = record {
 abbrev Cause : List ℕ → List PortView → List PortView → Status → Type 0
 Cause source olds news status = (status ≡ NoMemory) ⊎ ((status ≡ Fault) × FailedRead (source ∷ []) olds news)
 
-cause_after : (source : List ℕ) (olds mids news : List PortView) (status : Status) (taken : Pairs) → Progress olds mids taken [] → Cause source mids news status → Cause source olds news status
+cause_after : (source : List ℕ) (olds mids news : List PortView) (status : Status) (taken : Pairs) → Progress olds mids taken []
+    → Cause source mids news status → Cause source olds news status
 cause_after source olds mids news status taken progress (inl memory) = inl memory
 cause_after source olds mids news status taken progress (inr (fault, failed)) = inr (fault, read_after (source ∷ []) olds mids news taken progress failed)
 
@@ -213,7 +226,7 @@ early_after source text olds mids news status progress untouched early = record 
 
 pub source_unread : (order : Order) (source : List ℕ) (olds news : List PortView) (at : ℕ) → IsPlaceOf source (names olds) at
     → ForNameAt at olds (λ name. (taken : Pairs) × ReadFailure name olds news taken []) → (Roomy olds [] → ⊥)
-    → ForNameAt at olds (λ name. Untouched (name ∷ []) olds news) → EndsEarly source olds news Fault ⊎ AnswersFrom order source olds news Fault
+    → ForNameAt at olds (λ name. Untouched (name ∷ []) olds news) → EndedFrom order source olds news Fault
 source_unread order source olds news at place failed no_room untouched =
     let e = meant source (names olds) at place in
     let f = failed source e in
@@ -226,15 +239,17 @@ source_unread order source olds news at place failed no_room untouched =
     })
 
 pub source_unstarted : (order : Order) (source : List ℕ) (olds news : List PortView) → news ≡ olds
-    → EndsEarly source olds news NoMemory ⊎ AnswersFrom order source olds news NoMemory
+    → EndedFrom order source olds news NoMemory
 source_unstarted order source olds news same =
     let P : List PortView → Type 0 = λ ports. EndsEarly source olds ports NoMemory in
     inl (subst P (sym same) (early_unstarted source olds))
 
-from_text : (order : Order) (source text : List ℕ) (olds mids news : List PortView) (status : Status) → IfSome (left_of source olds) (λ left. text ≡ source_text left)
+from_text : (order : Order) (source text : List ℕ) (olds mids news : List PortView) (status : Status)
+    → IfSome (left_of source olds) (λ left. text ≡ source_text left)
     → Progress olds mids ((source, text) ∷ []) [] → Untouched (source ∷ []) olds mids
-    → EndsEarly source mids news status ⊎ Answers order source text mids news status → EndsEarly source olds news status ⊎ AnswersFrom order source olds news status
-from_text order source text olds mids news status told progress untouched (inl early) = inl (early_after source text olds mids news status progress untouched early)
+    → Ended order source text mids news status → EndedFrom order source olds news status
+from_text order source text olds mids news status told progress untouched (inl early) =
+    inl (early_after source text olds mids news status progress untouched early)
 from_text order source text olds mids news status told progress untouched (inr answers) =
     inr (record { text = text; told = told; answers = answers_after order source text olds mids news status progress untouched answers })
 
@@ -242,20 +257,20 @@ pub answers_from : (order : Order) (source text : List ℕ) (olds mids news : Li
     → ForNameAt at olds (λ name. Progress olds mids ((name, text) ∷ []) [])
     → ForNameAt at olds (λ name. IfSome (left_of name olds) (λ left. text ≡ source_text left))
     → ForNameAt at olds (λ name. Untouched (name ∷ []) olds mids)
-    → EndsEarly source mids news status ⊎ Answers order source text mids news status → EndsEarly source olds news status ⊎ AnswersFrom order source olds news status
+    → Ended order source text mids news status → EndedFrom order source olds news status
 answers_from order source text olds mids news at status place taken told untouched ends =
     let e = meant source (names olds) at place in
     from_text order source text olds mids news status (told source e) (taken source e) (untouched source e) ends
 
 pub same_answers : (order : Order) (source other text copy : List ℕ) (olds news : List PortView) (status : Status) → other ≡ source → copy ≡ text
-    → EndsEarly other olds news status ⊎ Answers order other copy olds news status → EndsEarly source olds news status ⊎ Answers order source text olds news status
+    → Ended order other copy olds news status → Ended order source text olds news status
 same_answers order source other text copy olds news status same_source same_text ends =
-    let P : List ℕ → Type 0 = λ s. EndsEarly s olds news status ⊎ Answers order s text olds news status in
-    let Q : List ℕ → Type 0 = λ t. EndsEarly other olds news status ⊎ Answers order other t olds news status in
+    let P : List ℕ → Type 0 = λ s. Ended order s text olds news status in
+    let Q : List ℕ → Type 0 = λ t. Ended order other t olds news status in
     subst P same_source (subst Q same_text ends)
 
 pub of_order : (order told : Order) (source text : List ℕ) (olds news : List PortView) (status : Status) → order ≡ told
-    → EndsEarly source olds news status ⊎ Answers told source text olds news status → EndsEarly source olds news status ⊎ Answers order source text olds news status
+    → Ended told source text olds news status → Ended order source text olds news status
 of_order order told source text olds news status same ends =
-    let P : Order → Type 0 = λ o. EndsEarly source olds news status ⊎ Answers o source text olds news status in
+    let P : Order → Type 0 = λ o. Ended o source text olds news status in
     subst P (sym same) ends

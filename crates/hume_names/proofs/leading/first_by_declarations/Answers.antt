@@ -1,0 +1,10 @@
+use Rattle.std.proofs.Common.{IfOk, map, ap, subst, ◌∙◌}
+use Rattle.hume_base.specs.Least.{IsFirst}
+use Rattle.hume_graph.specs.Cycles.{InCycle}
+use Rattle.hume_names.specs.Mentions.{mentions_of}
+use Rattle.hume_names.specs.Leading.{meant}
+use Rattle.hume_names.proofs.leading.first_by_declarations.Goals as goal
+
+pub returns : goal.returns
+returns c =
+    subst (λ graph. IfOk c.first_in_cycle.result (IsFirst (InCycle graph))) (c.in_ok-graph.ensures ∙ ap (λ owners. map (λ d. meant c.args.kind owners (mentions_of d.1)) c.args.decls.now) c.requires.owners) c.first_in_cycle.ensures

@@ -1,0 +1,2 @@
+pub mod FillsOfPorts
+pub mod WritesInTurn
