@@ -1,0 +1,13 @@
+pub mod AheadOfStreams
+pub mod Blocking
+pub mod Clearing
+pub mod Completing
+pub mod Kept
+pub mod OneNode
+pub mod PieceSteps
+pub mod RoundCounts
+pub mod Rounds
+pub mod Streaming
+pub mod Streams
+pub mod Sums
+pub mod Values

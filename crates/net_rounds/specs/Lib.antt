@@ -1,0 +1,4 @@
+pub mod Rounds
+pub mod Streams
+pub mod Pieces
+pub mod Blocked
