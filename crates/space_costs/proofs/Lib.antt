@@ -1,0 +1,10 @@
+pub mod Forms
+pub mod Lists
+pub mod Sizes
+pub mod TypeForms
+pub mod FunctionCosts
+pub mod TypeBuilds
+pub mod ResultForms
+pub mod PositionSteps
+pub mod NodeFindings
+pub mod KnownHandlers

@@ -1,0 +1,2 @@
+pub mod NodeCosts
+pub mod inner
