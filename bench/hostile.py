@@ -29,6 +29,15 @@ def chain_of_functions(n):
     return "f0::int 8->int 8;\nf0 x=x;\n" + "".join(f"f{i}::int 8->int 8;\nf{i} x=f{i - 1} x;\n" for i in range(1, n))
 
 
+def forward_chain_of_functions(n):
+    """Each calls the one that is declared behind it."""
+    return "".join(f"f{i}::bool->bool;\nf{i} x=f{i + 1} x;\n" for i in range(n)) + f"f{n}::bool->bool;\nf{n} x=x;\n"
+
+
+def forward_chain_of_data_types(n):
+    return "".join(f"data D{i}=C{i} D{i + 1};\n" for i in range(n)) + f"data D{n}=C{n};\n"
+
+
 def chain_of_few_functions(n):
     return chain_of_functions(min(n, 256)) + one_box
 
@@ -159,9 +168,10 @@ def calls_of_all(n):
 one_box = "box b in(x::int 8)out(y::int 8)match(x)->x;\n"
 
 SOURCES = [
-    chain_of_functions, chain_of_few_functions, cycle_of_functions, chain_of_data_types, cycle_of_data_types, names_in_one_space,
-    one_name_many_times, one_data_type_many_times, equations, doubling_types, deep_operators, deep_comparisons, deep_open_comparisons, deep_ifs, deep_cases,
-    long_sums, wires_to_one_box, wires_with_first_values, boxes, rules, streams, long_vectors, constructors, alternatives, parameters,
+    chain_of_functions, forward_chain_of_functions, chain_of_few_functions, cycle_of_functions, chain_of_data_types,
+    forward_chain_of_data_types, cycle_of_data_types, names_in_one_space, one_name_many_times, one_data_type_many_times,
+    equations, doubling_types, deep_operators, deep_comparisons, deep_open_comparisons, deep_ifs, deep_cases, long_sums,
+    wires_to_one_box, wires_with_first_values, boxes, rules, streams, long_vectors, constructors, alternatives, parameters,
     large_data_types, one_type_of_many_variables, calls_of_all,
 ]
 
