@@ -1,12 +1,17 @@
-//! `hume run STEPS WORKERS SOURCE PORT..` or `hume check SOURCE`: the words from SOURCE on name the files that are ports.
+//! `hume run STEPS WORKERS SOURCE PORT..` or `hume check SOURCE`: the words from SOURCE on name the files that are ports. The
+//! ports `std_in` and `std_out` are always there.
 #![tactic(auto)]
 
-use hume_ports::{FilePort, Port, StdOut, find};
+use hume_ports::{FilePort, Port, StdIn, StdOut, find};
 use hume_run::{Status, hume, read_words};
 use std::alloc::{AllocError, Global};
 use std::env;
 use std::io::ErrorKind;
 use std::process::ExitCode;
+
+const STD_IN: &str = "std_in";
+
+const STD_OUT: &str = "std_out";
 
 fn main(rt: HostRuntime) -> ExitCode {
     match run(&rt) {
@@ -21,13 +26,19 @@ fn run(rt: &HostRuntime) -> Result<Status, AllocError> {
     let mut ports: Vec<Box<dyn Port>> = Vec::new(alloc);
     if let Some(order) = read_words(&words) {
         for word in words.iter().skip(order.source() as usize) {
-            if word.as_str() != "std_out" && find(&ports, word).is_none() {
+            if !is_standard(word) && find(&ports, word).is_none() {
                 ports.push(Box::new(alloc, FilePort::make(rt, alloc, word)?)?)?;
             }
         }
     }
-    ports.push(Box::new(alloc, StdOut::make(rt, alloc, "std_out")?)?)?;
+    ports.push(Box::new(alloc, StdIn::make(rt, alloc, STD_IN)?)?)?;
+    ports.push(Box::new(alloc, StdOut::make(rt, alloc, STD_OUT)?)?)?;
     Ok(hume(alloc, &words, &mut ports))
+}
+
+// Whether the port of that name is no file.
+fn is_standard(name: &str) -> bool {
+    name == STD_IN || name == STD_OUT
 }
 
 // The words after the program's own name. Where one isn't UTF-8 there are none, so that the call is one of no form.

@@ -1,10 +1,9 @@
 -- Which ports may be streams'.
 use Rattle.std.proofs.Common.{◌≡◌, ℕ, zero, suc, Bool, true, false, cond, ◌<◌, List, [], ◌∷◌, length, Some, None, sym, subst, arith}
 use Rattle.std.specs.Str.{bytes_eq}
-use Rattle.std.proofs.lemmas.Grind.{common_steps}
 use Rattle.hume_ports.specs.Ports.{place_of}
 use Rattle.hume_ports.proofs.Names.{same_name, place-zero, place-suc}
-use Rattle.hume_run.specs.inner.Reports.{IsPlaceOf, name_at}
+use Rattle.gathered_writes.specs.Places.{IsPlaceOf, name_at}
 
 found_within : (name : List ℕ) (names : List (List ℕ)) (at : ℕ) → place_of name names ≡ Some at → at < length names
 found_within name [] at found = cc
@@ -26,10 +25,3 @@ found_place name names at found =
       place = record { within = found_within name names at found; first = subst P (sym named) found };
       named = named;
     }
-
--- the same of a port that is found where it isn't the source's
-pub found_fit : (is_source : Bool) (name : List ℕ) (names : List (List ℕ)) (at : ℕ) → Some at ≡ cond is_source None (place_of name names) → IsPlaceOf name names at
-found_fit true name names at found = cc
-found_fit false name names at found = found_place name names at (sym found)
-
-pub ruleset stream_steps = (common_steps, found_place)

@@ -4,15 +4,7 @@ use Rattle.std.specs.List.{All}
 use Rattle.std.proofs.lemmas.List.Elements.{All-get_or}
 use Rattle.hume_ports.specs.Port.{PortView}
 use Rattle.hume_ports.specs.Ports.{names, place_of, ForNameAt}
-use Rattle.hume_run.specs.declared.report.OwedWrite.{OwedWrite}
-use Rattle.hume_run.specs.inner.Reports.{IsPlace, name_at}
-
--- what holds of an element that is read at an index
-pub of_item : {X : Type 0} (P : X → Type 0) (xs : List X) (i : ℕ) (x : X) → i < length xs → x ≡ get_or xs i x → All P xs → P x
-of_item P xs i x within is all = subst P (sym is) (All-get_or P xs i x within all)
-
-pub line_place : (ns : List (List ℕ)) (lines : List OwedWrite) (i : ℕ) (line : OwedWrite) → i < length lines → line ≡ get_or lines i line → All (λ line. IsPlace ns line.at) lines → IsPlace ns line.at
-line_place ns lines i line within is all = of_item (λ line. IsPlace ns line.at) lines i line within is all
+use Rattle.gathered_writes.specs.Places.{IsPlace, name_at}
 
 pub place_place : (ns : List (List ℕ)) (places : List ℕ) (i at : ℕ) → i < length places → at ≡ get_or places i 0 → All (IsPlace ns) places → IsPlace ns at
 place_place ns places i at within is all = let P : ℕ → Type 0 = λ place. IsPlace ns place in subst P (sym is) (All-get_or P places i 0 within all)

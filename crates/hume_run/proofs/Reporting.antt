@@ -8,22 +8,37 @@ use Rattle.hume_ports.specs.Delivery.{Pairs, Progress, Failure, Roomy}
 use Rattle.hume_ports.proofs.Progress.{Progress-on, Failure-on}
 use Rattle.hume_ports.proofs.Rooms.{Roomy-on}
 use Rattle.hume_ports.proofs.Untouched.{Untouched-on}
+use Rattle.stream_ports.specs.WritesInTurn.{FailsInTurn}
 use Rattle.hume_run.specs.declared.status.Status.TheVariants.{Fault}
-use Rattle.hume_run.specs.declared.report.OwedWrite.{OwedWrite}
 use Rattle.hume_run.specs.declared.report.Report.{Report}
 use Rattle.hume_run.specs.Owed.{Owed}
 use Rattle.hume_run.specs.Headline.{Ends, FailedWrite, FailedFinish}
-use Rattle.hume_run.specs.inner.Reports.{IsReport, name_at, names_at, pairs_of}
+use Rattle.gathered_writes.specs.Places.{name_at}
+use Rattle.hume_run.specs.inner.Places.{names_at}
+use Rattle.gathered_writes.specs.Gathered.{pairs_of, writes_of}
+use Rattle.hume_run.specs.inner.Reports.{IsReport}
 use Rattle.hume_run.proofs.Ending.{ends_failed, ends_answered, more_touched}
 
 -- what the writes of lines leave of the ports
-abbrev pub TouchesLines : List PortView → List PortView → List OwedWrite → Type 0
-TouchesLines olds news lines = (touched : List (List ℕ)) → All (λ line. is_among (name_at (names olds) line.at) touched ≡ true) lines → Untouched touched olds news
+abbrev pub TouchesLines : List PortView → List PortView → List (ℕ × List ℕ) → Type 0
+TouchesLines olds news writes = (touched : List (List ℕ)) → All (λ write. is_among (name_at (names olds) write.0) touched ≡ true) writes → Untouched touched olds news
+
+-- one of the writes failed
+pub as_failed_write : (writes : Pairs) (olds news : List PortView) → FailsInTurn writes olds news → FailedWrite writes olds news
+as_failed_write writes olds news f = record {
+  made = f.made;
+  pair = f.pair;
+  later = f.later;
+  in_order = f.in_order;
+  count = f.count;
+  taken = [];
+  failure = f.failure;
+}
 
 pub settle_write_failed : (owed : Owed) (olds news : List PortView) (report : Report) → IsReport owed (names olds) report
-    → FailedWrite (pairs_of (names olds) report.lines.items) olds news
-    → (Roomy olds (pairs_of (names olds) report.lines.items) → false ≡ true)
-    → TouchesLines olds news report.lines.items → Ends owed olds news Fault
+    → FailedWrite (pairs_of (names olds) (writes_of report.writes)) olds news
+    → (Roomy olds (pairs_of (names olds) (writes_of report.writes)) → false ≡ true)
+    → TouchesLines olds news (writes_of report.writes) → Ends owed olds news Fault
 settle_write_failed owed olds news report is failed no_room touches =
     let F : Pairs → Type 0 = λ pairs. FailedWrite pairs olds news in
     let R : Pairs → Type 0 = λ pairs. Roomy olds pairs in
@@ -33,7 +48,7 @@ settle_write_failed owed olds news report is failed no_room touches =
 
 -- the lines first, and then the finishes
 both_touched : (owed : Owed) (olds mids news : List PortView) (report : Report) → IsReport owed (names olds) report → names mids ≡ names olds
-    → TouchesLines olds mids report.lines.items → Untouched (names_at (names mids) report.finishes.items) mids news
+    → TouchesLines olds mids (writes_of report.writes) → Untouched (names_at (names mids) report.finishes.items) mids news
     → Untouched (owed.reads ++ owed.finishes) olds news
 both_touched owed olds mids news report is same touches finished =
     let named : names_at (names mids) report.finishes.items ≡ owed.finishes = ap (λ ns. names_at ns report.finishes.items) same ∙ is.finishes in
@@ -42,10 +57,10 @@ both_touched owed olds mids news report is same touches finished =
     (Untouched-on owed.finishes olds mids news (touches owed.finishes is.among) same (subst U named finished))
 
 pub settle_finish_failed : (owed : Owed) (olds mids news : List PortView) (report : Report) → IsReport owed (names olds) report
-    → Progress olds mids [] (pairs_of (names olds) report.lines.items)
+    → Progress olds mids [] (pairs_of (names olds) (writes_of report.writes))
     → FailedFinish (names_at (names mids) report.finishes.items) [] mids news
     → (Roomy mids [] → false ≡ true)
-    → TouchesLines olds mids report.lines.items → Untouched (names_at (names mids) report.finishes.items) mids news
+    → TouchesLines olds mids (writes_of report.writes) → Untouched (names_at (names mids) report.finishes.items) mids news
     → Ends owed olds news Fault
 settle_finish_failed owed olds mids news report is written failed no_room touches finished =
     let named : names_at (names mids) report.finishes.items ≡ owed.finishes = ap (λ ns. names_at ns report.finishes.items) written.same_names ∙ is.finishes in
@@ -65,16 +80,16 @@ settle_finish_failed owed olds mids news report is written failed no_room touche
     (both_touched owed olds mids news report is written.same_names touches finished)
 
 pub settle_done : (owed : Owed) (olds mids news : List PortView) (report : Report) → IsReport owed (names olds) report
-    → Progress olds mids [] (pairs_of (names olds) report.lines.items)
+    → Progress olds mids [] (pairs_of (names olds) (writes_of report.writes))
     → Progress mids news [] []
     → All (λ at. flushed_of (name_at (names mids) at) news ≡ true) report.finishes.items
-    → TouchesLines olds mids report.lines.items → Untouched (names_at (names mids) report.finishes.items) mids news
+    → TouchesLines olds mids (writes_of report.writes) → Untouched (names_at (names mids) report.finishes.items) mids news
     → Ends owed olds news report.status
 settle_done owed olds mids news report is written quiet flushed touches finished =
     let named : names_at (names mids) report.finishes.items ≡ owed.finishes = ap (λ ns. names_at ns report.finishes.items) written.same_names ∙ is.finishes in
     let P : Pairs → Type 0 = λ pairs. Progress olds news [] pairs in
     let F : List (List ℕ) → Type 0 = λ ns. All (λ name. flushed_of name news ≡ true) ns in
     ends_answered owed olds news report.status [] is.status is.answer
-    (subst P (append-nil (pairs_of (names olds) report.lines.items) ∙ is.writes) (Progress-on olds mids news [] [] (pairs_of (names olds) report.lines.items) [] written quiet))
+    (subst P (append-nil (pairs_of (names olds) (writes_of report.writes)) ∙ is.writes) (Progress-on olds mids news [] [] (pairs_of (names olds) (writes_of report.writes)) [] written quiet))
     (subst F named (All-map (λ name. flushed_of name news ≡ true) (name_at (names mids)) report.finishes.items flushed))
     (both_touched owed olds mids news report is written.same_names touches finished)

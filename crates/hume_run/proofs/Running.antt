@@ -1,32 +1,36 @@
 -- From the parts of a call to the whole.
-use Rattle.std.proofs.Common.{◌≡◌, ◌⊎◌, ℕ, Bool, true, false, ◌||◌, List, [], ◌∷◌, Option, Some, None, IfSome, refl, ap, sym, ◌∙◌, subst, inl, inr}
+use Rattle.std.proofs.Common.{◌≡◌, ◌⊎◌, ℕ, Bool, true, false, ◌||◌, List, [], ◌∷◌, ◌++◌, Option, Some, None, IfSome, refl, ap, sym, ◌∙◌, subst, inl, inr}
 use Rattle.std.specs.Str.{bytes_eq}
+use Rattle.std.proofs.lemmas.Bool.{or_parts}
+use Rattle.std.proofs.lemmas.List.Folds.{list_any-append}
 use Rattle.hume_base.specs.declared.rule.Refusal.{Refusal}
-use Rattle.hume_base.specs.declared.rule.Rule.TheVariants.{NotBuilt, C55}
+use Rattle.hume_base.specs.declared.rule.Rule.TheVariants.{C55}
 use Rattle.hume_model.specs.declared.core_tree.Core.{Core}
 use Rattle.hume_ports.specs.Port.{PortView}
 use Rattle.hume_ports.specs.Ports.{names, is_among, left_of, place_of, ForNameAt, Untouched}
 use Rattle.hume_ports.specs.Delivery.{Pairs, Progress, ReadFailure, Roomy}
 use Rattle.hume_ports.proofs.Names.{bytes_eq-self}
 use Rattle.hume_ports.proofs.Progress.{Delivered-nothing, Delivered-on, Progress-start}
-use Rattle.hume_ports.proofs.Rooms.{Roomy-on}
-use Rattle.hume_ports.proofs.Untouched.{Untouched-start, Untouched-on, of_first-untouched}
+use Rattle.hume_ports.proofs.Rooms.{Roomy-nothing, Roomy-on}
+use Rattle.hume_ports.proofs.Untouched.{Within, Untouched-more, Untouched-start, Untouched-on, of_first-untouched}
 use Rattle.hume_front.specs.declared.acceptance.Accepted.{Accepted}
 use Rattle.hume_front.specs.Accepted.{IsAccepted, Breaks}
+use Rattle.gathered_writes.specs.Places.{IsPlaceOf}
+use Rattle.core_runs.specs.declared.rounds.TheConstants.{SPAN}
+use Rattle.core_runs.specs.Inputs.{Inputs, AreInputs}
+use Rattle.core_runs.specs.Runs.{FailsToRead, ReadsSome, RunsTo}
+use Rattle.core_runs.specs.Streams.{inputs, ports_of, streams}
 use Rattle.hume_run.specs.declared.status.Status.{Status}
 use Rattle.hume_run.specs.declared.status.Status.TheVariants.{Fault, NoMemory}
-use Rattle.hume_run.specs.declared.input.Input.{Input}
 use Rattle.hume_run.specs.declared.order.Order.{Order}
 use Rattle.hume_run.specs.declared.order.Order.TheVariants.{Run, Check}
-use Rattle.hume_run.specs.OneBox.{OneBox, IsOneBox, HasCore, core_of}
-use Rattle.hume_run.specs.Owed.{Owed, IsRefusal, broken, not_built, unfit, IsOwed, owed_run, owed_refused, owed_accepted, streams, unfit_line}
+use Rattle.hume_run.specs.Streams.{unfit_line}
+use Rattle.hume_run.specs.Owed.{Owed, IsRefusal, broken, unfit, IsOwed, owed_run, owed_refused, owed_accepted, run_finishes}
 use Rattle.hume_run.specs.Headline.{Ends, EndsEarly, FailedRead, Answers, AnswersFrom, source_text}
-use Rattle.hume_run.specs.inner.BoxRuns.{RunsBox}
-use Rattle.hume_run.specs.inner.Reading.{GivesInput, IsInputFrom, ReadsSome, FailsToRead}
-use Rattle.hume_run.specs.inner.Reports.{IsPlaceOf}
-use Rattle.hume_run.proofs.ReaderLaws.{one_accepted}
-use Rattle.hume_run.proofs.Phases.{read_after, quiet_after, ends_after, ends_unread, ends_unstarted, read_touched}
-use Rattle.hume_run.proofs.Texts.{told_texts, told_by_all, texts_with, text_with, told_by_others}
+use Rattle.hume_run.specs.inner.CoreRuns.{RunsCore}
+use Rattle.hume_run.proofs.Ending.{ends_failed, ends_without_memory}
+use Rattle.hume_run.proofs.Phases.{read_after, quiet_after, ends_after, read_touched}
+use Rattle.hume_run.proofs.Texts.{told_texts, told_by_all}
 
 -- the name means the port at its place
 pub meant : (name : List ℕ) (ns : List (List ℕ)) (at : ℕ) → IsPlaceOf name ns at → place_of name ns ≡ Some at
@@ -38,51 +42,64 @@ or-true : (b : Bool) → (b || true) ≡ true
 or-true true = refl
 or-true false = refl
 
-second_among : (one two : List ℕ) → is_among two (one ∷ two ∷ []) ≡ true
-second_among one two = rw (bytes_eq-self two) (or-true (bytes_eq two one))
+among_later : (name first : List ℕ) (others : List (List ℕ)) → is_among name others ≡ true → is_among name (first ∷ others) ≡ true
+among_later name first others is = ap (λ b. bytes_eq name first || b) is ∙ or-true (bytes_eq name first)
 
-pub box_unread : (steps : ℕ) (parts : OneBox) (olds news : List PortView) (at : ℕ) → IsPlaceOf parts.input (names olds) at
-    → ForNameAt at olds (λ name. FailsToRead name olds news) → (Roomy olds [] → ⊥) → ForNameAt at olds (λ name. Untouched (name ∷ []) olds news)
-    → RunsBox steps parts olds news Fault
-box_unread steps parts olds news at place failed no_room untouched =
-    let e = meant parts.input (names olds) at place in
-    let f = failed parts.input e in
+inputs_within : (source : List ℕ) (ins fins : List (List ℕ)) → Within ins ((source ∷ ins) ++ fins)
+inputs_within source ins fins name out =
+    let later = (or_parts (bytes_eq name source) (is_among name (ins ++ fins)) out).1 in
+    let both = list_any-append (bytes_eq name) ins fins in
+    (or_parts (is_among name ins) (is_among name fins) (sym both ∙ later)).0
+
+-- ports of inputs are among those that a run may touch
+inputs_touched : (steps : ℕ) (source : List ℕ) (core : Core) (coming : Inputs) (olds news : List PortView) → Untouched (ports_of (inputs core)) olds news
+    → Untouched ((source ∷ ports_of (inputs core)) ++ run_finishes core) olds news
+inputs_touched steps source core coming olds news untouched =
+    Untouched-more (ports_of (inputs core)) ((source ∷ ports_of (inputs core)) ++ run_finishes core) olds news
+    (inputs_within source (ports_of (inputs core)) (run_finishes core)) untouched
+
+-- a read of an input stream's port failed
+pub run_unread : (steps : ℕ) (core : Core) (olds news : List PortView) → ((texts : List ℕ → List ℕ) → (coming : Inputs) × AreInputs core texts coming)
+    → FailsToRead core olds news → Untouched (ports_of (inputs core)) olds news → RunsCore steps core olds news Fault
+run_unread steps core olds news some fails untouched =
+    let coming = some (told_texts olds) in
     record {
       texts = told_texts olds;
       told = told_by_all olds;
-      ends = λ source. ends_unread (owed_run steps source (told_texts olds) (core_of parts)) olds news parts.input ((parts.input, f.0) ∷ []) (second_among source parts.input) f.1 no_room (untouched parts.input e);
+      coming = coming.0;
+      are = coming.1;
+      ends = λ source. ends_failed (owed_run steps source core coming.0) olds news
+          (inl (record { name = fails.name; is_read = among_later fails.name source (ports_of (inputs core)) fails.is_input; taken = fails.taken; failure = fails.failure }))
+          (λ roomy. fails.no_room (Roomy-nothing olds (owed_run steps source core coming.0).writes roomy))
+          (inputs_touched steps source core coming.0 olds news untouched);
     }
 
-pub box_unstarted : (steps : ℕ) (parts : OneBox) (olds news : List PortView) (at : ℕ) → IsPlaceOf parts.input (names olds) at
-    → ForNameAt at olds (λ name. ReadsSome name olds news) → ForNameAt at olds (λ name. Untouched (name ∷ []) olds news)
-    → RunsBox steps parts olds news NoMemory
-box_unstarted steps parts olds news at place reads untouched =
-    let e = meant parts.input (names olds) at place in
-    let f = reads parts.input e in
+-- memory was refused while nothing was written
+pub run_unstarted : (steps : ℕ) (core : Core) (olds news : List PortView) → ((texts : List ℕ → List ℕ) → (coming : Inputs) × AreInputs core texts coming)
+    → ReadsSome olds news → Untouched (ports_of (inputs core)) olds news → RunsCore steps core olds news NoMemory
+run_unstarted steps core olds news some reads untouched =
+    let coming = some (told_texts olds) in
     record {
       texts = told_texts olds;
       told = told_by_all olds;
-      ends = λ source. ends_unstarted (owed_run steps source (told_texts olds) (core_of parts)) olds news parts.input ((parts.input, f.0) ∷ []) (second_among source parts.input) f.1 (untouched parts.input e);
+      coming = coming.0;
+      are = coming.1;
+      ends = λ source. ends_without_memory (owed_run steps source core coming.0) olds news reads.0 reads.1
+          (inputs_touched steps source core coming.0 olds news untouched);
     }
 
-pub box_runs : (steps : ℕ) (parts : OneBox) (olds mids news : List PortView) (at : ℕ) (input : Input) (status : Status) → IsPlaceOf parts.input (names olds) at
-    → ForNameAt at olds (λ name. GivesInput steps name olds mids input) → ForNameAt at olds (λ name. Untouched (name ∷ []) olds mids)
-    → ((texts : List ℕ → List ℕ) → IsInputFrom steps (texts parts.input) input → (source : List ℕ) → Ends (owed_run steps source texts (core_of parts)) mids news status)
-    → RunsBox steps parts olds news status
-box_runs steps parts olds mids news at input status place given untouched ends =
-    let e = meant parts.input (names olds) at place in
-    let g = given parts.input e in
-    let texts : List ℕ → List ℕ = texts_with olds parts.input g.text in
-    let P : List ℕ → Type 0 = λ text. IsInputFrom steps text input in
-    let is_input : IsInputFrom steps (texts parts.input) input = subst P (sym (text_with olds parts.input g.text)) g.is_input in
-    record {
-      texts = texts;
-      told = told_by_others olds parts.input g.text g.told;
-      ends = λ source. (let owed = owed_run steps source texts (core_of parts) in
-          ends_after owed olds mids news status ((parts.input, g.taken) ∷ []) g.progress
-          (read_touched owed olds mids parts.input (second_among source parts.input) (untouched parts.input e))
-          (ends texts is_input source));
-    }
+-- the run's report was carried out
+pub run_settled : (steps : ℕ) (core : Core) (olds mids news : List PortView) (status : Status) (written : Pairs) (blocked : Bool)
+    → (runs : RunsTo core SPAN steps olds mids written blocked) → Untouched (ports_of (inputs core)) olds mids
+    → ((source : List ℕ) → Ends (owed_run steps source core runs.inputs) mids news status) → RunsCore steps core olds news status
+run_settled steps core olds mids news status written blocked runs untouched ends = record {
+  texts = runs.texts;
+  told = runs.told;
+  coming = runs.inputs;
+  are = runs.are;
+  ends = λ source. (let owed = owed_run steps source core runs.inputs in
+      ends_after owed olds mids news status runs.taken runs.progress (inputs_touched steps source core runs.inputs olds mids untouched) (ends source));
+}
 
 -- a call of an accepted source, or of a refused one
 
@@ -113,48 +130,21 @@ pub check_answers : (place : ℕ) (source text : List ℕ) (olds news : List Por
 check_answers place source text olds news status accepted is_accepted ends =
     owed_answers (Check place) source text olds news status (owed_accepted source) (inr (accepted, is_accepted, refl)) (ends source)
 
--- an accepted program that isn't a one-box program stands for no core
-no_core : (text : List ℕ) (accepted : Accepted) → IsAccepted text accepted → ((parts : OneBox) → IsOneBox text accepted.program parts → ⊥)
-    → (core : Core) → HasCore text core → ⊥
-no_core text accepted is_accepted none core stands =
-    let same = one_accepted text stands.spelled.accepted accepted stands.spelled.is_accepted is_accepted in
-    none stands.parts (subst (λ p. IsOneBox text p stands.parts) same stands.spelled.is)
-
--- the core of an accepted one-box program
-stands_for : (text : List ℕ) (accepted : Accepted) (parts : OneBox) → IsAccepted text accepted
-    → IsOneBox text accepted.program parts → HasCore text (core_of parts)
-stands_for text accepted parts is_accepted is = record {
-  parts = parts;
-  spelled = record { accepted = accepted; is_accepted = is_accepted; is = is };
-  is = refl;
-}
-
-pub not_built_answers : (place steps : ℕ) (source text : List ℕ) (olds news : List PortView) (status : Status) (refusal : Refusal) (accepted : Accepted)
-    → IsAccepted text accepted → ((parts : OneBox) → IsOneBox text accepted.program parts → ⊥) → refusal ≡ record { rule = NotBuilt; line = 1 }
+pub unfit_answers : (place steps : ℕ) (source text : List ℕ) (olds news : List PortView) (status : Status) (refusal : Refusal) (accepted : Accepted) (line : ℕ)
+    → IsAccepted text accepted → unfit_line (names olds) source [] (streams accepted.core) ≡ Some line → refusal ≡ record { rule = C55; line = line }
     → ((source : List ℕ) → Ends (owed_refused source refusal) olds news status) → Answers (Run steps place) source text olds news status
-not_built_answers place steps source text olds news status refusal accepted is_accepted none is ends =
-    let refuses : IsRefusal text (names olds) source refusal =
-    subst (IsRefusal text (names olds) source) (sym is) (not_built accepted is_accepted (no_core text accepted is_accepted none)) in
+unfit_answers place steps source text olds news status refusal accepted line is_accepted found is ends =
+    let refuses : IsRefusal text (names olds) source refusal = subst (IsRefusal text (names olds) source) (sym is) (unfit accepted is_accepted line found) in
     owed_answers (Run steps place) source text olds news status (owed_refused source refusal) (inl (refusal, refuses, refl)) (ends source)
 
-pub unfit_answers : (place steps : ℕ) (source text : List ℕ) (olds news : List PortView) (status : Status) (refusal : Refusal) (accepted : Accepted)
-    (parts : OneBox) → IsAccepted text accepted → IsOneBox text accepted.program parts
-    → ((line : ℕ) × (unfit_line (names olds) source [] (streams (core_of parts)) ≡ Some line) × (refusal ≡ record { rule = C55; line = line }))
-    → ((source : List ℕ) → Ends (owed_refused source refusal) olds news status) → Answers (Run steps place) source text olds news status
-unfit_answers place steps source text olds news status refusal accepted parts is_accepted is found ends =
-    let refuses : IsRefusal text (names olds) source refusal =
-    subst (IsRefusal text (names olds) source) (sym found.2) (unfit (core_of parts) (stands_for text accepted parts is_accepted is) found.0 found.1) in
-    owed_answers (Run steps place) source text olds news status (owed_refused source refusal) (inl (refusal, refuses, refl)) (ends source)
-
-pub run_answers : (place steps : ℕ) (source text : List ℕ) (olds news : List PortView) (status : Status) (accepted : Accepted)
-    (parts : OneBox) → IsAccepted text accepted → IsOneBox text accepted.program parts
-    → unfit_line (names olds) source [] (streams (core_of parts)) ≡ None → RunsBox steps parts olds news status
+pub run_answers : (place steps : ℕ) (source text : List ℕ) (olds news : List PortView) (status : Status) (accepted : Accepted) → IsAccepted text accepted
+    → unfit_line (names olds) source [] (streams accepted.core) ≡ None → RunsCore steps accepted.core olds news status
     → Answers (Run steps place) source text olds news status
-run_answers place steps source text olds news status accepted parts is_accepted is fit runs = record {
+run_answers place steps source text olds news status accepted is_accepted fit runs = record {
   texts = runs.texts;
   told = λ name other. runs.told name;
-  owed = owed_run steps source runs.texts (core_of parts);
-  owes = inr (core_of parts, stands_for text accepted parts is_accepted is, fit, refl);
+  owed = owed_run steps source accepted.core runs.coming;
+  owes = inr (accepted, is_accepted, fit, runs.coming, runs.are, refl);
   ends = runs.ends source;
 }
 
@@ -166,7 +156,7 @@ first_among one others = rw (bytes_eq-self one) refl
 -- the source's port is always read
 owed_reads : (order : Order) (source text : List ℕ) (ns : List (List ℕ)) (texts : List ℕ → List ℕ) (owed : Owed) → IsOwed order source text ns texts owed → is_among source owed.reads ≡ true
 owed_reads (Run steps place) source text ns texts owed (inl (refusal, is, same)) = ap (λ o. is_among source o.reads) same ∙ first_among source []
-owed_reads (Run steps place) source text ns texts owed (inr (core, stands, fit, same)) = ap (λ o. is_among source o.reads) same ∙ first_among source _
+owed_reads (Run steps place) source text ns texts owed (inr (accepted, is, fit, coming, are, same)) = ap (λ o. is_among source o.reads) same ∙ first_among source _
 owed_reads (Check place) source text ns texts owed (inl (refusal, is, same)) = ap (λ o. is_among source o.reads) same ∙ first_among source []
 owed_reads (Check place) source text ns texts owed (inr (accepted, is, same)) = ap (λ o. is_among source o.reads) same ∙ first_among source []
 

@@ -1,4 +1,4 @@
--- Lines that are written one after the other, and ports that are finished one after the other.
+-- Ports that are finished one after the other.
 use Rattle.std.proofs.Common.{◌≡◌, ℕ, zero, suc, Bool, ◌||◌, ◌<◌, ◌≤◌, ◌+◌, List, [], ◌∷◌, ◌++◌, length, take, drop, get_or, refl, ap, sym, ◌∙◌, subst, arith, true, false, add-one, drop-cons}
 use Rattle.std.specs.List.{All}
 use Rattle.std.proofs.lemmas.List.{take_more, map-append, take-append-drop, take_all}
@@ -8,95 +8,13 @@ use Rattle.hume_ports.specs.Ports.{names, is_among, flushed_of, ForNameAt, Untou
 use Rattle.hume_ports.specs.Delivery.{Pairs, Progress, Failure, Roomy}
 use Rattle.std.specs.Str.{bytes_eq}
 use Rattle.hume_ports.proofs.Names.{bytes_eq-self}
-use Rattle.hume_ports.proofs.Progress.{Progress-start, Progress-on, write_failure-on, finish_failure-on}
-use Rattle.hume_ports.proofs.Rooms.{Roomy-on, Roomy-first}
+use Rattle.hume_ports.proofs.Progress.{Progress-start, Progress-on, finish_failure-on}
+use Rattle.hume_ports.proofs.Rooms.{Roomy-on}
 use Rattle.hume_ports.proofs.Untouched.{Untouched-start, Untouched-on, Untouched-among}
-use Rattle.hume_run.specs.declared.report.OwedWrite.{OwedWrite}
-use Rattle.hume_run.specs.inner.Reports.{IsPlace, name_at, names_at, pair_of, pairs_of}
-use Rattle.hume_run.specs.Headline.{FailedWrite, FailedFinish}
-use Rattle.hume_run.proofs.Places.{at_place, of_item}
-
--- lines
-
--- the lines before the index were written
-pub record Written (olds news : List PortView) (lines : List OwedWrite) (count : ℕ) : Type 0 where
-  pub progress : Progress olds news [] (pairs_of (names olds) (take count lines))
-  pub untouched : (touched : List (List ℕ)) → All (λ line. is_among (name_at (names olds) line.at) touched ≡ true) lines → Untouched touched olds news
-
-pub Written-start : (ports : List PortView) (lines : List OwedWrite) → Written ports ports lines 0
-Written-start ports lines = record {
-  progress = Progress-start ports;
-  untouched = λ touched among. Untouched-start touched ports;
-}
-
-pairs-more : (ns : List (List ℕ)) (lines : List OwedWrite) (count : ℕ) (line : OwedWrite) → count < length lines → line ≡ get_or lines count line
-    → pairs_of ns (take (count + 1) lines) ≡ pairs_of ns (take count lines) ++ pair_of ns line ∷ []
-pairs-more ns lines count line within is =
-    ap (pairs_of ns) (take_more lines count line within)
-    ∙ map-append (pair_of ns) (take count lines) (get_or lines count line ∷ [])
-    ∙ ap (λ l. pairs_of ns (take count lines) ++ pair_of ns l ∷ []) (sym is)
-
-pub still_untouched : (olds mids news : List PortView) (lines : List OwedWrite) (count : ℕ) (line : OwedWrite) → count < length lines → line ≡ get_or lines count line
-    → IsPlace (names olds) line.at → Written olds mids lines count
-    → ForNameAt line.at mids (λ name. Untouched (name ∷ []) mids news)
-    → (touched : List (List ℕ)) → All (λ l. is_among (name_at (names olds) l.at) touched ≡ true) lines → Untouched touched olds news
-still_untouched olds mids news lines count line within is place before step touched among =
-    Untouched-on touched olds mids news (before.untouched touched among) before.progress.same_names
-    (Untouched-among mids news (name_at (names olds) line.at) touched
-    (of_item (λ l. is_among (name_at (names olds) l.at) touched ≡ true) lines count line within is among)
-    (at_place olds mids line.at (λ name. Untouched (name ∷ []) mids news) before.progress.same_names place step))
-
-pub Written-more : (olds mids news : List PortView) (lines : List OwedWrite) (count : ℕ) (line : OwedWrite) → count < length lines → line ≡ get_or lines count line
-    → IsPlace (names olds) line.at → Written olds mids lines count
-    → ForNameAt line.at mids (λ name. Progress mids news [] ((name, line.bytes.items) ∷ []))
-    → ForNameAt line.at mids (λ name. Untouched (name ∷ []) mids news)
-    → Written olds news lines (count + 1)
-Written-more olds mids news lines count line within is place before given step =
-    let P : Pairs → Type 0 = λ pairs. Progress olds news [] pairs in
-    record {
-      progress = subst P (sym (pairs-more (names olds) lines count line within is))
-          (Progress-on olds mids news [] [] _ _ before.progress
-          (at_place olds mids line.at (λ name. Progress mids news [] ((name, line.bytes.items) ∷ [])) before.progress.same_names place given));
-      untouched = still_untouched olds mids news lines count line within is place before step;
-    }
-
--- the lines at the index and behind it
-split_at : (ns : List (List ℕ)) (lines : List OwedWrite) (count : ℕ) (line : OwedWrite) → count < length lines → line ≡ get_or lines count line
-    → pairs_of ns lines ≡ pairs_of ns (take count lines) ++ (pair_of ns line ∷ pairs_of ns (drop (count + 1) lines))
-split_at ns lines count line within is =
-    let front : lines ≡ take count lines ++ (line ∷ drop (count + 1) lines) =
-    sym (take-append-drop count lines)
-    ∙ ap (λ rest. take count lines ++ rest) (rw (add-one, drop-cons lines count line, ← is) refl) in
-    ap (pairs_of ns) front ∙ map-append (pair_of ns) (take count lines) (line ∷ drop (count + 1) lines)
-
-pub write_failed : (olds mids news : List PortView) (lines : List OwedWrite) (count : ℕ) (line : OwedWrite) → count < length lines → line ≡ get_or lines count line
-    → IsPlace (names olds) line.at → Written olds mids lines count
-    → ForNameAt line.at mids (λ name. (part : ℕ) × (part ≤ length line.bytes.items) × Failure (λ port. port.write_faults) name mids news [] ((name, take part line.bytes.items) ∷ []))
-    → FailedWrite (pairs_of (names olds) lines) olds news
-write_failed olds mids news lines count line within is place before failed =
-    let f = at_place olds mids line.at (λ name. (part : ℕ) × (part ≤ length line.bytes.items) × Failure (λ port. port.write_faults) name mids news [] ((name, take part line.bytes.items) ∷ [])) before.progress.same_names place failed in
-    record {
-      made = pairs_of (names olds) (take count lines);
-      pair = pair_of (names olds) line;
-      later = pairs_of (names olds) (drop (count + 1) lines);
-      in_order = split_at (names olds) lines count line within is;
-      count = f.0;
-      taken = [];
-      failure = write_failure-on (name_at (names olds) line.at) olds mids news [] _ _ before.progress f.2;
-    }
-
-pub write_roomy : (olds mids : List PortView) (lines : List OwedWrite) (count : ℕ) (line : OwedWrite) (R : Type 0) → count < length lines → line ≡ get_or lines count line
-    → IsPlace (names olds) line.at → Written olds mids lines count
-    → ForNameAt line.at mids (λ name. Roomy mids ((name, line.bytes.items) ∷ []) → R)
-    → Roomy olds (pairs_of (names olds) lines) → R
-write_roomy olds mids lines count line R within is place before step roomy =
-    let P : Pairs → Type 0 = λ pairs. Roomy olds pairs in
-    let rest = Roomy-on olds mids [] (pairs_of (names olds) (take count lines)) (pair_of (names olds) line ∷ pairs_of (names olds) (drop (count + 1) lines)) before.progress
-    (subst P (split_at (names olds) lines count line within is) roomy) in
-    at_place olds mids line.at (λ name. Roomy mids ((name, line.bytes.items) ∷ []) → R) before.progress.same_names place step
-    (Roomy-first mids (pair_of (names olds) line ∷ []) (pairs_of (names olds) (drop (count + 1) lines)) rest)
-
--- finishes
+use Rattle.gathered_writes.specs.Places.{IsPlace, name_at}
+use Rattle.hume_run.specs.inner.Places.{names_at}
+use Rattle.hume_run.specs.Headline.{FailedFinish}
+use Rattle.hume_run.proofs.Places.{at_place}
 
 or-true : (b : Bool) → (b || true) ≡ true
 or-true true = refl

@@ -11,7 +11,8 @@ use Rattle.hume_run.specs.declared.status.Status.TheVariants.{Usage, Fault, NoMe
 use Rattle.hume_run.specs.Statuses.{IsAnswer}
 use Rattle.hume_run.specs.declared.order.Order.{Order}
 use Rattle.hume_run.specs.Words.{order_of, source_of}
-use Rattle.hume_run.specs.Owed.{Owed, IsOwed, std_out}
+use Rattle.core_runs.specs.Streams.{std_out}
+use Rattle.hume_run.specs.Owed.{Owed, IsOwed}
 
 -- The words have no form, or there is no port `std_out`, or none with the source's name.
 abbrev pub IsUsage : List (List ℕ) → List (List ℕ) → Type 0

@@ -1,7 +1,6 @@
 pub mod Statuses
 pub mod Words
-pub mod OneBox
-pub mod Inputs
+pub mod Streams
 pub mod Owed
 pub mod Headline
 pub mod inner

@@ -1,6 +1,4 @@
-pub mod Reading
 pub mod Reports
 pub mod Places
-pub mod PartsOf
-pub mod BoxReports
-pub mod BoxRuns
+pub mod CoreRuns
+pub mod FoundPlaces

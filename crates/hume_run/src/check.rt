@@ -2,13 +2,16 @@ ghost use Rattle.std.specs.Prelude.{◌≡◌, ◌⊎◌, ℕ, List, map, IfOk};
 ghost use Rattle.hume_ports.specs.Ports.{names};
 ghost use Rattle.hume_run.specs.declared.order.Order.TheVariants.{Check};
 ghost use Rattle.hume_run.specs.Headline.{Ends, EndsEarly, Answers};
-ghost use Rattle.hume_run.specs.Owed.{owed_accepted, std_out};
-ghost use Rattle.hume_run.specs.inner.Reports.{IsPlaceOf, IsReport};
+ghost use Rattle.core_runs.specs.Streams.{std_out};
+ghost use Rattle.hume_run.specs.Owed.{owed_accepted};
+ghost use Rattle.gathered_writes.specs.Places.{IsPlaceOf};
+ghost use Rattle.hume_run.specs.inner.Reports.{IsReport};
 
 use crate::refuse::end_unaccepted;
 use crate::report::{Report, one_place};
 use crate::settle::settle;
 use crate::status::Status;
+use gathered_writes::Writes;
 use hume_front::accept;
 use hume_ports::Port;
 use std::alloc::{AllocError, Global};
@@ -42,7 +45,7 @@ fn accepted_report(alloc: Global, out: usize) -> Result<Report, AllocError>
 {
     Ok(Report {
         status: Status::Done,
-        lines: Vec::new(alloc),
+        writes: Writes::new(alloc),
         finishes: one_place(alloc, out)?,
     })
 }

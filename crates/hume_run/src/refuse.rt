@@ -1,10 +1,12 @@
 ghost use Rattle.std.specs.Prelude.{◌≡◌, ◌⊎◌, ℕ, List, map, IfOk};
 ghost use Rattle.hume_front.specs.Accepted.{IsUnaccepted};
 ghost use Rattle.hume_ports.specs.Ports.{names};
-ghost use Rattle.hume_run.specs.Owed.{owed_refused, std_out};
+ghost use Rattle.core_runs.specs.Streams.{std_out};
+ghost use Rattle.hume_run.specs.Owed.{owed_refused};
 ghost use Rattle.hume_run.specs.declared.order.Order.{Order};
 ghost use Rattle.hume_run.specs.Headline.{Ends, EndsEarly, Answers};
-ghost use Rattle.hume_run.specs.inner.Reports.{IsPlaceOf, IsReport};
+ghost use Rattle.gathered_writes.specs.Places.{IsPlaceOf};
+ghost use Rattle.hume_run.specs.inner.Reports.{IsReport};
 
 use crate::lines::refused_line;
 use crate::report::{Report, one_place, one_write};
@@ -48,10 +50,10 @@ fn refusal_report(alloc: Global, out: usize, refusal: Refusal) -> Result<Report,
     ensures { IfOk result (λ report. (names : List (List ℕ)) → IsPlaceOf std_out names out
         → (source : List ℕ) → IsReport (owed_refused source refusal) names report) }
 {
-    let bytes = refused_line(alloc, refusal)?;
+    let line = refused_line(alloc, refusal)?;
     Ok(Report {
         status: Status::Refused,
-        lines: one_write(alloc, out, bytes)?,
+        writes: one_write(alloc, out, &line)?,
         finishes: one_place(alloc, out)?,
     })
 }

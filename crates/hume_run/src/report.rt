@@ -1,32 +1,26 @@
-ghost use Rattle.std.specs.Prelude.{◌≡◌, ◌∷◌, [], ℕ, List, All, IfOk};
-ghost use Rattle.hume_run.specs.inner.Reports.{name_at, pairs_of};
+ghost use Rattle.std.specs.Prelude.{◌≡◌, ◌∷◌, [], IfOk};
+ghost use Rattle.gathered_writes.specs.Gathered.{writes_of};
 
 use crate::status::Status;
+use gathered_writes::Writes;
 use std::alloc::{AllocError, Global};
-
-/// Bytes for the port at a place, which are written by one call.
-#[derive(Drop)]
-pub struct OwedWrite {
-    pub at: usize,
-    pub bytes: Vec<u8>,
-}
 
 /// What is left to do when nothing but a port can stop it: the writes in order, the places of the ports that are
 /// finished, and the answer.
 #[derive(Drop)]
 pub struct Report {
     pub status: Status,
-    pub lines: Vec<OwedWrite>,
+    pub writes: Writes,
     pub finishes: Vec<usize>,
 }
 
-pub fn one_write(alloc: Global, at: usize, bytes: Vec<u8>) -> Result<Vec<OwedWrite>, AllocError>
-    ensures pairs { IfOk result (λ lines. (names : List (List ℕ)) → pairs_of names lines.items ≡ (name_at names at, bytes.items) ∷ []) }
-    ensures places { IfOk result (λ lines. All (λ line. line.at ≡ at) lines.items) }
+/// One write to the port at a place.
+pub fn one_write(alloc: Global, at: usize, bytes: &[u8]) -> Result<Writes, AllocError>
+    ensures { IfOk result (λ writes. writes_of writes ≡ (at, bytes.now) ∷ []) }
 {
-    let mut lines = Vec::new(alloc);
-    lines.push(OwedWrite { at, bytes })?;
-    Ok(lines)
+    let mut writes = Writes::new(alloc);
+    writes.push(at, bytes)?;
+    Ok(writes)
 }
 
 pub fn one_place(alloc: Global, at: usize) -> Result<Vec<usize>, AllocError>

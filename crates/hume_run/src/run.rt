@@ -1,27 +1,26 @@
 ghost use Rattle.std.specs.Prelude.{◌≡◌, ◌⊎◌, ℕ, List, map};
-ghost use Rattle.hume_base.specs.declared.rule.Rule.TheVariants.{NotBuilt};
-ghost use Rattle.hume_front.specs.Accepted.{IsAccepted};
+ghost use Rattle.hume_base.specs.declared.rule.Rule.TheVariants.{C55};
 ghost use Rattle.hume_ports.specs.Ports.{names};
-ghost use Rattle.hume_run.specs.inner.BoxRuns.{RunsBox};
+ghost use Rattle.gathered_writes.specs.Places.{IsPlaceOf};
+ghost use Rattle.net_engine.specs.Runnable.{IsRunnable};
+ghost use Rattle.core_runs.specs.Streams.{ArePlacesOf, ArePortsApart, std_out};
 ghost use Rattle.hume_run.specs.declared.order.Order.TheVariants.{Run};
-ghost use Rattle.hume_run.specs.Headline.{Ends, EndsEarly, Answers};
-ghost use Rattle.hume_run.specs.OneBox.{core_of};
-ghost use Rattle.hume_run.specs.Owed.{owed_run, std_out};
-ghost use Rattle.hume_run.specs.inner.PartsOf.{parts_of};
-ghost use Rattle.hume_run.specs.inner.Reading.{IsInputFrom};
-ghost use Rattle.hume_run.specs.inner.Reports.{IsPlaceOf};
+ghost use Rattle.hume_run.specs.Headline.{EndsEarly, Answers};
+ghost use Rattle.hume_run.specs.inner.CoreRuns.{RunsCore, end_status};
 
-use crate::box_report::box_report;
-use crate::input::{Input, InputError, read_input};
-use crate::one_box::{Parts, read_one_box};
+use crate::finishes::finish_places;
 use crate::refuse::{end_unaccepted, refuse};
+use crate::report::Report;
 use crate::settle::settle;
 use crate::status::Status;
-use crate::streams::{Streams, find_streams};
+use crate::streams::{PlacesError, find_places};
+use core_runs::{RunEnd, RunError, each_run_has_inputs, run_core};
+use evaluation_depth::{SAFE_DEPTH, SAFE_VALUE_DEPTH, evaluation_depth, value_depth};
 use hume_base::{Refusal, Rule};
-use hume_front::{Accepted, accept};
+use hume_front::accept;
+use hume_model::Core;
 use hume_ports::Port;
-use std::alloc::Global;
+use std::alloc::{AllocError, Global};
 
 /// Runs a source of that text for so many supersteps. The port of the report is given by its place, and that of the
 /// source by its name.
@@ -41,77 +40,71 @@ pub fn run_text(
         Ok(accepted) => accepted,
         Err(error) => return end_unaccepted(alloc, ports, out, error),
     };
-    run_program(alloc, ports, steps, source, text, &accepted, out)
-}
-
-fn run_program(
-    alloc: Global,
-    ports: &mut [Box<dyn Port>],
-    steps: u32,
-    source: &[u8],
-    text: &[u8],
-    accepted: &Accepted,
-    out: usize,
-) -> Status
-    requires out { IsPlaceOf std_out (names (map view ports.old)) out }
-    requires accepted { IsAccepted text.now accepted.now }
-    ensures { (place : ℕ) → Answers (Run steps place) source.now text.now (map view ports.old) (map view ports.new) result }
-{
-    let Some(parts) = read_one_box(text, &accepted.program) else {
-        return refuse(alloc, ports, out, not_built());
-    };
-    match find_streams(ports, &parts, source) {
-        Ok(streams) => run_box(alloc, ports, steps, &parts, streams, out),
-        Err(refusal) => refuse(alloc, ports, out, refusal),
+    match find_places(alloc, ports, &accepted.core, source) {
+        Ok(places) => run_accepted(alloc, ports, steps, &accepted.core, &places, out),
+        Err(PlacesError::Unfit(line)) => refuse(alloc, ports, out, unfit_at(line)),
+        Err(PlacesError::NoMemory) => Status::NoMemory,
     }
 }
 
-fn not_built() -> Refusal
-    ensures { result ≡ record { rule = NotBuilt; line = 1 } }
+fn unfit_at(line: u32) -> Refusal
+    ensures { result ≡ record { rule = C55; line = line } }
 {
     Refusal {
-        rule: Rule::NotBuilt,
-        line: 1,
+        rule: Rule::C55,
+        line,
     }
 }
 
-fn run_box(
+// Whether the stack holds what evaluations of the core need. This goes once boxes run compiled.
+fn is_shallow(alloc: Global, core: &Core) -> Result<bool, AllocError> {
+    Ok(
+        evaluation_depth(alloc, core)? <= SAFE_DEPTH
+            && value_depth(alloc, core)? <= SAFE_VALUE_DEPTH,
+    )
+}
+
+// Runs the core of an accepted source. The ports of the streams are given by their places, one for each node.
+fn run_accepted(
     alloc: Global,
     ports: &mut [Box<dyn Port>],
     steps: u32,
-    parts: &Parts<'_>,
-    streams: Streams,
+    core: &Core,
+    places: &[usize],
     out: usize,
 ) -> Status
-    requires input { IsPlaceOf parts.now.input.now (names (map view ports.old)) streams.input }
-    requires output { IsPlaceOf parts.now.output.now (names (map view ports.old)) streams.output }
+    requires runnable { IsRunnable core.now }
+    requires places { ArePlacesOf core.now (names (map view ports.old)) places.now }
+    requires apart { ArePortsApart core.now }
     requires out { IsPlaceOf std_out (names (map view ports.old)) out }
-    ensures { RunsBox steps (parts_of parts.now) (map view ports.old) (map view ports.new) result }
+    ensures { RunsCore steps core.now (map view ports.old) (map view ports.new) result }
 {
-    match read_input(alloc, ports, streams.input, steps) {
-        Ok(input) => run_input(alloc, ports, steps, parts, streams.output, out, input),
-        Err(InputError::Failed) => Status::Fault,
-        Err(InputError::NoMemory) => Status::NoMemory,
+    each_run_has_inputs();
+    let Ok(true) = is_shallow(alloc, core) else {
+        return Status::NoMemory;
+    };
+    let Ok(finishes) = finish_places(alloc, core, places, out) else {
+        return Status::NoMemory;
+    };
+    match run_core(alloc, core, steps, ports, places, out) {
+        Ok(end) => settle(ports, &run_report(end, finishes)),
+        Err(RunError::Failed) => Status::Fault,
+        Err(RunError::NoMemory) => Status::NoMemory,
     }
 }
 
-fn run_input(
-    alloc: Global,
-    ports: &mut [Box<dyn Port>],
-    steps: u32,
-    parts: &Parts<'_>,
-    output: usize,
-    out: usize,
-    input: Input,
-) -> Status
-    requires output { IsPlaceOf parts.now.output.now (names (map view ports.old)) output }
-    requires out { IsPlaceOf std_out (names (map view ports.old)) out }
-    requires input { (text : List ℕ) × IsInputFrom steps text input }
-    ensures { (texts : List ℕ → List ℕ) → IsInputFrom steps (texts parts.now.input.now) input
-        → (source : List ℕ) → Ends (owed_run steps source texts (core_of (parts_of parts.now))) (map view ports.old) (map view ports.new) result }
+fn run_report(end: RunEnd, finishes: Vec<usize>) -> Report
+    ensures { result ≡ record { status = end_status end.blocked; writes = end.writes; finishes = finishes } }
 {
-    match box_report(alloc, steps, parts, output, out, input) {
-        Ok(report) => settle(ports, &report),
-        Err(_) => Status::NoMemory,
+    let RunEnd { writes, blocked } = end;
+    let status = if blocked {
+        Status::BadValue
+    } else {
+        Status::Done
+    };
+    Report {
+        status,
+        writes,
+        finishes,
     }
 }

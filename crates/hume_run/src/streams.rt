@@ -1,64 +1,106 @@
-ghost use Rattle.std.specs.Prelude.{◌≡◌, ◌<◌, [], ℕ, None, Some, map, IfOk, IfErr, if◌then◌else◌};
-ghost use Rattle.std.specs.Str.{bytes_eq};
-ghost use Rattle.hume_base.specs.declared.rule.Rule.TheVariants.{C55};
-ghost use Rattle.hume_ports.specs.Ports.{names, place_of};
-ghost use Rattle.hume_run.specs.OneBox.{core_of};
-ghost use Rattle.hume_run.specs.Owed.{streams, unfit_line};
-ghost use Rattle.hume_run.specs.inner.PartsOf.{parts_of};
-ghost use Rattle.hume_run.specs.inner.Reports.{IsPlaceOf};
+ghost use Rattle.std.specs.Prelude.{◌≡◌, [], ℕ, None, Some, map, IfOk, IfErr, IsErrOf, if◌then◌else◌};
+ghost use Rattle.std.specs.List.{filter_map};
+ghost use Rattle.hume_ports.specs.Ports.{names, place_of, is_among};
+ghost use Rattle.core_runs.specs.Streams.{ArePlacesOf, ArePortsApart, ports_of, stream_of, streams};
+ghost use Rattle.hume_run.specs.Streams.{is_unfit, unfit_line};
+ghost use Rattle.hume_run.specs.inner.FoundPlaces.{IsFitAt, IsUnfitAt, is_port_of};
 
-use crate::one_box::Parts;
-use hume_base::{Refusal, Rule};
+use hume_model::{Core, NodeC};
 use hume_ports::{Port, find_bytes};
+use std::alloc::Global;
+use thiserror::Error;
 
-/// The places of the ports of the streams.
-#[derive(Clone, Copy)]
-pub struct Streams {
-    pub input: usize,
-    pub output: usize,
+/// Why there are no places.
+#[derive(Debug, Drop, Error)]
+pub enum PlacesError {
+    /// The stream declared in that line can't have its port.
+    #[error("the stream in line {0} has an unfit port")]
+    Unfit(u32),
+    #[error("out of memory")]
+    NoMemory,
 }
 
-/// The ports of a source's streams, if each may be a stream's.
-#[tactic(auto, using(crate::proofs::FitPorts::stream_steps))]
-pub fn find_streams(
+/// The places of the ports of all streams, one for each node, if each port may be its stream's. For a box stands any number.
+pub fn find_places(
+    alloc: Global,
     ports: &[Box<dyn Port>],
-    parts: &Parts<'_>,
+    core: &Core,
     source: &[u8],
-) -> Result<Streams, Refusal>
-    ensures fit { IfOk result (λ places. unfit_line (names (map view ports.now)) source.now [] (streams (core_of (parts_of parts.now))) ≡ None) }
-    ensures input { IfOk result (λ places. IsPlaceOf parts.now.input.now (names (map view ports.now)) places.input) }
-    ensures output { IfOk result (λ places. IsPlaceOf parts.now.output.now (names (map view ports.now)) places.output) }
-    ensures unfit { IfErr result (λ refusal. (line : ℕ)
-        × (unfit_line (names (map view ports.now)) source.now [] (streams (core_of (parts_of parts.now))) ≡ Some line)
-        × (refusal ≡ record { rule = C55; line = line })) }
+) -> Result<Vec<usize>, PlacesError>
+    ensures fit { IfOk result (λ places. unfit_line (names (map view ports.now)) source.now [] (streams core.now) ≡ None) }
+    ensures places { IfOk result (λ places. ArePlacesOf core.now (names (map view ports.now)) places.items) }
+    ensures apart { IfOk result (λ places. ArePortsApart core.now) }
+    ensures unfit { (line : ℕ) → IsErrOf result (PlacesError.Unfit line)
+        → unfit_line (names (map view ports.now)) source.now [] (streams core.now) ≡ Some line }
 {
-    let Some(input) = fit_port(ports, parts.input, source) else {
-        return Err(unfit_at(parts.lines.input));
-    };
-    let Some(output) = fit_port(ports, parts.output, source) else {
-        return Err(unfit_at(parts.lines.output));
-    };
-    if parts.output == parts.input {
-        return Err(unfit_at(parts.lines.output));
+    let mut places = Vec::new(alloc);
+    let nodes = core.nodes.as_slice();
+    for number in 0..nodes.len() {
+        match place_of_node(ports, &nodes[..number], &nodes[number], source) {
+            Err(line) => return Err(PlacesError::Unfit(line)),
+            Ok(at) => match places.push(at) {
+                Ok(()) => {}
+                Err(_) => return Err(PlacesError::NoMemory),
+            },
+        }
     }
-    Ok(Streams { input, output })
+    Ok(places)
 }
 
-fn unfit_at(line: u32) -> Refusal
-    ensures { result ≡ record { rule = C55; line = line } }
+// The place of the port of a node behind these, or the line of the node if it is a stream that can't have its port.
+fn place_of_node(
+    ports: &[Box<dyn Port>],
+    earlier: &[NodeC],
+    node: &NodeC,
+    source: &[u8],
+) -> Result<usize, u32>
+    ensures fit { IfOk result (IsFitAt (names (map view ports.now)) source.now earlier.now node.now) }
+    ensures unfit { IfErr result (IsUnfitAt (names (map view ports.now)) source.now earlier.now node.now) }
 {
-    Refusal {
-        rule: Rule::C55,
-        line,
+    match node {
+        NodeC::Rules(_) => Ok(0),
+        NodeC::From(stream) | NodeC::To(stream) => {
+            match fit_place(ports, earlier, stream.port.bytes(), source) {
+                Some(at) => Ok(at),
+                None => Err(stream.line),
+            }
+        }
     }
 }
 
-// The place of a port that isn't the source's.
-fn fit_port(ports: &[Box<dyn Port>], port: &[u8], source: &[u8]) -> Option<usize>
-    ensures { result ≡ (if bytes_eq port.now source.now then None else place_of port.now (names (map view ports.now))) }
+// The place of a port, if it may be that of a stream behind these nodes.
+fn fit_place(
+    ports: &[Box<dyn Port>],
+    earlier: &[NodeC],
+    port: &[u8],
+    source: &[u8],
+) -> Option<usize>
+    ensures { result ≡ (if is_unfit (names (map view ports.now)) source.now (ports_of (filter_map stream_of earlier.now)) port.now
+        then None else place_of port.now (names (map view ports.now))) }
 {
-    if port == source {
+    if port == source || is_named(earlier, port) {
         return None;
     }
     find_bytes(ports, port)
+}
+
+// Whether one of the nodes is a stream that names the port.
+fn is_named(nodes: &[NodeC], port: &[u8]) -> bool
+    ensures { result ≡ is_among port.now (ports_of (filter_map stream_of nodes.now)) }
+{
+    for node in nodes {
+        if names_port(node, port) {
+            return true;
+        }
+    }
+    false
+}
+
+fn names_port(node: &NodeC, port: &[u8]) -> bool
+    ensures { result ≡ is_port_of (stream_of node.now) port.now }
+{
+    match node {
+        NodeC::Rules(_) => false,
+        NodeC::From(stream) | NodeC::To(stream) => port == stream.port.bytes(),
+    }
 }

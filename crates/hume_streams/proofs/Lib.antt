@@ -8,3 +8,4 @@ pub mod Draining
 pub mod Givings
 pub mod GoodOnce
 pub mod GoodAlways
+pub mod FewLines

@@ -1,5 +1,6 @@
 //! Laws of the definitions, as contracts of functions that do nothing.
-ghost use Rattle.std.specs.Prelude.{◌≡◌, ℕ, List, ◌++◌, map, Option, Some, true, Result};
+ghost use Rattle.std.specs.Prelude.{◌≡◌, ◌≤◌, ◌+◌, ◌*◌, ℕ, List, length, ◌++◌, map, Option, Some, true, Result};
+ghost use Rattle.hume_base.specs.declared.limits.TheConstants.{MAX_EMPTY_LINES};
 ghost use Rattle.hume_base.specs.declared.types.Ty.{Ty};
 ghost use Rattle.hume_base.specs.declared.types.Types.{Types};
 ghost use Rattle.hume_base.specs.declared.types.Value.{Value};
@@ -23,6 +24,12 @@ pub fn each_text_has_good_values()
 pub fn good_values_are_unique()
     ensures { (types : Types) (ty : Ty) (text : List ℕ) (good values : List Value) (bad other : Option ℕ) → HaveNames types
         → IsGoodUntil types ty text good bad → IsGoodUntil types ty text values other → (good ≡ values) × (bad ≡ other) }
+{}
+
+/// Few lines stand before a bad one, as no more empty ones than are allowed stand in a row.
+pub fn bad_lines_have_small_numbers()
+    ensures { (types : Types) (ty : Ty) (text : List ℕ) (good : List Value) (number : ℕ) → IsGoodUntil types ty text good (Some number)
+        → number ≤ (length good + 1) * (MAX_EMPTY_LINES + 1) }
 {}
 
 /// What a queue gave and holds is the first of the good values of each text for which it is right.

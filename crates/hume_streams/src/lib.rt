@@ -4,7 +4,8 @@
 //! values the others have, is said by `specs/Good.antt`; for which text a queue is right by `specs/Queues.antt`; what a fill does
 //! by `specs/Fills.antt`. `OutLog` keeps the values of an output stream and writes each as a line (`specs/Logs.antt`).
 //! Neither takes memory once it is made.
-//! Laws: each text has its good values, once (`each_text_has_good_values`, `good_values_are_unique`); a queue holds the next ones
+//! Laws: each text has its good values, once (`each_text_has_good_values`, `good_values_are_unique`), and few lines stand before a
+//! bad one (`bad_lines_have_small_numbers`); a queue holds the next ones
 //! (`queues_hold_the_next_values`), and stays right for a port that tells what it has left (`fills_follow_ports_that_tell`).
 //! It knows ports, lines and the words of values; it doesn't know cores, wires or streams.
 #![tactic(auto)]
@@ -18,8 +19,8 @@ mod queue;
 mod rows;
 
 pub use laws::{
-    each_text_has_good_values, fills_follow_ports_that_tell, good_values_are_unique,
-    queues_hold_the_next_values,
+    bad_lines_have_small_numbers, each_text_has_good_values, fills_follow_ports_that_tell,
+    good_values_are_unique, queues_hold_the_next_values,
 };
 pub use log::OutLog;
 pub use queue::{FillError, InQueue};

@@ -1,0 +1,17 @@
+pub mod Ranges
+pub mod Comings
+pub mod Fed
+pub mod Filled
+pub mod RoundSteps
+pub mod Ending
+pub mod TypedTaken
+pub mod Stepping
+pub mod Standings
+pub mod RunEnds
+pub mod Clearings
+pub mod GatheredValues
+pub mod GatheredNodes
+pub mod FillingInputs
+pub mod Runnings
+pub mod RoundEnds
+pub mod RunStarts

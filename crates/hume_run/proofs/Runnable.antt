@@ -1,0 +1,20 @@
+-- The core of an accepted source can be run.
+use Rattle.std.proofs.Common.{ℕ, List}
+use Rattle.hume_front.specs.Accepted as front
+use Rattle.hume_front.specs.Accepted.{IsAccepted}
+use Rattle.hume_front.specs.declared.acceptance.Accepted.{Accepted}
+use Rattle.hume_front.proofs.Sources.{formed, wired}
+use Rattle.net_engine.specs.Runnable.{IsRunnable}
+use Rattle.printable_cores.proofs.NamedConstructors.{have_names}
+use Rattle.printable_cores.proofs.Printable.{printable}
+
+pub runnable : (text : List ℕ) (accepted : Accepted) → IsAccepted text accepted → IsRunnable accepted.core
+runnable text accepted h =
+    let wires = wired text accepted h in
+    record {
+      formed = formed text accepted h;
+      wired = wires.0;
+      agree = wires.1;
+      names = have_names text h.program.tokens accepted.program accepted.core h.program.read h.program.spelled (λ f b. h.fine f (front.check b)) h.core;
+      printable = printable accepted.core (formed text accepted h);
+    }

@@ -1,0 +1,29 @@
+-- Whether the port of one node is found, and may be its stream's.
+use Rattle.std.specs.Prelude.{◌≡◌, ◌==◌, ℕ, Bool, true, false, List, [], ◌∷◌, Option, None, Some, if◌then◌else◌}
+use Rattle.std.specs.List.{filter_map}
+use Rattle.std.specs.Str.{bytes_eq}
+use Rattle.hume_model.specs.declared.core_tree.NodeC.{NodeC}
+use Rattle.hume_model.specs.declared.core_tree.StreamC.{StreamC}
+use Rattle.hume_ports.specs.Ports.{place_of}
+use Rattle.core_runs.specs.Streams.{ports_of, stream_of}
+use Rattle.hume_run.specs.Streams.{is_unfit}
+
+-- If the node is a stream, its port is fit behind those of the earlier nodes, and stands at that place.
+abbrev pub IsFitAt : List (List ℕ) → List ℕ → List NodeC → NodeC → ℕ → Type 0
+IsFitAt names source earlier node at = (stream : StreamC) → stream_of node ≡ Some stream
+    → (is_unfit names source (ports_of (filter_map stream_of earlier)) stream.port ≡ false) × (place_of stream.port names ≡ Some at)
+
+-- It is a stream of that line, and its port is unfit.
+abbrev pub IsUnfitAt : List (List ℕ) → List ℕ → List NodeC → NodeC → ℕ → Type 0
+IsUnfitAt names source earlier node line = (stream : StreamC) × (stream_of node ≡ Some stream) × (line ≡ stream.line)
+    × (is_unfit names source (ports_of (filter_map stream_of earlier)) stream.port ≡ true)
+
+-- there is a stream, and it names the port
+abbrev pub is_port_of : Option StreamC → List ℕ → Bool
+is_port_of None port = false
+is_port_of (Some stream) port = bytes_eq port stream.port
+
+-- The place of a port that is finished for a node: that of an output stream, unless it is the last one.
+abbrev pub finish_at : Option StreamC → ℕ → ℕ → List ℕ
+finish_at None at out = []
+finish_at (Some stream) at out = if at == out then [] else at ∷ []

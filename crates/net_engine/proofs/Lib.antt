@@ -1,0 +1,6 @@
+mod Supersteps
+pub mod Wires
+mod FirstQueues
+mod Giving
+mod Endings
+mod Filled

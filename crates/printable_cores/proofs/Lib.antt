@@ -1,0 +1,3 @@
+pub mod Printable
+pub mod NamedTokens
+pub mod NamedConstructors
