@@ -1,6 +1,6 @@
 -- What may come, from what was read: the values that came and those that come later.
-use Rattle.std.proofs.Common.{◌≡◌, ◌⊎◌, ℕ, zero, suc, ◌<◌, Bool, true, false, List, [], ◌∷◌, ◌++◌, length, map, drop, Option, None, Some, slice_get, refl, ap, sym, ◌∙◌, subst, inl, inr, arith}
-use Rattle.std.proofs.lemmas.List.{append_assoc, append-nil}
+use Rattle.std.proofs.Common.{◌≡◌, ◌⊎◌, ℕ, List, [], ◌∷◌, ◌++◌, length, map, drop, Some, slice_get, refl, ap, sym, ◌∙◌, subst, inl, inr}
+use Rattle.std.proofs.lemmas.List.{append-nil}
 use Rattle.std.proofs.Math.Seq.{drop-append_seam}
 use Rattle.hume_base.specs.declared.types.Ty.{Ty}
 use Rattle.hume_base.specs.declared.types.Types.{Types}
@@ -13,8 +13,7 @@ use Rattle.hume_model.specs.declared.core_tree.Core.{Core}
 use Rattle.hume_net.specs.Nodes.{IsInput, IsInputStream}
 use Rattle.hume_ports.specs.Delivery.{Pairs, bytes_for}
 use Rattle.hume_text.specs.Names.{HaveNames}
-use Rattle.hume_streams.specs.Good.{IsGoodUntil}
-use Rattle.hume_streams.specs.Queues.{QueueView, IsQueueOf}
+use Rattle.hume_streams.specs.Queues.{QueueView}
 use Rattle.hume_streams.proofs.GoodOnce.{queue_front}
 use Rattle.net_engine.specs.StreamTypes.{type_at}
 use Rattle.net_rounds.specs.Pieces.{listed}

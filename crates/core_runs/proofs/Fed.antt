@@ -1,5 +1,5 @@
 -- One stream is filled: what was read then, and what comes later.
-use Rattle.std.proofs.Common.{◌≡◌, ◌⊎◌, ℕ, zero, suc, ◌<◌, ◌==◌, Bool, true, false, cond, if◌then◌else◌, List, [], ◌∷◌, ◌++◌, length, map, drop, Option, None, Some, slice_get, slice_set, slice_index_or, refl, ap, sym, ◌∙◌, subst, inl, inr, arith}
+use Rattle.std.proofs.Common.{◌≡◌, ◌⊎◌, ℕ, Bool, true, false, cond, if◌then◌else◌, List, [], ◌∷◌, ◌++◌, length, drop, Option, Some, slice_get, slice_set, slice_index_or, refl, ap, sym, ◌∙◌, subst, inl, inr}
 use Rattle.std.proofs.lemmas.List.{append_assoc, append-nil}
 use Rattle.std.proofs.lemmas.Bool.{eq-eqb, ne_eqb}
 use Rattle.std.proofs.lemmas.Bool.Decides.{eqb_tells}
@@ -7,10 +7,9 @@ use Rattle.std.proofs.Math.Seq.{drop-append_seam}
 use Rattle.std.specs.Str.{bytes_eq}
 use Rattle.hume_base.specs.declared.types.Value.{Value}
 use Rattle.hume_model.specs.declared.core_tree.NodeC.{NodeC}
-use Rattle.hume_model.specs.declared.core_tree.NodeC.TheVariants.{Rules, From, To}
+use Rattle.hume_model.specs.declared.core_tree.NodeC.TheVariants.{From}
 use Rattle.hume_model.specs.declared.core_tree.StreamC.{StreamC}
 use Rattle.hume_model.specs.declared.core_tree.Core.{Core}
-use Rattle.hume_net.specs.declared.state.Part.{Part}
 use Rattle.hume_net.specs.declared.state.State.{State}
 use Rattle.hume_net.specs.Nodes.{HasParts, IsInputStream}
 use Rattle.hume_net.specs.Sides.{part_of}
@@ -25,7 +24,7 @@ use Rattle.net_rounds.proofs.OneNode.{fed_one}
 use Rattle.core_runs.specs.Streams.{ArePortsApart}
 use Rattle.core_runs.specs.Inputs.{Inputs}
 use Rattle.core_runs.specs.inner.Reading.{HasRead, MayCome, later_of}
-use Rattle.core_runs.proofs.Comings.{input_or_not, inputs_are, splits}
+use Rattle.core_runs.proofs.Comings.{inputs_are, splits}
 
 pub same_or_other : (a b : ℕ) → (a ≡ b) ⊎ (a ≡ b → ⊥)
 same_or_other a b = elim (eqb_tells a b) [ inl same ↦ inl same.1 | inr other ↦ inr other.1 ]

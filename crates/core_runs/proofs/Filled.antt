@@ -1,5 +1,5 @@
 -- All streams are filled: the round may go on, or a stream blocks it.
-use Rattle.std.proofs.Common.{◌≡◌, ◌⊎◌, ℕ, zero, suc, ◌+◌, ◌<◌, ◌≤◌, nat_lt, Bool, true, false, ◌&&◌, List, [], ◌∷◌, ◌++◌, length, drop, Option, None, Some, slice_get, refl, ap, sym, ◌∙◌, subst, inl, inr, arith}
+use Rattle.std.proofs.Common.{◌≡◌, ◌⊎◌, ℕ, ◌+◌, ◌<◌, ◌≤◌, nat_lt, Bool, true, false, ◌&&◌, List, [], ◌++◌, length, drop, Option, None, Some, slice_get, refl, ap, sym, ◌∙◌, subst, inl, inr}
 use Rattle.std.proofs.lemmas.Bool.{lt-ltb}
 use Rattle.std.proofs.lemmas.List.{append-nil}
 use Rattle.std.proofs.Math.Seq.{drop-append_seam}
@@ -11,24 +11,24 @@ use Rattle.hume_model.specs.declared.core_tree.StreamC.{StreamC}
 use Rattle.hume_model.specs.declared.core_tree.Core.{Core}
 use Rattle.hume_net.specs.declared.state.State.{State}
 use Rattle.hume_net.specs.Lockstep.{lockstep}
-use Rattle.hume_net.specs.Nodes.{IsInput, IsInputStream}
+use Rattle.hume_net.specs.Nodes.{IsInput}
 use Rattle.hume_net.specs.Sides.{part_of}
 use Rattle.hume_net.specs.Start.{start}
 use Rattle.hume_ports.specs.Delivery.{Pairs, bytes_for}
 use Rattle.hume_text.specs.Names.{HaveNames}
 use Rattle.hume_streams.specs.Good.{IsGoodUntil}
-use Rattle.hume_streams.specs.Queues.{QueueView, IsQueueOf}
+use Rattle.hume_streams.specs.Queues.{QueueView}
 use Rattle.hume_streams.proofs.GoodOnce.{good_once}
 use Rattle.net_engine.specs.StreamTypes.{type_at}
-use Rattle.net_rounds.specs.Blocked.{blocks, blocking}
+use Rattle.net_rounds.specs.Blocked.{blocks}
 use Rattle.net_rounds.specs.Streams.{asserted_between}
 use Rattle.net_rounds.specs.Pieces.{IsFilled, IsPieceOf, listed}
 use Rattle.net_rounds.specs.Rounds.{begins, length_of}
-use Rattle.net_rounds.proofs.Blocking.{blocks_at_its_end, filled_goes_on, blocking_is, nothing_blocks}
+use Rattle.net_rounds.proofs.Blocking.{blocks_at_its_end, filled_goes_on}
 use Rattle.core_runs.specs.Inputs.{Inputs, is_bad}
 use Rattle.core_runs.specs.inner.Reading.{HasRead, MayCome, later_of}
 use Rattle.core_runs.specs.inner.Beginning.{HasAllRead, MayBegin, AllMayBegin, StandsBeforeBad}
-use Rattle.core_runs.proofs.Comings.{input_or_not, inputs_are}
+use Rattle.core_runs.proofs.Comings.{input_or_not}
 
 drop_all : (values : List Value) → drop (length values) values ≡ []
 drop_all values = ap (drop (length values)) (sym (append-nil values)) ∙ drop-append_seam values []

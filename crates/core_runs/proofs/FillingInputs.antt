@@ -1,5 +1,5 @@
 -- Input streams that are filled one after another.
-use Rattle.std.proofs.Common.{◌≡◌, ◌⊎◌, ℕ, zero, suc, ◌+◌, ◌<◌, ◌≤◌, min, List, [], ◌∷◌, ◌++◌, map, length, get_or, Option, None, Some, slice_get, Result, Ok, Err, refl, ap, sym, ◌∙◌, subst, inl, inr, arith}
+use Rattle.std.proofs.Common.{◌≡◌, ◌⊎◌, ℕ, zero, suc, ◌+◌, ◌<◌, ◌≤◌, min, List, [], ◌∷◌, length, get_or, Option, None, Some, slice_get, Result, Ok, Err, refl, ap, sym, ◌∙◌, subst, inl, inr, arith}
 use Rattle.std.proofs.lemmas.Bool.{cases_lt}
 use Rattle.std.proofs.lemmas.Option.{slice_get-get_or, slice_get_within}
 use Rattle.hume_base.specs.declared.types.Value.{Value}
@@ -13,7 +13,7 @@ use Rattle.hume_ports.specs.Port.{PortView, last_count}
 use Rattle.hume_ports.specs.Ports.{names, place_of, ForNameAt, Untouched}
 use Rattle.hume_ports.specs.Delivery.{Pairs, Roomy}
 use Rattle.hume_ports.proofs.Untouched.{Untouched-on, Untouched-start}
-use Rattle.gathered_writes.specs.Places.{IsPlaceOf, name_at}
+use Rattle.gathered_writes.specs.Places.{IsPlaceOf}
 use Rattle.hume_streams.specs.Good.{IsGoodUntil}
 use Rattle.hume_streams.specs.Queues.{IsQueueOf}
 use Rattle.net_engine.specs.StreamTypes.{type_at}
@@ -21,17 +21,18 @@ use Rattle.net_engine.specs.declared.engine.Engine.{Engine}
 use Rattle.net_engine.specs.declared.engine.EngineError.{EngineError}
 use Rattle.net_engine.specs.declared.engine.EngineError.TheVariants.{BadValue, Failed as FillFailed, NoMemory as FillNoMemory}
 use Rattle.net_engine.specs.Engines.{core_of, queue_at, span_of, state_of, HasGivenAll}
-use Rattle.net_engine.specs.NodeFills.{FillsNode, GivesAll, HasEnough, HasReadAll, StandsBefore}
+use Rattle.net_engine.specs.NodeFills.{FillsNode, HasEnough, HasReadAll}
 use Rattle.net_engine.specs.Runnable.{IsRunnable}
+use Rattle.net_rounds.specs.Rounds.{made}
 use Rattle.core_runs.specs.declared.run.RunError.{RunError}
 use Rattle.core_runs.specs.declared.run.RunError.TheVariants.{Failed, NoMemory}
-use Rattle.core_runs.specs.Runs.{FailsToRead, ReadsSome}
+use Rattle.core_runs.specs.Runs.{FailsBefore, ReadsSome}
 use Rattle.core_runs.specs.Streams.{ArePlacesOf, ArePortsApart, inputs, ports_of}
-use Rattle.core_runs.specs.inner.Beginning.{HasAllRead, MayBegin}
+use Rattle.core_runs.specs.inner.Beginning.{MayBegin}
 use Rattle.core_runs.specs.inner.Steps.{StandsAfter, StandsBlocked, StandsFilled, FilledAt, LacksAt, KeepsOthers, EndsFills, EndsNode}
 use Rattle.core_runs.proofs.Comings.{inputs_are}
-use Rattle.core_runs.proofs.Standings.{stands_filled_at, still_begins, failed_at, reads_more}
-use Rattle.core_runs.proofs.Stepping.{input_among}
+use Rattle.core_runs.proofs.Standings.{stands_filled_at, still_begins, reads_more}
+use Rattle.core_runs.proofs.TooFew.{fails_before}
 
 -- an input stream has its stream
 pub stream_there : (core : Core) (n : ℕ) → IsInputStream core n → (stream : StreamC) × (slice_get core.nodes n ≡ Some (From stream))
@@ -106,8 +107,8 @@ module _ (span steps done want : ℕ) (olds mids news : List PortView) (old new 
     )
 
   module _ (fill : FillsNode want old new n stream.port mids news (Err FillFailed)) (no_room : Roomy mids [] → ⊥) where
-    pub node_failed : FailsToRead core olds news
-    node_failed = failed_at span steps done want olds mids news old new written n stream is (Err FillFailed) fill stands.taken stands.gave.progress fill.reads no_room
+    pub node_failed : FailsBefore core (made span steps done) want olds news
+    node_failed = fails_before span steps done want olds mids news old new written n stream is run stands fill no_room
 
   module _ (fill : FillsNode want old new n stream.port mids news (Err FillNoMemory)) where
     pub node_wants_memory : ReadsSome olds news

@@ -1,5 +1,5 @@
 -- What is gathered of one node, and of one node after another.
-use Rattle.std.proofs.Common.{◌≡◌, ℕ, zero, suc, ◌+◌, ◌<◌, ◌≤◌, true, List, [], ◌∷◌, ◌++◌, map, length, get_or, Option, None, Some, slice_get, refl, ap, sym, ◌∙◌, subst, arith, append-nil}
+use Rattle.std.proofs.Common.{◌≡◌, ℕ, zero, suc, ◌+◌, ◌<◌, List, [], ◌∷◌, ◌++◌, length, Option, None, Some, slice_get, refl, ap, sym, ◌∙◌, arith, append-nil}
 use Rattle.std.specs.List.{flat_map, range_with_len}
 use Rattle.std.proofs.lemmas.List.{append_assoc}
 use Rattle.hume_base.specs.declared.types.Ty.{Ty}
@@ -13,9 +13,9 @@ use Rattle.hume_ports.specs.Delivery.{Pairs}
 use Rattle.net_engine.specs.StreamTypes.{type_at}
 use Rattle.stream_ports.specs.WritesInTurn.{line_writes}
 use Rattle.gathered_writes.specs.Gathered.{pairs_of}
-use Rattle.gathered_writes.specs.Places.{IsPlaceOf, name_at}
-use Rattle.core_runs.specs.Streams.{ArePlacesOf, stream_of}
-use Rattle.core_runs.specs.Writes.{writes_of_node, writes_of_nodes}
+use Rattle.gathered_writes.specs.Places.{name_at}
+use Rattle.core_runs.specs.Streams.{ArePlacesOf}
+use Rattle.core_runs.specs.Writes.{writes_of_node}
 use Rattle.core_runs.specs.inner.Gatherings.{GoToOutputs, writes_to}
 use Rattle.core_runs.proofs.Ranges.{flat_more}
 

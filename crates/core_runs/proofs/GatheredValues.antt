@@ -1,22 +1,16 @@
 -- Writes that are added value after value, and node after node.
-use Rattle.std.proofs.Common.{◌≡◌, ℕ, zero, suc, ◌+◌, ◌<◌, ◌≤◌, List, [], ◌∷◌, ◌++◌, map, length, drop, get_or, Option, None, Some, slice_get, refl, ap, sym, ◌∙◌, subst, arith, append-nil, add-one, drop-cons}
-use Rattle.std.specs.List.{All, flat_map, range_with_len}
+use Rattle.std.proofs.Common.{◌≡◌, ℕ, zero, suc, ◌+◌, ◌<◌, ◌≤◌, List, [], ◌∷◌, ◌++◌, length, drop, get_or, refl, ap, sym, ◌∙◌, subst, arith, append-nil, add-one, drop-cons}
 use Rattle.std.proofs.lemmas.List.{append_assoc, map-append}
 use Rattle.hume_base.specs.declared.types.Ty.{Ty}
 use Rattle.hume_base.specs.declared.types.Types.{Types}
 use Rattle.hume_base.specs.declared.types.Value.{Value}
-use Rattle.hume_model.specs.declared.core_tree.NodeC.{NodeC}
-use Rattle.hume_model.specs.declared.core_tree.NodeC.TheVariants.{Rules, From, To}
 use Rattle.hume_model.specs.declared.core_tree.Core.{Core}
 use Rattle.hume_streams.specs.Logs.{line_of}
 use Rattle.stream_ports.specs.WritesInTurn.{line_writes}
 use Rattle.gathered_writes.specs.Gathered.{pairs_of}
 use Rattle.gathered_writes.specs.Places.{name_at}
-use Rattle.core_runs.specs.Streams.{ArePlacesOf, stream_of}
-use Rattle.core_runs.specs.Writes.{writes_of_node}
 use Rattle.core_runs.specs.Destinations.{IsOutputPlace}
-use Rattle.core_runs.specs.inner.Gatherings.{GoToOutputs, writes_to}
-use Rattle.core_runs.proofs.Ranges.{flat_more}
+use Rattle.core_runs.specs.inner.Gatherings.{GoToOutputs}
 
 -- one more write to an output's place
 pub goes_too : (core : Core) (places : List ℕ) (writes : List (ℕ × List ℕ)) (at : ℕ) (bytes : List ℕ) → IsOutputPlace core places at

@@ -8,6 +8,7 @@ pub mod TypedTaken
 pub mod Stepping
 pub mod Standings
 pub mod RunEnds
+pub mod TooFew
 pub mod Clearings
 pub mod GatheredValues
 pub mod GatheredNodes

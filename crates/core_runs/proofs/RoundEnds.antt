@@ -1,5 +1,5 @@
 -- How fills and rounds end, and one round after another.
-use Rattle.std.proofs.Common.{◌≡◌, ◌⊎◌, ℕ, zero, suc, ◌+◌, ◌-◌, ◌*◌, ◌<◌, ◌≤◌, min, List, [], ◌∷◌, ◌++◌, length, Option, None, Some, slice_get, Result, Ok, Err, refl, ap, sym, ◌∙◌, subst, inl, inr, arith}
+use Rattle.std.proofs.Common.{◌≡◌, ℕ, suc, ◌+◌, ◌-◌, ◌*◌, ◌<◌, min, List, Option, None, Some, Result, Ok, Err, refl, sym, ◌∙◌, subst, arith}
 use Rattle.hume_model.specs.declared.core_tree.Core.{Core}
 use Rattle.hume_ports.specs.Port.{PortView}
 use Rattle.hume_ports.specs.Ports.{names, Untouched}
@@ -7,15 +7,14 @@ use Rattle.hume_ports.specs.Delivery.{Pairs}
 use Rattle.hume_ports.proofs.Untouched.{Untouched-on, Untouched-start}
 use Rattle.gathered_writes.specs.Gathered.{pairs_of}
 use Rattle.net_engine.specs.declared.engine.Engine.{Engine}
-use Rattle.net_engine.specs.Engines.{core_of, queue_at, span_of, state_of}
+use Rattle.net_engine.specs.Engines.{core_of, span_of}
 use Rattle.net_rounds.specs.Rounds.{IsRound, begins, length_of, rounds_of}
-use Rattle.net_rounds.proofs.RoundCounts.{counted_round}
+use Rattle.net_rounds.proofs.RoundCounts.{begins_made, counted_round}
 use Rattle.core_runs.specs.declared.bad_line.BadLine.{BadLine}
 use Rattle.core_runs.specs.declared.run.RunError.{RunError}
 use Rattle.core_runs.specs.declared.run.RunError.TheVariants.{Failed, NoMemory}
-use Rattle.core_runs.specs.Runs.{ReadsSome}
+use Rattle.core_runs.specs.Runs.{FailsBefore, ReadsSome}
 use Rattle.core_runs.specs.Streams.{ArePlacesOf, inputs, ports_of}
-use Rattle.core_runs.specs.inner.Beginning.{AllMayBegin}
 use Rattle.core_runs.specs.inner.Gatherings.{GoToOutputs}
 use Rattle.core_runs.specs.inner.Steps.{StandsAfter, StandsFilled, StandsBlocked, EndsFills, EndsRound, EndsRounds, HaltsBefore}
 
@@ -26,10 +25,15 @@ module _ (core : Core) (span steps done : ℕ) (olds news : List PortView) (engi
   fills_as want result other is ends = subst (EndsFills core span steps done want olds news engine written) is ends
 
   -- fills that ended by an error end the round so
-  pub round_error : (want : ℕ) (error : RunError) → EndsFills core span steps done want olds news engine written (Err error)
+  pub round_error : (want : ℕ) (error : RunError) → IsRound span steps (suc done) → want ≡ length_of span steps (suc done) → EndsFills core span steps done want olds news engine written (Err error)
       → EndsRound core span steps done olds news engine written (Err error)
-  round_error want Failed ends = ends
-  round_error want NoMemory ends = ends
+  round_error want Failed is count ends = record {
+    round = suc done;
+    is = is;
+    fails = subst (λ k. FailsBefore core (begins span (suc done)) k olds news) count
+        (subst (λ k. FailsBefore core k want olds news) (sym (begins_made span steps done is.begins_within)) ends);
+  }
+  round_error want NoMemory is count ends = ends
 
   -- a stream blocks the round
   pub round_blocked : (want : ℕ) (bad : BadLine) → want ≡ length_of span steps (suc done) → StandsBlocked core span steps done want olds news engine written bad

@@ -1,20 +1,16 @@
 -- A round is made, its values are written and the net is cleared.
-use Rattle.std.proofs.Common.{◌≡◌, ◌⊎◌, ℕ, zero, suc, ◌+◌, ◌-◌, ◌<◌, ◌≤◌, Bool, true, false, List, [], ◌∷◌, ◌++◌, length, Option, None, Some, slice_get, refl, ap, sym, ◌∙◌, subst, inl, inr, arith}
-use Rattle.std.proofs.lemmas.Option.{slice_get_within}
+use Rattle.std.proofs.Common.{◌≡◌, ◌⊎◌, ℕ, zero, suc, ◌+◌, ◌-◌, ◌<◌, ◌≤◌, List, [], ◌∷◌, ◌++◌, length, None, Some, slice_get, refl, ap, sym, ◌∙◌, subst, inl, inr, arith}
 use Rattle.hume_base.specs.declared.types.Value.{Value}
 use Rattle.hume_model.specs.declared.core_tree.NodeC.{NodeC}
-use Rattle.hume_model.specs.declared.core_tree.NodeC.TheVariants.{Rules, From, To}
-use Rattle.hume_model.specs.declared.core_tree.StreamC.{StreamC}
 use Rattle.hume_model.specs.declared.core_tree.Core.{Core}
 use Rattle.hume_net.specs.declared.state.State.{State}
 use Rattle.hume_net.specs.Lockstep.{lockstep}
-use Rattle.hume_net.specs.Nodes.{IsOutputStream}
 use Rattle.hume_net.specs.Sides.{part_of}
 use Rattle.hume_net.specs.Start.{start}
 use Rattle.hume_ports.specs.Delivery.{Pairs}
 use Rattle.hume_text.specs.Names.{HaveNames}
 use Rattle.hume_streams.specs.Queues.{QueueView}
-use Rattle.net_rounds.specs.Blocked.{blocks, blocking}
+use Rattle.net_rounds.specs.Blocked.{blocking}
 use Rattle.net_rounds.specs.Pieces.{IsPieceOf}
 use Rattle.net_rounds.specs.Rounds.{IsRound, begins, ends, length_of, made}
 use Rattle.net_rounds.specs.Streams.{gained}

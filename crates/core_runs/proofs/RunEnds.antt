@@ -1,9 +1,8 @@
 -- What a run owes that has made all its rounds, and one that a bad line halts.
-use Rattle.std.proofs.Common.{◌≡◌, ◌⊎◌, ℕ, zero, suc, ◌+◌, ◌-◌, ◌*◌, ◌<◌, ◌≤◌, min, Bool, true, false, List, [], ◌∷◌, ◌++◌, length, Option, None, Some, slice_get, refl, ap, sym, ◌∙◌, subst, inl, inr, arith, append-nil, length-append}
+use Rattle.std.proofs.Common.{◌≡◌, ℕ, suc, ◌+◌, ◌-◌, ◌*◌, ◌<◌, ◌≤◌, min, Bool, true, false, List, [], ◌∷◌, ◌++◌, length, None, Some, slice_get, ap, sym, ◌∙◌, subst, inl, arith, append-nil, length-append}
 use Rattle.std.proofs.lemmas.Option.{slice_get_within}
 use Rattle.std.proofs.Math.Nat.{min-eq_left}
 use Rattle.std.specs.Option.{is_some, unwrap_or}
-use Rattle.hume_base.specs.declared.types.Value.{Value}
 use Rattle.hume_model.specs.declared.core_tree.NodeC.{NodeC}
 use Rattle.hume_model.specs.declared.core_tree.NodeC.TheVariants.{From}
 use Rattle.hume_model.specs.declared.core_tree.StreamC.{StreamC}
@@ -11,7 +10,6 @@ use Rattle.hume_model.specs.declared.core_tree.Core.{Core}
 use Rattle.hume_net.specs.declared.state.Part.{Part}
 use Rattle.hume_net.specs.declared.state.State.{State}
 use Rattle.hume_net.specs.Lockstep.{lockstep}
-use Rattle.hume_net.specs.Nodes.{IsInput, IsInputStream}
 use Rattle.hume_net.specs.Sides.{part_of}
 use Rattle.hume_net.specs.Start.{start}
 use Rattle.hume_ports.specs.Port.{PortView, last_count}
@@ -26,7 +24,7 @@ use Rattle.net_engine.specs.StreamTypes.{type_at}
 use Rattle.net_engine.proofs.Wires.{printable_type}
 use Rattle.net_rounds.specs.Blocked.{blocks, blocking}
 use Rattle.net_rounds.specs.Pieces.{listed}
-use Rattle.net_rounds.specs.Rounds.{IsRound, begins, length_of, made, rounds_of}
+use Rattle.net_rounds.specs.Rounds.{length_of, made, rounds_of}
 use Rattle.net_rounds.specs.Streams.{asserted_between}
 use Rattle.net_rounds.proofs.AheadOfStreams.{all_asserted, few_asserted}
 use Rattle.net_rounds.proofs.Blocking.{blocking_is, first_is, none_is_blocked}
@@ -35,10 +33,9 @@ use Rattle.core_runs.specs.Inputs.{AreInputs, Inputs, is_bad}
 use Rattle.core_runs.specs.Runs.{RunsTo}
 use Rattle.core_runs.specs.Streams.{std_out}
 use Rattle.core_runs.specs.Writes.{bad_value_line, bad_value_writes, blocked_round, name_of, rounds_writes, writes_until}
-use Rattle.core_runs.specs.inner.Reading.{HasRead, MayCome, later_of}
-use Rattle.core_runs.specs.inner.Standing.{IsAfter}
+use Rattle.core_runs.specs.inner.Reading.{MayCome, later_of}
 use Rattle.core_runs.specs.inner.Steps.{HaltsBefore, LacksAt, StandsAfter}
-use Rattle.core_runs.proofs.Comings.{splits, inputs_are}
+use Rattle.core_runs.proofs.Comings.{inputs_are}
 use Rattle.core_runs.proofs.Ending.{texts_read, texts_told, the_inputs, inputs_of_texts, they_may_come}
 use Rattle.core_runs.proofs.Filled.{bad_comes, node_goes_on, stream_blocks}
 use Rattle.core_runs.proofs.RoundSteps.{item_at, piece_now}

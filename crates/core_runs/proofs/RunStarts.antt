@@ -1,12 +1,8 @@
 -- Where a run stands before its first round, and how it ends by its engine.
-use Rattle.std.proofs.Common.{◌≡◌, ◌⊎◌, ℕ, zero, suc, ◌+◌, ◌*◌, ◌<◌, ◌≤◌, ◌^◌, Bool, true, false, List, [], ◌∷◌, ◌++◌, map, length, get_or, Option, None, Some, slice_get, Result, refl, ap, sym, ◌∙◌, subst, inl, inr, arith, append-nil}
-use Rattle.std.specs.List.{All}
+use Rattle.std.proofs.Common.{◌≡◌, ℕ, zero, suc, ◌+◌, ◌*◌, ◌<◌, ◌≤◌, ◌^◌, Bool, true, false, List, [], ◌∷◌, ◌++◌, get_or, Option, slice_get, Result, refl, ap, sym, ◌∙◌, subst, inl, inr, arith}
 use Rattle.std.proofs.lemmas.List.{map-append}
 use Rattle.hume_base.specs.declared.types.Value.{Value}
 use Rattle.hume_base.specs.Sizes.{size_of}
-use Rattle.hume_model.specs.declared.core_tree.NodeC.{NodeC}
-use Rattle.hume_model.specs.declared.core_tree.NodeC.TheVariants.{From}
-use Rattle.hume_model.specs.declared.core_tree.StreamC.{StreamC}
 use Rattle.hume_model.specs.declared.core_tree.Core.{Core}
 use Rattle.hume_net.specs.declared.state.State.{State}
 use Rattle.hume_net.specs.Lockstep.{lockstep}
@@ -31,14 +27,13 @@ use Rattle.net_rounds.proofs.RoundCounts.{none_made}
 use Rattle.net_rounds.proofs.Rounds.{start_piece}
 use Rattle.core_runs.specs.declared.bad_line.BadLine.{BadLine}
 use Rattle.core_runs.specs.declared.run.RunError.{RunError}
-use Rattle.core_runs.specs.Inputs.{Inputs}
 use Rattle.core_runs.specs.Runs.{RunsTo}
 use Rattle.core_runs.specs.Streams.{std_out}
 use Rattle.core_runs.specs.Writes.{bad_value_line, name_of}
 use Rattle.core_runs.specs.Destinations.{GoToOutputsOr, IsOutputPlace}
 use Rattle.core_runs.specs.inner.Gatherings.{GoToOutputs}
-use Rattle.core_runs.specs.inner.Reading.{HasRead, MayCome, later_of}
-use Rattle.core_runs.specs.inner.Standing.{IsAfter, IsCleared, IsPieceAt, PortsGave}
+use Rattle.core_runs.specs.inner.Reading.{HasRead, later_of}
+use Rattle.core_runs.specs.inner.Standing.{IsCleared, IsPieceAt}
 use Rattle.core_runs.specs.inner.Steps.{EndsRounds, HaltsBefore, StandsAfter}
 use Rattle.core_runs.proofs.Comings.{inputs_are}
 use Rattle.core_runs.proofs.RunEnds.{run_over, run_halted}

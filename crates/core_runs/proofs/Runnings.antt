@@ -1,5 +1,5 @@
 -- A round whose streams are filled is made, gathered and cleared.
-use Rattle.std.proofs.Common.{◌≡◌, ◌⊎◌, ℕ, zero, suc, ◌+◌, ◌<◌, ◌≤◌, List, [], ◌∷◌, ◌++◌, length, Option, None, Some, slice_get, Result, Ok, Err, refl, ap, sym, ◌∙◌, subst, inl, inr, arith}
+use Rattle.std.proofs.Common.{◌≡◌, ◌⊎◌, ℕ, suc, List, ◌++◌, Option, None, Some, slice_get, refl, ap, sym, ◌∙◌, subst, inl, inr}
 use Rattle.hume_base.specs.declared.types.Value.{Value}
 use Rattle.hume_model.specs.declared.core_tree.NodeC.{NodeC}
 use Rattle.hume_model.specs.declared.core_tree.NodeC.TheVariants.{Rules, From, To}
@@ -21,8 +21,7 @@ use Rattle.core_runs.specs.Writes.{writes_of_nodes}
 use Rattle.core_runs.specs.inner.Beginning.{AllMayBegin}
 use Rattle.core_runs.specs.inner.Clearing.{Clears}
 use Rattle.core_runs.specs.inner.Gatherings.{AreTakenTyped}
-use Rattle.core_runs.specs.inner.Reading.{HasRead}
-use Rattle.core_runs.specs.inner.Standing.{AreUnblocked, AreWrites, IsAfter, IsCleared, IsPieceAt, PortsGave}
+use Rattle.core_runs.specs.inner.Standing.{IsAfter, IsCleared, IsPieceAt, PortsGave}
 use Rattle.core_runs.specs.inner.Steps.{StandsAfter, StandsFilled}
 use Rattle.core_runs.proofs.Ending.{the_inputs, they_may_come, texts_read}
 use Rattle.core_runs.proofs.RoundSteps.{all_unblocked, piece_after, written_now}

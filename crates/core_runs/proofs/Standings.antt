@@ -1,33 +1,27 @@
 -- Where a run with an engine stands behind the fill of one stream, and how one fails.
-use Rattle.std.proofs.Common.{◌≡◌, ◌⊎◌, ℕ, zero, suc, ◌+◌, ◌<◌, ◌≤◌, List, [], ◌∷◌, ◌++◌, map, length, Option, None, Some, slice_get, Result, Ok, Err, refl, ap, sym, ◌∙◌, subst, inl, inr, arith}
-use Rattle.std.proofs.lemmas.Bool.{cases_lt}
+use Rattle.std.proofs.Common.{◌≡◌, ℕ, List, [], ◌∷◌, ◌++◌, Some, slice_get, Result, sym, ◌∙◌, subst}
 use Rattle.hume_base.specs.declared.types.Value.{Value}
-use Rattle.hume_model.specs.declared.core_tree.NodeC.{NodeC}
-use Rattle.hume_model.specs.declared.core_tree.NodeC.TheVariants.{Rules, From, To}
+use Rattle.hume_model.specs.declared.core_tree.NodeC.TheVariants.{From}
 use Rattle.hume_model.specs.declared.core_tree.StreamC.{StreamC}
 use Rattle.hume_model.specs.declared.core_tree.Core.{Core}
-use Rattle.hume_net.specs.declared.state.State.{State}
-use Rattle.hume_net.specs.Sides.{part_of}
 use Rattle.hume_ports.specs.Port.{PortView}
 use Rattle.hume_ports.specs.Ports.{Untouched}
-use Rattle.hume_ports.specs.Delivery.{Pairs, Progress, ReadFailure, Roomy, bytes_for}
-use Rattle.hume_ports.proofs.Progress.{Progress-on, fill_failure-on}
-use Rattle.hume_ports.proofs.Rooms.{Roomy-on}
-use Rattle.hume_streams.specs.Queues.{IsQueueOf, QueueView}
+use Rattle.hume_ports.specs.Delivery.{Pairs, Progress, bytes_for}
+use Rattle.hume_ports.proofs.Progress.{Progress-on}
+use Rattle.hume_streams.specs.Queues.{IsQueueOf}
 use Rattle.net_engine.specs.declared.engine.Engine.{Engine}
 use Rattle.net_engine.specs.declared.engine.EngineError.{EngineError}
-use Rattle.net_engine.specs.declared.engine.EngineError.TheVariants.{BadValue, Failed, NoMemory}
 use Rattle.net_engine.specs.Engines.{core_of, queue_at, span_of, state_of, HasGivenAll, IsRight}
-use Rattle.net_engine.specs.NodeFills.{FillsNode, HasEnough, EndsFill}
+use Rattle.net_engine.specs.NodeFills.{FillsNode}
 use Rattle.net_engine.specs.Runnable.{IsRunnable}
 use Rattle.net_engine.specs.StreamTypes.{type_at}
-use Rattle.core_runs.specs.Runs.{FailsToRead, ReadsSome}
+use Rattle.core_runs.specs.Runs.{ReadsSome}
 use Rattle.core_runs.specs.Streams.{ArePortsApart}
-use Rattle.core_runs.specs.inner.Standing.{IsAfter, PortsGave}
-use Rattle.core_runs.specs.inner.Beginning.{MayBegin, HasAllRead, StandsBeforeBad}
+use Rattle.core_runs.specs.inner.Standing.{IsAfter}
+use Rattle.core_runs.specs.inner.Beginning.{MayBegin}
 use Rattle.core_runs.specs.inner.Steps.{StandsAfter}
 use Rattle.core_runs.proofs.Fed.{more, with_values}
-use Rattle.core_runs.proofs.Stepping.{begin_kept, gave_more, after_fed, input_among}
+use Rattle.core_runs.proofs.Stepping.{begin_kept, gave_more, after_fed}
 
 -- the engine is right behind what was read for a stream
 pub is_right : (core : Core) (span steps done : ℕ) (olds mids : List PortView) (engine : Engine) (written : Pairs) → StandsAfter core span steps done olds mids engine written
@@ -71,17 +65,6 @@ module _ (span steps done want : ℕ) (olds mids news : List PortView) (old new 
   pub still_begins : (m : ℕ) → (m ≡ n → ⊥) → MayBegin core (queue_at old) want (state_of old) m → MayBegin core (queue_at new) want (state_of new) m
   still_begins m differ begin = subst (λ state. MayBegin core (queue_at new) want state m) (sym fill.state)
       (begin_kept core (queue_at old) (queue_at new) want n m fill.values (state_of old) differ (fill.others m differ) begin)
-
-  -- the fill failed, so that the run does
-  pub failed_at : (taken : Pairs) → Progress olds mids taken [] → ReadFailure stream.port mids news ((stream.port, fill.bytes) ∷ []) [] → (Roomy mids [] → ⊥)
-      → FailsToRead core olds news
-  failed_at taken before failure no_room = record {
-    name = stream.port;
-    is_input = input_among core n stream is;
-    taken = taken ++ (stream.port, fill.bytes) ∷ [];
-    failure = fill_failure-on stream.port olds mids news taken ((stream.port, fill.bytes) ∷ []) [] before failure;
-    no_room = λ roomy. no_room (Roomy-on olds mids taken [] [] before roomy);
-  }
 
   pub reads_more : (taken : Pairs) → Progress olds mids taken [] → Progress mids news ((stream.port, fill.bytes) ∷ []) [] → ReadsSome olds news
   reads_more taken before progress = (taken ++ (stream.port, fill.bytes) ∷ [], Progress-on olds mids news taken ((stream.port, fill.bytes) ∷ []) [] [] before progress)

@@ -1,8 +1,7 @@
 -- A fill of one stream's queue, and where the run stands then.
-use Rattle.std.proofs.Common.{◌≡◌, ◌⊎◌, ℕ, zero, suc, ◌+◌, ◌<◌, ◌≤◌, Bool, true, false, ◌||◌, List, [], ◌∷◌, ◌++◌, map, length, Option, None, Some, slice_get, slice_set, slice_index_or, refl, ap, sym, ◌∙◌, subst, inl, inr, arith, append-nil}
+use Rattle.std.proofs.Common.{◌≡◌, ℕ, zero, suc, ◌≤◌, Bool, true, false, ◌||◌, List, [], ◌∷◌, ◌++◌, length, Option, None, Some, slice_get, slice_set, slice_index_or, refl, ap, sym, ◌∙◌, subst, inl, inr}
 use Rattle.std.specs.List.{filter_map}
 use Rattle.std.specs.Io.KnownBytes.{Consumes, IsAtEnd}
-use Rattle.std.specs.Option.{unwrap_or}
 use Rattle.std.specs.Str.{bytes_eq}
 use Rattle.hume_base.specs.declared.types.Value.{Value}
 use Rattle.hume_model.specs.declared.core_tree.NodeC.{NodeC}
@@ -10,8 +9,7 @@ use Rattle.hume_model.specs.declared.core_tree.NodeC.TheVariants.{Rules, From, T
 use Rattle.hume_model.specs.declared.core_tree.StreamC.{StreamC}
 use Rattle.hume_model.specs.declared.core_tree.Core.{Core}
 use Rattle.hume_net.specs.declared.state.State.{State}
-use Rattle.hume_net.specs.Nodes.{HasParts, IsInputStream}
-use Rattle.hume_net.specs.Sides.{part_of}
+use Rattle.hume_net.specs.Nodes.{HasParts}
 use Rattle.hume_ports.specs.Port.{PortView}
 use Rattle.hume_ports.specs.Ports.{is_among, left_of, names, Untouched}
 use Rattle.hume_ports.specs.Delivery.{Pairs, Progress, bytes_for}
@@ -20,16 +18,14 @@ use Rattle.hume_ports.proofs.Progress.{Drawn-first, Progress-on}
 use Rattle.hume_ports.proofs.Untouched.{of_first-untouched}
 use Rattle.hume_streams.specs.Queues.{QueueView}
 use Rattle.net_engine.specs.StreamTypes.{type_at}
-use Rattle.net_rounds.specs.Pieces.{listed, only}
+use Rattle.net_rounds.specs.Pieces.{listed}
 use Rattle.core_runs.specs.Streams.{ArePortsApart, inputs, input_of, ports_of}
 use Rattle.core_runs.specs.Inputs.{Inputs}
-use Rattle.core_runs.specs.inner.Reading.{HasRead, MayCome, later_of}
+use Rattle.core_runs.specs.inner.Reading.{HasRead, MayCome}
 use Rattle.core_runs.specs.inner.Standing.{IsAfter, IsAtToldEnd, PortsGave}
-use Rattle.core_runs.specs.inner.Beginning.{HasAllRead, MayBegin}
+use Rattle.core_runs.specs.inner.Beginning.{MayBegin}
 use Rattle.hume_text.specs.Names.{HaveNames}
 use Rattle.hume_streams.specs.Queues.{IsQueueOf}
-use Rattle.net_rounds.specs.Rounds.{made}
-use Rattle.core_runs.proofs.Comings.{inputs_are}
 use Rattle.core_runs.proofs.Fed.{before, more, with_values, read_more, piece_fed, same_or_other}
 
 listed_or : (lists : List (List Value)) (n : ℕ) → slice_index_or lists n [] ≡ listed lists n

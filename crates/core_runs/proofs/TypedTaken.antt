@@ -1,17 +1,14 @@
 -- What output streams have taken is of their types.
-use Rattle.std.proofs.Common.{◌≡◌, ℕ, zero, suc, ◌+◌, ◌<◌, ◌==◌, Bool, true, false, ◌&&◌, List, [], ◌∷◌, ◌++◌, length, Option, None, Some, slice_get, refl, ap, sym, ◌∙◌, subst, arith}
+use Rattle.std.proofs.Common.{◌≡◌, ℕ, ◌==◌, true, List, [], ◌∷◌, Some, slice_get, refl, sym, subst, arith}
 use Rattle.std.proofs.lemmas.Bool.{and_parts, eqb-true}
 use Rattle.std.specs.List.{AllZip, list_all}
 use Rattle.hume_base.specs.declared.types.Ty.{Ty}
 use Rattle.hume_base.specs.declared.types.Types.{Types}
 use Rattle.hume_base.specs.declared.types.Value.{Value}
 use Rattle.hume_base.specs.Values.{is_value}
-use Rattle.hume_model.specs.declared.core_tree.NodeC.{NodeC}
-use Rattle.hume_model.specs.declared.core_tree.NodeC.TheVariants.{Rules, From, To}
-use Rattle.hume_model.specs.declared.core_tree.StreamC.{StreamC}
+use Rattle.hume_model.specs.declared.core_tree.NodeC.TheVariants.{To}
 use Rattle.hume_model.specs.declared.core_tree.WireC.{WireC}
 use Rattle.hume_model.specs.declared.core_tree.Core.{Core}
-use Rattle.hume_model.specs.Wiring.{leads_to}
 use Rattle.hume_net.specs.declared.state.State.{State}
 use Rattle.hume_net.specs.Lockstep.{lockstep}
 use Rattle.hume_net.specs.Nodes.{IsInput, IsInputStream, IsOutput, IsOutputStream}
@@ -25,7 +22,7 @@ use Rattle.hume_streams.specs.Good.{HoldsValue}
 use Rattle.hume_streams.specs.Queues.{QueueView}
 use Rattle.net_engine.specs.Runnable.{IsRunnable}
 use Rattle.net_engine.specs.StreamTypes.{type_at}
-use Rattle.net_rounds.specs.Pieces.{IsPieceOf, listed}
+use Rattle.net_rounds.specs.Pieces.{listed}
 use Rattle.net_rounds.proofs.Kept.{piece_typed}
 use Rattle.core_runs.specs.Inputs.{Inputs}
 use Rattle.core_runs.specs.inner.Reading.{MayCome, later_of}

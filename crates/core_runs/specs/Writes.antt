@@ -1,10 +1,10 @@
 -- What a run writes to which ports: round by round the values that output streams have gained, and the bad line that blocks it.
-use Rattle.std.specs.Prelude.{ℕ, ◌+◌, ◌-◌, List, [], ◌∷◌, ◌++◌, length, Option, None, Some, slice_get, codes, decimal}
+use Rattle.std.specs.Prelude.{ℕ, ◌-◌, List, [], ◌∷◌, ◌++◌, length, Option, None, Some, slice_get, codes, decimal}
 use Rattle.std.specs.List.{flat_map, range_with_len}
 use Rattle.std.specs.Option.{unwrap_or}
 use Rattle.hume_base.specs.declared.types.Value.{Value}
 use Rattle.hume_model.specs.declared.core_tree.NodeC.{NodeC}
-use Rattle.hume_model.specs.declared.core_tree.NodeC.TheVariants.{Rules, From, To}
+use Rattle.hume_model.specs.declared.core_tree.NodeC.TheVariants.{From, To}
 use Rattle.hume_model.specs.declared.core_tree.Core.{Core}
 use Rattle.hume_net.specs.Lockstep.{lockstep}
 use Rattle.hume_net.specs.Start.{start}

@@ -59,19 +59,19 @@ inputs_touched steps source core coming olds news untouched =
     (inputs_within source (ports_of (inputs core)) (run_finishes core)) untouched
 
 -- a read of an input stream's port failed
-pub run_unread : (steps : ℕ) (core : Core) (olds news : List PortView) → ((texts : List ℕ → List ℕ) → (coming : Inputs) × AreInputs core texts coming)
-    → FailsToRead core olds news → Untouched (ports_of (inputs core)) olds news → RunsCore steps core olds news Fault
-run_unread steps core olds news some fails untouched =
-    let coming = some (told_texts olds) in
+pub run_unread : (steps : ℕ) (core : Core) (olds news : List PortView) → FailsToRead core SPAN steps olds news → Untouched (ports_of (inputs core)) olds news
+    → RunsCore steps core olds news Fault
+run_unread steps core olds news failing untouched =
+    let fails = failing.fails in
     record {
-      texts = told_texts olds;
-      told = told_by_all olds;
-      coming = coming.0;
-      are = coming.1;
-      ends = λ source. ends_failed (owed_run steps source core coming.0) olds news
+      texts = fails.texts;
+      told = fails.told;
+      coming = fails.inputs;
+      are = fails.are;
+      ends = λ source. ends_failed (owed_run steps source core fails.inputs) olds news
           (inl (record { name = fails.name; is_read = among_later fails.name source (ports_of (inputs core)) fails.is_input; taken = fails.taken; failure = fails.failure }))
-          (λ roomy. fails.no_room (Roomy-nothing olds (owed_run steps source core coming.0).writes roomy))
-          (inputs_touched steps source core coming.0 olds news untouched);
+          (λ roomy. fails.no_room (Roomy-nothing olds (owed_run steps source core fails.inputs).writes roomy))
+          (inputs_touched steps source core fails.inputs olds news untouched);
     }
 
 -- memory was refused while nothing was written

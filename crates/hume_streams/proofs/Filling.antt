@@ -283,7 +283,7 @@ fills_failed types ty want old mid a b c was now h few d unread ended =
       gains = record { kept = h.gains.kept; more = h.gains.more; bound = h.gains.bound; width = h.gains.width; span = h.gains.span };
       goes_on = λ text given rest end q.
           read_on types ty want old mid (with_buffer mid now) a b d.bytes text given rest h (read_step mid was now d.bytes unread d.unread) end (λ e. absurd (never mid.ended e going)) q;
-      ends = (subst (λ n. Rose n c.read_faults) h.quiet d.rose, few, sym (ap (λ (p : PortView). p.room) h.drawn.keeps) ∙ d.room);
+      ends = (subst (λ n. Rose n c.read_faults) h.quiet d.rose, few, sym (ap (λ (p : PortView). p.room) h.drawn.keeps) ∙ d.room, record { begun = d.begun; goes_on = d.ended.1 });
     }
 
 -- each line brings a fill nearer to its end

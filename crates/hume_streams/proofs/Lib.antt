@@ -1,5 +1,6 @@
 pub mod RowCuts
 pub mod Newlines
+pub mod WholeLines
 pub mod NextLines
 pub mod Drawing
 pub mod Judging

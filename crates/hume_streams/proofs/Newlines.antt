@@ -1,7 +1,7 @@
 -- The lines that bytes begin with.
 use Rattle.std.proofs.Common.{◌≡◌, ℕ, zero, suc, ◌+◌, ◌<◌, eqb, cond, false, List, [], ◌∷◌, ◌++◌, length, get_or, take, drop, refl, ap, sym, ◌∙◌, subst, arith}
 use Rattle.std.proofs.lemmas.List.{take_more}
-use Rattle.hume_streams.specs.Lines.{in_front, lines_of}
+use Rattle.hume_streams.specs.Lines.{in_front, lines_of, in_front_of_whole, whole_lines}
 use Rattle.hume_streams.specs.inner.Newlines.{HasNoNewline}
 
 -- a line up to its newline
@@ -12,7 +12,7 @@ lines_of-newline (byte ∷ line) rest h =
     ∙ ap (in_front byte) (lines_of-newline line rest h.1)
 
 -- a byte that is no newline belongs to the first line
-lines_of-front : (byte : ℕ) (bytes : List ℕ) → eqb byte 10 ≡ false → lines_of (byte ∷ bytes) ≡ in_front byte (lines_of bytes)
+pub lines_of-front : (byte : ℕ) (bytes : List ℕ) → eqb byte 10 ≡ false → lines_of (byte ∷ bytes) ≡ in_front byte (lines_of bytes)
 lines_of-front byte bytes e = ap (λ b. cond b ([] ∷ lines_of bytes) (in_front byte (lines_of bytes))) e
 
 in_front-some : (byte : ℕ) (lines : List (List ℕ)) → (more : List ℕ) × (others : List (List ℕ)) × (in_front byte lines ≡ (byte ∷ more) ∷ others)
@@ -41,7 +41,7 @@ pub lines_of-all : (line : List ℕ) → HasNoNewline line → 0 < length line �
 lines_of-all [] h some = absurd (omega (arith, some))
 lines_of-all (byte ∷ line) h some = lines_of-last byte line h
 
-no_newline-push : (line : List ℕ) (byte : ℕ) → HasNoNewline line → eqb byte 10 ≡ false → HasNoNewline (line ++ (byte ∷ []))
+pub no_newline-push : (line : List ℕ) (byte : ℕ) → HasNoNewline line → eqb byte 10 ≡ false → HasNoNewline (line ++ (byte ∷ []))
 no_newline-push [] byte h e = (e, tt)
 no_newline-push (first ∷ line) byte h e = (h.0, no_newline-push line byte h.1 e)
 
@@ -60,3 +60,10 @@ pub split_at_newline : (bytes : List ℕ) (place : ℕ) → place < length bytes
 split_at_newline bytes place h e =
     let s : suc place ≡ place + 1 = omega arith in
     split_at bytes place h e ∙ ap (λ n. take place bytes ++ (10 ∷ drop n bytes)) s
+
+-- no line is whole without a newline
+pub whole_lines-none : (bytes : List ℕ) → HasNoNewline bytes → whole_lines bytes ≡ []
+whole_lines-none [] h = refl
+whole_lines-none (byte ∷ bytes) h =
+    ap (λ b. cond b (byte ∷ whole_lines bytes) (in_front_of_whole byte (whole_lines bytes))) h.0
+    ∙ ap (in_front_of_whole byte) (whole_lines-none bytes h.1)

@@ -9,6 +9,7 @@ use Rattle.hume_base.specs.Flat.{flat}
 use Rattle.hume_ports.specs.Port.{PortView, Rose, last_count}
 use Rattle.hume_streams.specs.declared.queue.FillError.{FillError}
 use Rattle.hume_streams.specs.declared.queue.FillError.TheVariants.{BadValue, Failed}
+use Rattle.hume_streams.specs.Lines.{whole_lines}
 use Rattle.hume_streams.specs.Good.{IsGoodUntil}
 use Rattle.hume_streams.specs.Queues.{QueueView, IsQueueOf}
 
@@ -45,6 +46,11 @@ StandsBefore types ty queue line =
     → (number : ℕ) × (line ≡ min number last_count)
     × (held : List Value) × (queue.values ≡ map (flat types ty) held) × IsGoodUntil types ty text (given ++ held) (Some number)
 
+-- no whole line is unread, and more may come
+pub record HasReadWholeLines (queue : QueueView) : Type 0 where
+  pub begun : whole_lines queue.unread ≡ []
+  pub goes_on : queue.ended ≡ false
+
 -- Why a fill ended: the queue holds what is wanted, or all there is; or the next line is bad; or a read failed.
 abbrev pub EndsFill : Types → Ty → ℕ → QueueView → PortView → PortView → Result (Unit {0}) FillError → Type 0
 EndsFill types ty want queue before after (Ok _) =
@@ -52,7 +58,7 @@ EndsFill types ty want queue before after (Ok _) =
 EndsFill types ty want queue before after (Err (BadValue line)) =
     (after.read_faults ≡ before.read_faults) × (length queue.values < want) × StandsBefore types ty queue line
 EndsFill types ty want queue before after (Err Failed) =
-    Rose before.read_faults after.read_faults × (length queue.values < want) × (before.room ≡ None)
+    Rose before.read_faults after.read_faults × (length queue.values < want) × (before.room ≡ None) × HasReadWholeLines queue
 
 -- A fill read some bytes of the port. For every text for which the queue was right, with these bytes next, it is right again
 -- behind them.

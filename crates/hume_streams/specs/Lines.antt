@@ -20,3 +20,13 @@ without_return line = if slice_index line (length line - 1) == 13 then take (len
 -- nothing but spaces and tabs
 abbrev pub is_empty : List ℕ → Bool
 is_empty line = list_all is_blank (without_return line)
+
+-- one more byte in front of those of whole lines, if there is one
+abbrev pub in_front_of_whole : ℕ → List ℕ → List ℕ
+in_front_of_whole byte [] = []
+in_front_of_whole byte (first ∷ bytes) = byte ∷ first ∷ bytes
+
+-- The bytes of the lines that have their newline: all up to the last newline, with it.
+abbrev pub whole_lines : List ℕ → List ℕ
+whole_lines [] = []
+whole_lines (byte ∷ bytes) = if byte == 10 then byte ∷ whole_lines bytes else in_front_of_whole byte (whole_lines bytes)

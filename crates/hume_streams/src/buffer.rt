@@ -36,6 +36,7 @@ pub struct LineBuffer {
 
 impl LineBuffer {
     ghost use Rattle.hume_streams.specs.Contents.{unread_in};
+    ghost use Rattle.hume_streams.specs.Lines.{whole_lines};
     ghost use Rattle.hume_streams.specs.inner.Buffers.{IsNext, Draws, FailsAfter};
 
     pub fn make(alloc: Global) -> Result<LineBuffer, AllocError>
@@ -83,6 +84,7 @@ impl LineBuffer {
     fn read_more(&mut self, port: &mut Box<dyn Port>) -> Result<(), Failed>
         requires short { length (unread_in self.old) ≤ MAX_LINE_BYTES }
         requires going { self.old.ended ≡ false }
+        requires begun { whole_lines (unread_in self.old) ≡ [] }
         ensures drawn { OnOk result (Draws self.old self.new (view port.old) (view port.new)) }
         ensures more { OnOk result (self.new.ended ≡ false → length (unread_in self.old) < length (unread_in self.new)) }
         ensures failed { OnErr result (FailsAfter self.old self.new (view port.old) (view port.new)) }

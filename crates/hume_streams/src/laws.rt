@@ -1,5 +1,5 @@
 //! Laws of the definitions, as contracts of functions that do nothing.
-ghost use Rattle.std.specs.Prelude.{◌≡◌, ◌≤◌, ◌+◌, ◌*◌, ℕ, List, length, ◌++◌, map, Option, Some, true, Result};
+ghost use Rattle.std.specs.Prelude.{◌≡◌, ◌≤◌, ◌+◌, ◌*◌, ℕ, List, length, ◌++◌, map, Option, None, Some, true, Result};
 ghost use Rattle.hume_base.specs.declared.limits.TheConstants.{MAX_EMPTY_LINES};
 ghost use Rattle.hume_base.specs.declared.types.Ty.{Ty};
 ghost use Rattle.hume_base.specs.declared.types.Types.{Types};
@@ -10,9 +10,10 @@ ghost use Rattle.hume_text.specs.Bounds.{IsPrintable};
 ghost use Rattle.hume_text.specs.Names.{HaveNames};
 ghost use Rattle.hume_ports.specs.Port.{PortView};
 ghost use Rattle.hume_streams.specs.declared.queue.FillError.{FillError};
+ghost use Rattle.hume_streams.specs.Lines.{whole_lines};
 ghost use Rattle.hume_streams.specs.Good.{IsGoodUntil};
 ghost use Rattle.hume_streams.specs.Queues.{QueueView, IsQueueOf};
-ghost use Rattle.hume_streams.specs.Fills.{Fills};
+ghost use Rattle.hume_streams.specs.Fills.{Fills, HasReadWholeLines};
 
 /// Each text has good values and a first bad line, or none.
 pub fn each_text_has_good_values()
@@ -45,4 +46,11 @@ pub fn fills_follow_ports_that_tell()
         (text left rest : List ℕ) (given : List Value)
         → Fills types ty want old new before after result → before.left ≡ Some left → after.left ≡ Some rest
         → IsQueueOf types ty old text given left → IsQueueOf types ty new text given rest }
+{}
+
+/// What a queue gave and holds behind a read that failed are the good values of the whole lines that were taken from its port.
+pub fn queues_hold_whole_lines()
+    ensures { (types : Types) (ty : Ty) (queue : QueueView) (taken : List ℕ) (given : List Value) → HasReadWholeLines queue
+        → ((rest : List ℕ) → IsQueueOf types ty queue (taken ++ rest) given rest)
+        → (held : List Value) × (queue.values ≡ map (flat types ty) held) × IsGoodUntil types ty (whole_lines taken) (given ++ held) None }
 {}

@@ -6,7 +6,8 @@
 //! Neither takes memory once it is made.
 //! Laws: each text has its good values, once (`each_text_has_good_values`, `good_values_are_unique`), and few lines stand before a
 //! bad one (`bad_lines_have_small_numbers`); a queue holds the next ones
-//! (`queues_hold_the_next_values`), and stays right for a port that tells what it has left (`fills_follow_ports_that_tell`).
+//! (`queues_hold_the_next_values`), stays right for a port that tells what it has left (`fills_follow_ports_that_tell`), and holds
+//! the values of the whole lines that were taken, where a read has failed (`queues_hold_whole_lines`).
 //! It knows ports, lines and the words of values; it doesn't know cores, wires or streams.
 #![tactic(auto)]
 
@@ -20,7 +21,7 @@ mod rows;
 
 pub use laws::{
     bad_lines_have_small_numbers, each_text_has_good_values, fills_follow_ports_that_tell,
-    good_values_are_unique, queues_hold_the_next_values,
+    good_values_are_unique, queues_hold_the_next_values, queues_hold_whole_lines,
 };
 pub use log::OutLog;
 pub use queue::{FillError, InQueue};

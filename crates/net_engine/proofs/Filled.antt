@@ -15,9 +15,10 @@ use Rattle.hume_ports.specs.Port.{PortView, last_count}
 use Rattle.hume_streams.specs.declared.queue.InQueue.{InQueue}
 use Rattle.hume_streams.specs.declared.queue.FillError.{FillError}
 use Rattle.hume_streams.specs.declared.queue.FillError.TheVariants as fill
+use Rattle.hume_streams.specs.Lines.{whole_lines}
 use Rattle.hume_streams.specs.Good.{IsGoodUntil}
 use Rattle.hume_streams.specs.Queues.{QueueView, IsQueueOf}
-use Rattle.hume_streams.specs.Fills.{Fills, HasAll, EndsFill as EndsQueue, StandsBefore as QueueStands}
+use Rattle.hume_streams.specs.Fills.{Fills, HasAll, HasReadWholeLines, EndsFill as EndsQueue, StandsBefore as QueueStands}
 use Rattle.stream_ports.specs.FillsOfPorts.{FillsFrom, ReadsBytes as QueueReads}
 use Rattle.stream_ports.proofs.FillsInLists.{of_first-port}
 use Rattle.net_engine.specs.declared.engine.Engine.{Engine}
@@ -26,7 +27,7 @@ use Rattle.net_engine.specs.declared.engine.EngineError.TheVariants.{BadValue, F
 use Rattle.net_engine.specs.FoundQueues.{view_of_found, IsRightBehind}
 use Rattle.net_engine.specs.Engines.{core_of, queue_at, state_of, HasGivenAll, IsRight}
 use Rattle.net_engine.specs.StreamTypes.{type_at}
-use Rattle.net_engine.specs.NodeFills.{ReadsBytes, fed_at, HasEnough, EndsFill, HasReadAll, FillsNode}
+use Rattle.net_engine.specs.NodeFills.{ReadsBytes, fed_at, HasEnough, EndsFill, HasReadAll, HasReadTooFew, FillsNode}
 use Rattle.net_engine.specs.inner.Givings.{Gives, outcome}
 use Rattle.net_engine.proofs.Giving.{IsForSome}
 use Rattle.net_engine.proofs.Endings.{SameBad, good_carries}
@@ -68,7 +69,7 @@ fed_length [] node values within = absurd (omega (arith, within))
 fed_length (list ∷ lists) zero values within = length-append list values
 fed_length (list ∷ lists) (suc node) values within = fed_length lists node values (omega (arith, within))
 
-coming_more : (before after : State) (node : ℕ) (values : List Value) → node < length before.coming → after ≡ fed_at node values before
+pub coming_more : (before after : State) (node : ℕ) (values : List Value) → node < length before.coming → after ≡ fed_at node values before
     → length (part_of after node).coming ≡ length (part_of before node).coming + length values
 coming_more before after node values within e = ap (λ (s : State). length (part_of s node).coming) e ∙ fed_length before.coming node values within
 
@@ -135,11 +136,23 @@ has_enough : (core : Core) (want : ℕ) (new : Engine) (node : ℕ) (mid later :
 has_enough core want new node mid later before g none many =
     omega (arith, coming_more before (state_of new) node g.gives.values g.within g.gives.state, given_count core.types (type_at core node) node mid later before (state_of new) g.gives none, many)
 
+read_too_few : (core : Core) (want : ℕ) (new : Engine) (node : ℕ) (mid later : QueueView) (before : State) → queue_at new node ≡ later → Gave core node mid later before (state_of new)
+    → length mid.values < want - length (part_of before node).coming → HasReadWholeLines mid → HasReadTooFew want new node
+read_too_few core want new node mid later before q g few whole =
+    let is = q ∙ g.gives.queue in
+    let left : length (queue_at new node).values ≡ length mid.values - length g.gives.values = ap (λ (v : QueueView). length v.values) is ∙ length-drop (length g.gives.values) mid.values in record {
+      few = omega (arith, coming_more before (state_of new) node g.gives.values g.within g.gives.state, left, g.gives.within, few);
+      whole = record {
+        begun = ap (λ (v : QueueView). whole_lines v.unread) is ∙ whole.begun;
+        goes_on = ap (λ (v : QueueView). v.ended) is ∙ whole.goes_on;
+      };
+    }
+
 pub ends_fill : {E : Type 0} (core : Core) (want : ℕ) (new : Engine) (node : ℕ) (mid later : QueueView) (before : State) (port port' : PortView)
     (filled : Result (Unit {0}) FillError) (gave : Result (Unit {0}) E) → core_of new ≡ core → queue_at new node ≡ later → Gave core node mid later before (state_of new)
     → OnOk gave (later.values ≡ []) → EndsQueue core.types (type_at core node) (want - length (part_of before node).coming) mid port port' filled
     → EndsFill want new node (outcome filled gave)
-ends_fill core want new node mid later before port port' (Err fill.Failed) gave c q g none ends = not_enough core want new node mid later before g ends.1
+ends_fill core want new node mid later before port port' (Err fill.Failed) gave c q g none ends = read_too_few core want new node mid later before q g ends.1 ends.3
 ends_fill core want new node mid later before port port' (Err (fill.BadValue line)) (Err _) c q g none ends = tt
 ends_fill core want new node mid later before port port' (Ok _) (Err _) c q g none ends = tt
 ends_fill core want new node mid later before port port' (Err (fill.BadValue line)) (Ok _) c q g none ends = (

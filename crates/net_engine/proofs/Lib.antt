@@ -3,4 +3,4 @@ pub mod Wires
 mod FirstQueues
 mod Giving
 mod Endings
-mod Filled
+pub mod Filled

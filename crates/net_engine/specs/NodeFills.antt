@@ -1,5 +1,5 @@
 -- What a fill of an input stream does: to its queue, to the net, and to all ports.
-use Rattle.std.specs.Prelude.{◌≡◌, ◌⊎◌, ℕ, ◌≤◌, min, true, false, ⊤, List, [], ◌∷◌, ◌++◌, length, Some, None, Result, Ok, Err, slice_set, slice_index_or}
+use Rattle.std.specs.Prelude.{◌≡◌, ◌⊎◌, ℕ, ◌+◌, ◌<◌, ◌≤◌, min, true, false, ⊤, List, [], ◌∷◌, ◌++◌, length, Some, None, Result, Ok, Err, slice_set, slice_index_or}
 use Rattle.std.specs.Io.KnownBytes.{IsAtEnd}
 use Rattle.hume_base.specs.declared.types.Value.{Value}
 use Rattle.hume_net.specs.declared.state.State.{State}
@@ -9,6 +9,7 @@ use Rattle.hume_ports.specs.Ports.{left_of}
 use Rattle.hume_ports.specs.Delivery.{Progress, ReadFailure}
 use Rattle.hume_streams.specs.Good.{IsGoodUntil}
 use Rattle.hume_streams.specs.Queues.{IsQueueOf}
+use Rattle.hume_streams.specs.Fills.{HasReadWholeLines}
 use Rattle.net_engine.specs.declared.engine.Engine.{Engine}
 use Rattle.net_engine.specs.declared.engine.EngineError.{EngineError}
 use Rattle.net_engine.specs.declared.engine.EngineError.TheVariants.{BadValue, Failed, NoMemory}
@@ -43,11 +44,16 @@ StandsBefore engine node line = (text : List ℕ) (given : List Value) (rest : L
     → (number : ℕ) × (line ≡ min number last_count)
     × IsGoodUntil (core_of engine).types (type_at (core_of engine) node) text given (Some number)
 
+-- Too few values have come, with those that the queue still holds, and no whole line is unread.
+pub record HasReadTooFew (want : ℕ) (engine : Engine) (node : ℕ) : Type 0 where
+  pub few : length (part_of (state_of engine) node).coming + length (queue_at engine node).values < want
+  pub whole : HasReadWholeLines (queue_at engine node)
+
 -- Why a fill ended.
 abbrev pub EndsFill : ℕ → Engine → ℕ → Result (Unit {0}) EngineError → Type 0
 EndsFill want engine node (Ok _) = HasEnough want engine node ⊎ HasReadAll engine node
 EndsFill want engine node (Err (BadValue line)) = (HasEnough want engine node → ⊥) × StandsBefore engine node line
-EndsFill want engine node (Err Failed) = HasEnough want engine node → ⊥
+EndsFill want engine node (Err Failed) = HasReadTooFew want engine node
 EndsFill want engine node (Err NoMemory) = ⊤
 
 -- A fill read some bytes of the first port with that name, and gave the values of their lines to the net. For every text for

@@ -1,5 +1,5 @@
 -- Where a run stands after some of its rounds.
-use Rattle.std.specs.Prelude.{◌≡◌, ℕ, ◌≤◌, suc, true, List, [], Option, None, Some, IfSome, slice_get}
+use Rattle.std.specs.Prelude.{◌≡◌, ℕ, ◌≤◌, true, List, [], Option, None, Some, IfSome, slice_get}
 use Rattle.std.specs.Io.KnownBytes.{IsAtEnd}
 use Rattle.hume_base.specs.declared.types.Value.{Value}
 use Rattle.hume_model.specs.declared.core_tree.NodeC.{NodeC}

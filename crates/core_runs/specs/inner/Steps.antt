@@ -1,5 +1,5 @@
 -- Where a run with an engine stands, and how its fills and rounds end.
-use Rattle.std.specs.Prelude.{◌≡◌, ℕ, ◌<◌, min, suc, List, [], length, Option, None, Some, slice_get, Result, Ok, Err}
+use Rattle.std.specs.Prelude.{◌≡◌, ℕ, ◌<◌, min, suc, List, length, Option, None, Some, slice_get, Result, Ok, Err}
 use Rattle.hume_base.specs.declared.types.Value.{Value}
 use Rattle.hume_model.specs.declared.core_tree.NodeC.TheVariants.{From}
 use Rattle.hume_model.specs.declared.core_tree.StreamC.{StreamC}
@@ -9,11 +9,11 @@ use Rattle.hume_ports.specs.Port.{PortView, last_count}
 use Rattle.hume_ports.specs.Delivery.{Pairs}
 use Rattle.net_engine.specs.declared.engine.Engine.{Engine}
 use Rattle.net_engine.specs.Engines.{core_of, queue_at, span_of, state_of}
-use Rattle.net_rounds.specs.Rounds.{IsRound, length_of, rounds_of}
+use Rattle.net_rounds.specs.Rounds.{IsRound, length_of, made, rounds_of}
 use Rattle.core_runs.specs.declared.bad_line.BadLine.{BadLine}
 use Rattle.core_runs.specs.declared.run.RunError.{RunError}
 use Rattle.core_runs.specs.declared.run.RunError.TheVariants.{Failed, NoMemory}
-use Rattle.core_runs.specs.Runs.{FailsToRead, ReadsSome}
+use Rattle.core_runs.specs.Runs.{FailsBefore, FailsToRead, ReadsSome}
 use Rattle.core_runs.specs.inner.Beginning.{AllMayBegin, MayBegin, StandsBeforeBad}
 use Rattle.core_runs.specs.inner.Standing.{IsAfter, PortsGave}
 
@@ -58,7 +58,7 @@ EndsNode core span steps done want olds news old new n written (Ok None) =
     × ((stream : StreamC) → slice_get core.nodes n ≡ Some (From stream) → MayBegin core (queue_at new) want (state_of new) n)
 EndsNode core span steps done want olds news old new n written (Ok (Some line)) =
     FilledAt core span steps done want olds news old new n written × LacksAt core want new n line
-EndsNode core span steps done want olds news old new n written (Err Failed) = FailsToRead core olds news
+EndsNode core span steps done want olds news old new n written (Err Failed) = FailsBefore core (made span steps done) want olds news
 EndsNode core span steps done want olds news old new n written (Err NoMemory) = ReadsSome olds news
 
 -- no round may begin, as a stream lacks values
@@ -69,14 +69,14 @@ pub record StandsBlocked (core : Core) (span steps done want : ℕ) (olds news :
 abbrev pub EndsFills : Core → ℕ → ℕ → ℕ → ℕ → List PortView → List PortView → Engine → Pairs → Result (Option BadLine) RunError → Type 0
 EndsFills core span steps done want olds news engine written (Ok None) = StandsFilled core span steps done want olds news engine written
 EndsFills core span steps done want olds news engine written (Ok (Some bad)) = StandsBlocked core span steps done want olds news engine written bad
-EndsFills core span steps done want olds news engine written (Err Failed) = FailsToRead core olds news
+EndsFills core span steps done want olds news engine written (Err Failed) = FailsBefore core (made span steps done) want olds news
 EndsFills core span steps done want olds news engine written (Err NoMemory) = ReadsSome olds news
 
 abbrev pub EndsRound : Core → ℕ → ℕ → ℕ → List PortView → List PortView → Engine → Pairs → Result (Option BadLine) RunError → Type 0
 EndsRound core span steps done olds news engine written (Ok None) = StandsAfter core span steps (suc done) olds news engine written
 EndsRound core span steps done olds news engine written (Ok (Some bad)) =
     StandsBlocked core span steps done (length_of span steps (suc done)) olds news engine written bad
-EndsRound core span steps done olds news engine written (Err Failed) = FailsToRead core olds news
+EndsRound core span steps done olds news engine written (Err Failed) = FailsToRead core span steps olds news
 EndsRound core span steps done olds news engine written (Err NoMemory) = ReadsSome olds news
 
 -- The run stands before a round that a stream blocks.
@@ -88,5 +88,5 @@ pub record HaltsBefore (core : Core) (span steps : ℕ) (olds news : List PortVi
 abbrev pub EndsRounds : Core → ℕ → ℕ → List PortView → List PortView → Engine → Pairs → Result (Option BadLine) RunError → Type 0
 EndsRounds core span steps olds news engine written (Ok None) = StandsAfter core span steps (rounds_of span steps) olds news engine written
 EndsRounds core span steps olds news engine written (Ok (Some bad)) = HaltsBefore core span steps olds news engine written bad
-EndsRounds core span steps olds news engine written (Err Failed) = FailsToRead core olds news
+EndsRounds core span steps olds news engine written (Err Failed) = FailsToRead core span steps olds news
 EndsRounds core span steps olds news engine written (Err NoMemory) = ReadsSome olds news

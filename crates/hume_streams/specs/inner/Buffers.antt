@@ -6,7 +6,7 @@ use Rattle.hume_streams.specs.declared.buffer.Next.TheVariants.{Line, TooLong, E
 use Rattle.hume_streams.specs.declared.buffer.LineBuffer.{LineBuffer}
 use Rattle.hume_streams.specs.Contents.{unread_in}
 use Rattle.hume_streams.specs.Fills.{Drawn}
-use Rattle.hume_streams.specs.Lines.{lines_of}
+use Rattle.hume_streams.specs.Lines.{lines_of, whole_lines}
 use Rattle.hume_ports.specs.Port.{PortView, Rose}
 use Rattle.std.specs.Io.KnownBytes.{IsAtEnd}
 
@@ -38,3 +38,5 @@ pub record FailsAfter (old new : LineBuffer) (before after : PortView) : Type 0 
   pub rose : Rose before.read_faults after.read_faults
   pub room : before.room ≡ None
   pub ended : (old.ended ≡ false) × (new.ended ≡ false)
+  -- no whole line is unread
+  pub begun : whole_lines (unread_in new) ≡ []

@@ -1,7 +1,7 @@
-use Rattle.std.proofs.Common.{◌≡◌, ◌≤◌, ◌∙◌, ap, sym, subst, arith, ℕ, length, refl}
+use Rattle.std.proofs.Common.{◌≡◌, ◌∙◌, ap, sym, subst, arith, length, refl}
 use Rattle.hume_model.specs.declared.core_tree.Core.{Core}
 use Rattle.hume_net.specs.Nodes.{IsOutputStream}
-use Rattle.net_engine.specs.Engines.{core_of, queue_at, state_of}
+use Rattle.net_engine.specs.Engines.{core_of, state_of}
 use Rattle.core_runs.proofs.Clearings.{cleared_next, clears_other, clears_all}
 use Rattle.core_runs.proofs.clearing.clear_outputs.Goals.{then-is_output, else-is_output}
 use Rattle.core_runs.proofs.clearing.clear_outputs.Goals as goal

@@ -1,6 +1,4 @@
-use Rattle.std.proofs.Common.{◌≡◌, ◌∙◌, ap, sym, subst, refl, arith, ℕ, List, [], ◌∷◌, Ok, Err, Some, None, slice_get}
-use Rattle.hume_model.specs.declared.core_tree.NodeC.TheVariants.{From}
-use Rattle.hume_model.specs.declared.core_tree.Core.{Core}
+use Rattle.std.proofs.Common.{◌∙◌, ap, arith, Ok}
 use Rattle.core_runs.proofs.FillingInputs.{filling_none, filling_next, filling_blocked, filling_ended, filling_over, ends_as, some_still, touched_on, place_of_stream}
 use Rattle.core_runs.proofs.filling.fill_inputs.Goals as goal
 

@@ -1,4 +1,4 @@
-use Rattle.std.proofs.Common.{◌≡◌, ◌∙◌, ap, sym, subst, refl, ℕ, [], ◌∷◌, Err}
+use Rattle.std.proofs.Common.{◌∙◌, ap, sym, subst, refl, [], ◌∷◌, Err}
 use Rattle.hume_net.specs.Nodes.{IsInputStream}
 use Rattle.hume_ports.specs.Ports.{Untouched}
 use Rattle.hume_ports.proofs.Untouched.{Untouched-among, Untouched-start}

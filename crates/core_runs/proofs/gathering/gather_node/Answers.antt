@@ -1,8 +1,8 @@
-use Rattle.std.proofs.Common.{◌≡◌, ◌∙◌, ap, sym, subst, refl, inr, ℕ}
+use Rattle.std.proofs.Common.{◌∙◌, sym, subst, refl, inr}
 use Rattle.std.proofs.lemmas.Result.{on_ok_weaker}
 use Rattle.hume_model.proofs.WellFormedCores.{readable_sizes}
 use Rattle.hume_net.specs.Nodes.{IsOutputStream}
-use Rattle.net_engine.specs.Engines.{core_of, state_of}
+use Rattle.net_engine.specs.Engines.{core_of}
 use Rattle.net_engine.proofs.Wires.{printable_type, small_type}
 use Rattle.core_runs.proofs.GatheredNodes.{output_there, gathered_output, gathered_none}
 use Rattle.core_runs.proofs.gathering.gather_node.Goals as goal

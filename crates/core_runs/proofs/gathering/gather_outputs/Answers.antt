@@ -1,4 +1,4 @@
-use Rattle.std.proofs.Common.{◌≡◌, ◌∙◌, ap, sym, subst, refl, arith, ℕ}
+use Rattle.std.proofs.Common.{arith}
 use Rattle.std.proofs.lemmas.Option.{slice_get-get_or}
 use Rattle.core_runs.proofs.GatheredNodes.{nodes_more, no_nodes}
 use Rattle.core_runs.proofs.gathering.gather_outputs.Goals as goal

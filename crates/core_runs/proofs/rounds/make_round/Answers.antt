@@ -1,4 +1,4 @@
-use Rattle.std.proofs.Common.{◌≡◌, ◌∙◌, ap, sym, subst, refl, arith, ℕ, List, Ok, Err, Some, None}
+use Rattle.std.proofs.Common.{◌∙◌, ap, sym, subst, Ok}
 use Rattle.hume_ports.specs.Ports.{names}
 use Rattle.gathered_writes.specs.Gathered.{pairs_of, writes_of}
 use Rattle.net_engine.specs.Engines.{core_of}
@@ -14,7 +14,7 @@ returns-in-Ok-Some-clause-ends g c span steps done olds same is count stands =
 
 pub returns-in-Err-clause-ends : goal.returns-in-Err-clause-ends
 returns-in-Err-clause-ends g c span steps done olds same is count stands =
-    round_error (core_of c.args.engine.now) span steps done olds _ c.fill_inputs.new.engine (pairs_of (names olds) (writes_of c.args.writes.now)) c.args.supersteps c.in-Err.error
+    round_error (core_of c.args.engine.now) span steps done olds _ c.fill_inputs.new.engine (pairs_of (names olds) (writes_of c.args.writes.now)) c.args.supersteps c.in-Err.error is count
     (c.in-Err.ensures.ends span steps done olds _ stands)
 
 pub run_round-requires-clause-stands : goal.run_round-requires-clause-stands

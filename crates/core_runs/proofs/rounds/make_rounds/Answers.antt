@@ -1,4 +1,4 @@
-use Rattle.std.proofs.Common.{◌≡◌, ◌<◌, ◌∙◌, ap, sym, subst, refl, arith, ℕ, List, Ok, Err, Some, None}
+use Rattle.std.proofs.Common.{◌<◌, ◌∙◌, ap, arith, Ok}
 use Rattle.gathered_writes.specs.Gathered.{writes_of}
 use Rattle.net_rounds.specs.Rounds.{rounds_of}
 use Rattle.core_runs.proofs.RoundEnds.{rounding_none, rounding_next, rounds_halted, rounds_ended, touched_too, stands_own, next_round, next_length, round_as}

@@ -1,6 +1,5 @@
-use Rattle.std.proofs.Common.{◌≡◌, ◌∙◌, ap, sym, subst, refl, arith, ℕ, List}
+use Rattle.std.proofs.Common.{◌∙◌, sym, subst}
 use Rattle.hume_ports.specs.Ports.{names}
-use Rattle.net_engine.specs.Engines.{core_of}
 use Rattle.core_runs.specs.Streams.{ArePlacesOf}
 use Rattle.core_runs.proofs.Runnings.{round_typed, round_stands}
 use Rattle.core_runs.proofs.rounds.run_round.Goals as goal

@@ -1,4 +1,4 @@
-use Rattle.std.proofs.Common.{◌≡◌, ◌∙◌, ap, sym, subst, refl, arith, ℕ, List, [], Ok, Err, Some, None}
+use Rattle.std.proofs.Common.{◌∙◌, ap, [], Ok}
 use Rattle.hume_ports.proofs.Progress.{Progress-start}
 use Rattle.hume_ports.proofs.Untouched.{Untouched-start}
 use Rattle.gathered_writes.specs.Gathered.{writes_of}

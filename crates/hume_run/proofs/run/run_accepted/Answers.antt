@@ -32,7 +32,7 @@ returns-in-Ok-run_core g c =
     c.in-Ok-run_core.ensures.places c.in-Ok.finishes c.run_report.ensures c.in-Ok.ensures source))
 
 pub returns-in-Err-Failed : goal.returns-in-Err-Failed
-returns-in-Err-Failed g c = run_unread c.args.steps c.args.core.now _ _ (c.each_run_has_inputs.ensures c.args.core.now c.requires.runnable)
+returns-in-Err-Failed g c = run_unread c.args.steps c.args.core.now _ _
     (run_as _ _ _ _ _ _ (c.in-Err-Failed.is ∙ ap Err c.in-Err-Failed.field-0-is) c.run_core.ensures.ends) c.run_core.ensures.untouched
 
 pub returns : goal.returns

@@ -6,6 +6,7 @@ use Rattle.hume_streams.specs.inner.Newlines.{HasNoNewline}
 use Rattle.hume_streams.specs.inner.Buffers.{IsNext}
 use Rattle.hume_streams.specs.declared.buffer.Next.TheVariants.{Line}
 use Rattle.hume_streams.proofs.Drawing.{draws_none, draws_on}
+use Rattle.hume_streams.proofs.Newlines.{whole_lines-none}
 use Rattle.hume_streams.proofs.NextLines.{next_at_newline, next_too_long, next_last}
 use Rattle.hume_streams.proofs.buffer.LineBuffer.next_line.Goals as goal
 
@@ -44,3 +45,7 @@ pieces-preserved g c =
       within = omega (arith, same, ap length drawn.unread, length-append old drawn.bytes);
       scanned = subst HasNoNewline (sym (ap (λ n. take n (unread_in c.read_more.new.self)) same ∙ more)) none;
     }
+
+pub read_more-requires-clause-begun : goal.read_more-requires-clause-begun
+read_more-requires-clause-begun g c =
+    whole_lines-none (unread_in c.pieces.self) (subst HasNoNewline c.unread.ensures (rw c.in_default.is at c.newline_from.ensures))
