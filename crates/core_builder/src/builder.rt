@@ -64,7 +64,7 @@ impl Builder {
     }
 
     /// An exception that carries nothing.
-    pub fn raise(&mut self, exn: u8) -> Result<(), AllocError>
+    pub fn raise(&mut self, exn: u32) -> Result<(), AllocError>
         ensures { OnOk result (self.new ≡ (raise_core exn ∷ self.old.0, self.old.1, self.old.2)) }
     {
         self.cores.push((Expr::Raise(exn, None), false))?;
@@ -72,7 +72,7 @@ impl Builder {
     }
 
     /// An exception that carries the last core.
-    pub fn raise_with(&mut self, alloc: Global, exn: u8) -> Result<(), AllocError>
+    pub fn raise_with(&mut self, alloc: Global, exn: u32) -> Result<(), AllocError>
         ensures { OnOk result (self.new ≡ (raise_with_core exn (top_core self.old.0) ∷ drop 1 self.old.0, self.old.1, self.old.2)) }
     {
         forms::raise_with(alloc, &mut self.cores, exn)

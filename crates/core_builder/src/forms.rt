@@ -11,7 +11,7 @@ use std::alloc::{AllocError, Global};
 
 type Cores = Stack<(Expr, bool)>;
 
-pub(crate) fn raise_with(alloc: Global, cores: &mut Cores, exn: u8) -> Result<(), AllocError>
+pub(crate) fn raise_with(alloc: Global, cores: &mut Cores, exn: u32) -> Result<(), AllocError>
     ensures { OnOk result (cores.new ≡ raise_with_core exn (top_core cores.old) ∷ drop 1 cores.old) }
 {
     let Some((part, too_wide)) = cores.pop() else {

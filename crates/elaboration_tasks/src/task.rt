@@ -82,7 +82,7 @@ pub enum CoreTask {
     Element(u32),
     /// A vector of so many with another element.
     Update(u32),
-    RaiseWith(u8),
+    RaiseWith(u32),
     /// A call of a function with so many of the last cores.
     Call(u32, usize),
     /// A constructor with so many of the last cores.

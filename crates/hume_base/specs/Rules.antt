@@ -1,14 +1,13 @@
 -- The codes of the rules that a program may break, and the phases in which they are asked.
 use Rattle.std.specs.Prelude.{ℕ}
 use Rattle.hume_base.specs.declared.rule.Rule.{Rule}
-use Rattle.hume_base.specs.declared.rule.Rule.TheVariants.{C10, C11, C12, C20, NotBuilt, C30, C31, C32, C33, C40, C41, C42, C43, C44, C45, C50, C51, C52, C53, C54, C55, C60, C61, C70, C71, C72, C73, C74, C75, C76, C77, C78, C79}
+use Rattle.hume_base.specs.declared.rule.Rule.TheVariants.{C10, C11, C12, C20, C30, C31, C32, C33, C40, C41, C42, C43, C44, C45, C50, C51, C52, C53, C54, C55, C60, C61, C70, C71, C72, C73, C74, C75, C76, C77, C78, C79}
 
 abbrev pub code_of : Rule → ℕ
 code_of C10 = 10
 code_of C11 = 11
 code_of C12 = 12
 code_of C20 = 20
-code_of NotBuilt = 29
 code_of C30 = 30
 code_of C31 = 31
 code_of C32 = 32
@@ -45,7 +44,6 @@ phase_of C10 = 2
 phase_of C11 = 2
 phase_of C12 = 2
 phase_of C20 = 3
-phase_of NotBuilt = 11
 phase_of C30 = 4
 phase_of C31 = 4
 phase_of C32 = 4

@@ -85,7 +85,7 @@ pub const MAX_LINE_BYTES: usize = 65_536;
 pub const MAX_EMPTY_LINES: u32 = 65_536;
 
 /// Supersteps of a run.
-pub const MAX_SUPERSTEPS: u32 = 64;
+pub const MAX_SUPERSTEPS: u32 = 1_000_000;
 
 /// Workers of a run.
 pub const MAX_WORKERS: u32 = 1;

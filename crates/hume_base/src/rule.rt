@@ -12,8 +12,6 @@ pub enum Rule {
     C12,
     /// The source isn't a program.
     C20,
-    /// The source isn't in the part of the language that is built.
-    NotBuilt,
     /// A name is declared again.
     C30,
     /// A name is unknown.
@@ -81,7 +79,6 @@ impl Rule {
             Rule::C11 => 11,
             Rule::C12 => 12,
             Rule::C20 => 20,
-            Rule::NotBuilt => 29,
             Rule::C30 => 30,
             Rule::C31 => 31,
             Rule::C32 => 32,
@@ -122,7 +119,6 @@ impl Rule {
             Rule::C11 => 2,
             Rule::C12 => 2,
             Rule::C20 => 3,
-            Rule::NotBuilt => 11,
             Rule::C30 => 4,
             Rule::C31 => 4,
             Rule::C32 => 4,

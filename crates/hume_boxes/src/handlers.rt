@@ -60,7 +60,7 @@ fn check_handler<'a>(
     alloc: Global,
     at: &mut ResultElaboration<'a>,
     handler: &'a Handler,
-) -> Result<(u8, bool), Stop>
+) -> Result<(u32, bool), Stop>
     ensures ok { IfOk result (λ found. with_handler handler.now at.old ≡ Some (found, at.new)) }
     ensures none { IfErr result (λ stop. stop ≡ NoType → with_handler handler.now at.old ≡ None) }
 {
@@ -75,7 +75,7 @@ fn caught<'a>(
     at: &mut Environment<'a>,
     name: &[u8],
     pat: &'a Option<Pat>,
-) -> Result<(u8, bool), Stop>
+) -> Result<(u32, bool), Stop>
     ensures ok { IfOk result (λ found. with_caught name.now pat.now at.old ≡ Some (found, at.new)) }
     ensures none { IfErr result (λ stop. stop ≡ NoType → with_caught name.now pat.now at.old ≡ None) }
 {

@@ -36,7 +36,7 @@ impl<'a> Elaboration<'a> {
     }
 
     /// The number of the exception of a name, and whether it carries something. The type of what it carries goes on the stack.
-    pub fn push_exception(&mut self, name: &[u8]) -> Result<Option<(u8, bool)>, AllocError>
+    pub fn push_exception(&mut self, name: &[u8]) -> Result<Option<(u32, bool)>, AllocError>
         ensures found { IfOk result (λ exn. (exn, self.new.0) ≡ with_exception (exn_named name.now self.old.0.2) self.old.0) }
         ensures keeps { OnOk result (self.new ≡ (self.new.0, self.old.1, self.old.2, self.old.3)) }
     {

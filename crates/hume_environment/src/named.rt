@@ -21,22 +21,20 @@ impl<'a> Environment<'a> {
         }
     }
 
-    /// The number of the exception of a name, and whether it carries something. The type of what it carries goes on the stack. An
-    /// exception of a number over 255 is answered with want of memory, as no core has its number.
-    pub fn push_exception(&mut self, name: &[u8]) -> Result<Option<(u8, bool)>, AllocError>
+    /// The number of the exception of a name, and whether it carries something. The type of what it carries goes on the stack.
+    pub fn push_exception(&mut self, name: &[u8]) -> Result<Option<(u32, bool)>, AllocError>
         ensures { IfOk result (λ exn. (exn, self.new) ≡ with_exception (exn_named name.now self.old.2) self.old) }
     {
         match self.names.exception(name) {
             None => Ok(None),
             Some((number, exception)) => {
-                let small = small(number)?;
                 if exception.carries.is_none() {
-                    return Ok(Some((small, false)));
+                    return Ok(Some((number, false)));
                 }
                 let functions = self.names.signatures().funs.len();
                 let at = added(functions, number as usize)?;
                 self.context.push_kept(at)?;
-                Ok(Some((small, true)))
+                Ok(Some((number, true)))
             }
         }
     }
@@ -56,15 +54,6 @@ impl<'a> Environment<'a> {
                 Ok(Some((found.data_type, found.place)))
             }
         }
-    }
-}
-
-fn small(number: u32) -> Result<u8, AllocError>
-    ensures { IfOk result (λ same. same ≡ number) }
-{
-    match u8::try_from(number) {
-        Ok(same) => Ok(same),
-        Err(_) => Err(AllocError),
     }
 }
 

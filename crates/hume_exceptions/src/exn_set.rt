@@ -20,7 +20,7 @@ impl ExnSet {
     }
 
     /// The set of the exception alone, if the test was passed, and else of none.
-    pub fn only_if(number: u8, passed: bool) -> ExnSet
+    pub fn only_if(number: u32, passed: bool) -> ExnSet
         ensures { (exn : ℕ) → exn < MAX_EXCEPTIONS → is_in result exn ≡ ((exn == number) && passed) }
     {
         if passed && (number as usize) < MAX_EXCEPTIONS {
@@ -31,7 +31,7 @@ impl ExnSet {
     }
 
     /// Whether the exception is in the set.
-    pub fn has(&self, exn: u8) -> bool
+    pub fn has(&self, exn: u32) -> bool
         requires { exn < MAX_EXCEPTIONS }
         ensures { result ≡ is_in self.now exn }
     {

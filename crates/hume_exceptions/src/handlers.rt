@@ -159,7 +159,7 @@ fn is_beyond(count: usize, set: ExnSet, allowed: ExnSet) -> bool
     ensures { IsTrue result ↔ IsBeyond count set allowed }
 {
     for exn in 0..count {
-        if set.has(exn as u8) && !allowed.has(exn as u8) {
+        if set.has(exn as u32) && !allowed.has(exn as u32) {
             return true;
         }
     }

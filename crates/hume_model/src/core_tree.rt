@@ -42,7 +42,7 @@ pub enum Expr {
     Let(Box<Expr>, Box<Expr>),
     Call(u32, List<Expr>),
     /// An exception, with what it carries.
-    Raise(u8, Option<Box<Expr>>),
+    Raise(u32, Option<Box<Expr>>),
 }
 
 /// A pattern that a value must match. Its variables are numbered from left to right.
@@ -76,7 +76,7 @@ pub enum Res {
     If(Expr, Box<Res>, Box<Res>),
     Case(Expr, Ty, List<(PatC, Res)>),
     Let(Expr, Box<Res>),
-    Raise(u8, Option<Expr>),
+    Raise(u32, Option<Expr>),
 }
 
 #[derive(Drop)]
@@ -88,7 +88,7 @@ pub struct RuleC {
 /// What a box gives when a rule's result raises the exception.
 #[derive(Drop)]
 pub struct HandC {
-    pub exn: u8,
+    pub exn: u32,
     /// Whether the handler binds what the exception carries: its only variable.
     pub bound: bool,
     pub result: Res,

@@ -7,13 +7,13 @@ use hume_base::{List, Text};
 use std::alloc::{AllocError, Global};
 
 /// The number of the exception of a division by 0.
-pub const DIV_ZERO: u8 = 0;
+pub const DIV_ZERO: u32 = 0;
 
 /// The number of the exception of an index outside a vector.
-pub const RANGE: u8 = 1;
+pub const RANGE: u32 = 1;
 
 /// The number of the exception of a `case` or a call that nothing matches.
-pub const NO_CASE: u8 = 2;
+pub const NO_CASE: u32 = 2;
 
 /// The exceptions that stand first in every core, in the order of their numbers.
 pub fn own_exceptions(alloc: Global) -> Result<List<ExnDef>, AllocError>

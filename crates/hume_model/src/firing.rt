@@ -111,7 +111,7 @@ fn handled_outputs(
     }
 }
 
-fn handler_for(handlers: &[HandC], exn: u8) -> Option<&HandC>
+fn handler_for(handlers: &[HandC], exn: u32) -> Option<&HandC>
     ensures { let found = find (λ (handler : HandC). handler.exn == exn) handlers.now in
         MatchOption result (found ≡ None) (λ handler. found ≡ Some handler.now) }
 {

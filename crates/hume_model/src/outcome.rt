@@ -6,21 +6,21 @@ use hume_base::{List, Value};
 pub enum Outcome {
     Gives(Value),
     /// An exception, with what it carries.
-    Raises(u8, Option<Value>),
+    Raises(u32, Option<Value>),
 }
 
 /// What expressions come to that are evaluated one after another.
 #[derive(Drop)]
 pub enum Several {
     All(List<Value>),
-    Raised(u8, Option<Value>),
+    Raised(u32, Option<Value>),
 }
 
 /// What the result of a rule comes to.
 #[derive(Drop)]
 pub enum Outputs {
     Asserts(List<Option<Value>>),
-    Throws(u8, Option<Value>),
+    Throws(u32, Option<Value>),
 }
 
 /// A box that fires: the rule's number, which inputs are taken, and the outputs.

@@ -93,7 +93,7 @@ fn raised_outputs(
     alloc: Global,
     core: &Core,
     env: &List<Value>,
-    exn: u8,
+    exn: u32,
     part: &Option<Expr>,
 ) -> Result<Outputs, AllocError>
     ensures { IfOk result (λ outputs. outputs ≡ thrown (raised exn (option_map (meaning_in core.now) part.now) env.now)) }

@@ -20,20 +20,28 @@ use Rattle.hume_names.specs.inner.NameNodes.{AreNodes, IsByNames}
 empty_row : (x : ℕ) → Contains [] x → ⊥
 empty_row x p = let lt = p.1 in omega arith
 
--- what is in a row that mentions lead to is beside a name, and what else is beside that name would be in the row too
+-- the mentions have the name: whatever is beside it, they lead to
 abbrev ByName : NameKind → List Mention → List ℕ → Type 0
 ByName kind ms name = (owners : List (List ℕ × ℕ)) (x : ℕ) → Contains (numbers_of name owners) x → Contains (meant kind owners ms) x
 
--- the same of the mentions after a first one
+-- a name that the mentions have and beside which the number is
 abbrev Named : NameKind → List Mention → List (List ℕ × ℕ) → ℕ → Type 0
 Named kind ms owners x = (name : List ℕ) × Contains (numbers_of name owners) x × ByName kind ms name
 
-module _ (kind : NameKind) (owners : List (List ℕ × ℕ)) (m : Mention) (ms : List Mention) (x : ℕ) (rest : Contains (meant kind owners ms) x → Named kind ms owners x) where
+-- what mentions lead to is beside a name that they have
+module _ (kind : NameKind) (owners : List (List ℕ × ℕ)) (m : Mention) (ms : List Mention) (x : ℕ)
+    (rest : Contains (meant kind owners ms) x → Named kind ms owners x) where
+  abbrev Leads : Bool → List ℕ → Type 0
+  Leads b name =
+      (others : List (List ℕ × ℕ)) (y : ℕ) → Contains (numbers_of name others) y → Contains ((if b then numbers_of m.1 others else []) ++ meant kind others ms) y
+
   abbrev Led : Bool → Type 0
-  Led b = (name : List ℕ) × Contains (numbers_of name owners) x × ((others : List (List ℕ × ℕ)) (y : ℕ) → Contains (numbers_of name others) y → Contains ((if b then numbers_of m.1 others else []) ++ meant kind others ms) y)
+  Led b = (name : List ℕ) × Contains (numbers_of name owners) x × Leads b name
 
   later : (b : Bool) → Contains (meant kind owners ms) x → Led b
-  later b q = let r = rest q in (r.0, r.1, λ others y s. Contains-append_right (if b then numbers_of m.1 others else []) (meant kind others ms) y (r.2 others y s))
+  later b q =
+      let r = rest q in
+      (r.0, r.1, λ others y s. Contains-append_right (if b then numbers_of m.1 others else []) (meant kind others ms) y (r.2 others y s))
 
   led : (b : Bool) → Contains ((if b then numbers_of m.1 owners else []) ++ meant kind owners ms) x → Led b
   led false q = later false q
@@ -50,7 +58,8 @@ by_name kind owners [] x p = absurd (empty_row x p)
 by_name kind owners (m ∷ ms) x p = by_name_more kind owners m ms x (by_name kind owners ms x) p
 
 -- the numbers beside a name are of declarations
-number_within : (name own : List ℕ) (n : ℕ) (others : List (List ℕ × ℕ)) (x : ℕ) → Contains (numbers_of name ((own, n) ∷ others)) x → (x ≡ n) ⊎ Contains (numbers_of name others) x
+number_within : (name own : List ℕ) (n : ℕ) (others : List (List ℕ × ℕ)) (x : ℕ) → Contains (numbers_of name ((own, n) ∷ others)) x
+    → (x ≡ n) ⊎ Contains (numbers_of name others) x
 number_within name own n others x p = by (bytes_eq name own) p
   where
     by : (b : Bool) → Contains (if b then n ∷ numbers_of name others else numbers_of name others) x → (x ≡ n) ⊎ Contains (numbers_of name others) x
@@ -60,14 +69,16 @@ number_within name own n others x p = by (bytes_eq name own) p
       | inr r ↦ inr r
     ]
 
-numbers_within : (name : List ℕ) (n : ℕ) (names : List (List ℕ)) (rest : List (List ℕ × ℕ)) (x : ℕ) → Contains (numbers_of name (map (λ own. (own, n)) names ++ rest)) x → (x ≡ n) ⊎ Contains (numbers_of name rest) x
+numbers_within : (name : List ℕ) (n : ℕ) (names : List (List ℕ)) (rest : List (List ℕ × ℕ)) (x : ℕ)
+    → Contains (numbers_of name (map (λ own. (own, n)) names ++ rest)) x → (x ≡ n) ⊎ Contains (numbers_of name rest) x
 numbers_within name n [] rest x p = inr p
 numbers_within name n (own ∷ names) rest x p = elim (number_within name own n (map (λ own. (own, n)) names ++ rest) x p) [
   | inl e ↦ inl e
   | inr q ↦ numbers_within name n names rest x q
 ]
 
-numbers_below : (kind : NameKind) (n : ℕ) (decls : List (ℕ × Decl)) (name : List ℕ) (x : ℕ) → Contains (numbers_of name (owners_from kind n decls)) x → x < n + length decls
+numbers_below : (kind : NameKind) (n : ℕ) (decls : List (ℕ × Decl)) (name : List ℕ) (x : ℕ) → Contains (numbers_of name (owners_from kind n decls)) x
+    → x < n + length decls
 numbers_below kind n [] name x p = absurd (empty_row x p)
 numbers_below kind n (d ∷ decls) name x p = elim (numbers_within name n (names_of_kind kind d.1) (owners_from kind (suc n) decls) x p) [
   | inl e ↦ omega arith
@@ -80,7 +91,8 @@ rows_by kind owners decls = map (λ d. meant kind owners (mentions_of d.1)) decl
 abbrev decl_at : List (ℕ × Decl) → ℕ → Decl
 decl_at decls i = (get_or decls i (0, Exn [] None)).1
 
-row_by : (kind : NameKind) (owners : List (List ℕ × ℕ)) (decls : List (ℕ × Decl)) (i : ℕ) → i < length decls → get_or (rows_by kind owners decls) i [] ≡ meant kind owners (mentions_of (decl_at decls i))
+row_by : (kind : NameKind) (owners : List (List ℕ × ℕ)) (decls : List (ℕ × Decl)) (i : ℕ) → i < length decls
+    → get_or (rows_by kind owners decls) i [] ≡ meant kind owners (mentions_of (decl_at decls i))
 row_by kind owners decls i lt = get_or-map (λ d. meant kind owners (mentions_of d.1)) decls i (0, Exn [] None) [] lt
 
 rows_long : (kind : NameKind) (owners : List (List ℕ × ℕ)) (decls : List (ℕ × Decl)) → length (rows_by kind owners decls) ≡ length decls
@@ -101,10 +113,14 @@ module _ (kind : NameKind) (decls : List (ℕ × Decl)) (nodes : NameNodes) (is 
 
   -- the rows of a declaration and of a name
   declaration_row : (i : ℕ) → i < length decls → get_or by_names i [] ≡ meant kind nodes.index.owners (mentions_of (decl_at decls i))
-  declaration_row i lt = get_or_append_left (rows_by kind nodes.index.owners decls) nodes.rows [] i (omega (arith, rows_long kind nodes.index.owners decls)) ∙ row_by kind nodes.index.owners decls i lt
+  declaration_row i lt =
+      get_or_append_left (rows_by kind nodes.index.owners decls) nodes.rows [] i (omega (arith, rows_long kind nodes.index.owners decls))
+      ∙ row_by kind nodes.index.owners decls i lt
 
   name_row : (k : ℕ) → get_or by_names (length decls + k) [] ≡ get_or nodes.rows k []
-  name_row k = ap (λ n. get_or by_names (n + k) []) (sym (rows_long kind nodes.index.owners decls)) ∙ get_or-append-add (rows_by kind nodes.index.owners decls) nodes.rows k []
+  name_row k =
+      ap (λ n. get_or by_names (n + k) []) (sym (rows_long kind nodes.index.owners decls))
+      ∙ get_or-append-add (rows_by kind nodes.index.owners decls) nodes.rows k []
 
   own_row : (i : ℕ) → i < length decls → get_or by_declarations i [] ≡ meant kind (owners_from kind 0 decls) (mentions_of (decl_at decls i))
   own_row i lt = row_by kind (owners_from kind 0 decls) decls i lt
@@ -146,26 +162,42 @@ module _ (kind : NameKind) (decls : List (ℕ × Decl)) (nodes : NameNodes) (is 
   two_steps : (i j : ℕ) → LeadsTo by_declarations i j → (x : ℕ) × LeadsTo by_names i x × LeadsTo by_names x j
   two_steps i j p =
       let lt : i < length decls = (let w = leads_within by_declarations i j p in omega (arith, declarations_long)) in
-      let mentioned = by_name kind (owners_from kind 0 decls) (mentions_of (decl_at decls i)) j (subst (λ (xs : List ℕ). Contains xs j) (own_row i lt) p.listed) in
+      let mentioned =
+      by_name kind (owners_from kind 0 decls) (mentions_of (decl_at decls i)) j (subst (λ (xs : List ℕ). Contains xs j) (own_row i lt) p.listed) in
       let there = has_node mentioned.0 j mentioned.1 in
       let node = node_of mentioned.0 there.0 there.1 in (
         there.0,
-        record { within = node.within; listed = subst (λ (xs : List ℕ). Contains xs there.0) (sym (declaration_row i lt)) (mentioned.2 nodes.index.owners there.0 there.1) },
-        record { within = (let j_below = below mentioned.0 j mentioned.1 in omega (arith, names_long)); listed = subst (λ (xs : List ℕ). Contains xs j) (sym node.row) mentioned.1 },
+        record {
+          within = node.within;
+          listed = subst (λ (xs : List ℕ). Contains xs there.0) (sym (declaration_row i lt)) (mentioned.2 nodes.index.owners there.0 there.1);
+        },
+        record {
+          within = (let j_below = below mentioned.0 j mentioned.1 in omega (arith, names_long));
+          listed = subst (λ (xs : List ℕ). Contains xs j) (sym node.row) mentioned.1;
+        },
       )
 
-  one_step : (i x j : ℕ) → i < length decls → LeadsTo by_names i x → LeadsTo by_names x j → (length decls ≤ x) × (j < length decls) × LeadsTo by_declarations i j
+  one_step : (i x j : ℕ) → i < length decls → LeadsTo by_names i x → LeadsTo by_names x j
+      → (length decls ≤ x) × (j < length decls) × LeadsTo by_declarations i j
   one_step i x j lt p q =
-      let mentioned = by_name kind nodes.index.owners (mentions_of (decl_at decls i)) x (subst (λ (xs : List ℕ). Contains xs x) (declaration_row i lt) p.listed) in
+      let mentioned =
+      by_name kind nodes.index.owners (mentions_of (decl_at decls i)) x (subst (λ (xs : List ℕ). Contains xs x) (declaration_row i lt) p.listed) in
       let node = node_of mentioned.0 x mentioned.1 in
       let named : Contains (numbers_of mentioned.0 (owners_from kind 0 decls)) j = subst (λ (xs : List ℕ). Contains xs j) node.row q.listed in
-      let j_below = below mentioned.0 j named in
-      (node.behind, j_below, record { within = omega (arith, declarations_long); listed = subst (λ (xs : List ℕ). Contains xs j) (sym (own_row i lt)) (mentioned.2 (owners_from kind 0 decls) j named) })
+      let j_below = below mentioned.0 j named in (
+        node.behind,
+        j_below,
+        record {
+          within = omega (arith, declarations_long);
+          listed = subst (λ (xs : List ℕ). Contains xs j) (sym (own_row i lt)) (mentioned.2 (owners_from kind 0 decls) j named);
+        },
+      )
 
   -- a declaration leads to no declaration
   no_half_step : (i x j : ℕ) → i < length decls → j < length decls → LeadsTo by_names i x → x ≡ j → ⊥
   no_half_step i x j i_below j_below p same =
-      let mentioned = by_name kind nodes.index.owners (mentions_of (decl_at decls i)) x (subst (λ (xs : List ℕ). Contains xs x) (declaration_row i i_below) p.listed) in
+      let mentioned =
+      by_name kind nodes.index.owners (mentions_of (decl_at decls i)) x (subst (λ (xs : List ℕ). Contains xs x) (declaration_row i i_below) p.listed) in
       let behind = (node_of mentioned.0 x mentioned.1).behind in omega arith
 
   -- chains between declarations
@@ -218,5 +250,6 @@ module _ (kind : NameKind) (decls : List (ℕ × Decl)) (nodes : NameNodes) (is 
   )
 
 -- the first declaration in a cycle, where names have nodes
-pub first_by_names : (kind : NameKind) (decls : List (ℕ × Decl)) (graph : List (List ℕ)) → IsByNames kind decls (owners_from kind 0 decls) graph → (found : Option ℕ) → IsFirst (InCycle graph) found → IsFirst (InCycle (graph_of kind decls)) found
+pub first_by_names : (kind : NameKind) (decls : List (ℕ × Decl)) (graph : List (List ℕ)) → IsByNames kind decls (owners_from kind 0 decls) graph
+    → (found : Option ℕ) → IsFirst (InCycle graph) found → IsFirst (InCycle (graph_of kind decls)) found
 first_by_names kind decls graph is found first = first_of_names kind decls is.nodes is.are found (subst (λ g. IsFirst (InCycle g) found) is.is first)

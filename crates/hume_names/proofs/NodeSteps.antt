@@ -1,5 +1,5 @@
 -- Nodes of names, with one more declaration of a name.
-use Rattle.std.proofs.Common.{◌≡◌, ℕ, ◌+◌, ◌-◌, ◌<◌, ◌^◌, inl, inr, slice_get, take, List, [], ◌∷◌, ◌++◌, Option, Some, None, true, false, length, set, get_or, is_some, if◌then◌else◌, refl, ap, sym, subst, ◌∙◌, arith}
+use Rattle.std.proofs.Common.{◌≡◌, ℕ, ◌+◌, ◌-◌, ◌<◌, ◌^◌, inl, inr, slice_get, take, List, [], ◌∷◌, ◌++◌, Option, Some, None, true, false, length, set, get_or, is_some, if◌then◌else◌, ap, sym, subst, ◌∙◌, arith}
 use Rattle.std.proofs.lemmas.Bool.{false≢true, cases_Bool, cases_lt}
 use Rattle.std.proofs.lemmas.List.{length-append, length-set, get_or_append_left, get_or_at, get_or-set_same, get_or-set_other, take_more}
 use Rattle.std.proofs.lemmas.Slice.Eq.{bytes_eq-Decides}
@@ -15,18 +15,6 @@ use Rattle.hume_names.proofs.IndexSteps.{itself, numbers_own, numbers_other, num
 same_node : (a b : ℕ) → Some a ≡ Some b → a ≡ b
 same_node a b e = cc
 
--- before any declaration
-pub no_nodes : (first : ℕ) (nodes : NameNodes) → nodes.index.owners ≡ [] → nodes.index.table ≡ [] → nodes.rows ≡ [] → first < 2 ^ 32 → AreNodes first [] nodes
-no_nodes first nodes owners table rows few = subst (AreNodes first []) (λ i. record { index = record { owners = sym owners i; table = sym table i; distinct = nodes.index.distinct }; rows = sym rows i }) (record {
-  index = λ name. refl;
-  few = (let f = few in omega arith);
-  inside = λ name node e. absurd (none-some node e);
-  named = λ k lt. absurd (omega arith);
-  apart = λ a b node p q. absurd (none-some node p);
-  rows = λ name k p. absurd (none-some (first + k) p);
-  all = λ name p. refl;
-})
-
 module _ (first : ℕ) (owners : List (List ℕ × ℕ)) (old : NameNodes) (is : AreNodes first owners old) (o : List ℕ × ℕ) where
   module _ (k : ℕ) (here : number_of o.0 old.index.table ≡ Some (first + k)) (lt : k < length old.rows) where
     abbrev longer : List (List ℕ)
@@ -40,7 +28,8 @@ module _ (first : ℕ) (owners : List (List ℕ × ℕ)) (old : NameNodes) (is :
           ap (λ i. get_or longer i []) j_is ∙ get_or-set_same old.rows k (get_or old.rows k [] ++ o.1 ∷ []) [] lt
           ∙ ap (λ r. r ++ o.1 ∷ []) (is.rows o.0 k here) ∙ sym (numbers_own owners o) ∙ ap (λ z. numbers_of z (owners ++ o ∷ [])) (sym name_is)
       | inr off ↦
-          let other : j ≡ k → ⊥ = λ e. false≢true (sym off ∙ (bytes_eq-Decides name o.0).1 (is.apart name o.0 (first + k) (p ∙ ap (λ z. Some (first + z)) e) here)) in
+          let other : j ≡ k → ⊥ = λ e. false≢true (sym off
+          ∙ (bytes_eq-Decides name o.0).1 (is.apart name o.0 (first + k) (p ∙ ap (λ z. Some (first + z)) e) here)) in
           get_or-set_other old.rows k j (get_or old.rows k [] ++ o.1 ∷ []) [] other ∙ is.rows name j p ∙ sym (numbers_other owners o name off)
     ]
 
@@ -71,6 +60,9 @@ module _ (first : ℕ) (owners : List (List ℕ × ℕ)) (old : NameNodes) (is :
     abbrev more : List (List ℕ)
     more = old.rows ++ (o.1 ∷ []) ∷ []
 
+    abbrev table : List (List ℕ × ℕ)
+    table = old.index.table ++ entry ∷ []
+
     absent : among o.0 (names_of old.index.table) ≡ false
     absent = sym (is_some-number_of o.0 old.index.table) ∙ ap is_some none
 
@@ -78,19 +70,19 @@ module _ (first : ℕ) (owners : List (List ℕ × ℕ)) (old : NameNodes) (is :
     long = length-append old.rows ((o.1 ∷ []) ∷ [])
 
     -- of which names a number is
-    own : (name : List ℕ) → bytes_eq name o.0 ≡ true → number_of name (old.index.table ++ entry ∷ []) ≡ Some (first + length old.rows)
-    own name on = ap (λ z. number_of z (old.index.table ++ entry ∷ [])) ((bytes_eq-Decides name o.0).0 on) ∙ number_own old.index.table entry none
+    own : (name : List ℕ) → bytes_eq name o.0 ≡ true → number_of name table ≡ Some (first + length old.rows)
+    own name on = ap (λ z. number_of z table) ((bytes_eq-Decides name o.0).0 on) ∙ number_own old.index.table entry none
 
-    other : (name : List ℕ) (x : Option ℕ) → bytes_eq name o.0 ≡ false → number_of name (old.index.table ++ entry ∷ []) ≡ x → number_of name old.index.table ≡ x
+    other : (name : List ℕ) (x : Option ℕ) → bytes_eq name o.0 ≡ false → number_of name table ≡ x → number_of name old.index.table ≡ x
     other name x off p = sym (number_other old.index.table entry name off) ∙ p
 
-    more_inside : (name : List ℕ) (node : ℕ) → number_of name (old.index.table ++ entry ∷ []) ≡ Some node → (k : ℕ) × (node ≡ first + k) × (k < length more)
+    more_inside : (name : List ℕ) (node : ℕ) → number_of name table ≡ Some node → (k : ℕ) × (node ≡ first + k) × (k < length more)
     more_inside name node p = elim (cases_Bool (bytes_eq name o.0)) [
       | inl on ↦ (length old.rows, same_node _ _ (sym p ∙ own name on), omega (arith, long))
       | inr off ↦ (let at = is.inside name node (other name (Some node) off p) in (at.0, at.1, (let lt = at.2 in omega (arith, long))))
     ]
 
-    more_named : (k : ℕ) → k < length more → (name : List ℕ) × (number_of name (old.index.table ++ entry ∷ []) ≡ Some (first + k))
+    more_named : (k : ℕ) → k < length more → (name : List ℕ) × (number_of name table ≡ Some (first + k))
     more_named k lt = elim (cases_lt k (length old.rows)) [
       | inl before ↦ (let at = is.named k before in (at.0, number_kept old.index.table entry at.0 (first + k) at.1))
       | inr le ↦ (let e : length old.rows ≡ k = omega (arith, long) in (o.0, own o.0 (itself [] o) ∙ ap (λ z. Some (first + z)) e))
@@ -99,7 +91,7 @@ module _ (first : ℕ) (owners : List (List ℕ × ℕ)) (old : NameNodes) (is :
     old_apart : (a b : List ℕ) → number_of a old.index.table ≡ Some (first + length old.rows) → ⊥
     old_apart a b p = let at = is.inside a (first + length old.rows) p in let e = at.1 in let lt = at.2 in omega arith
 
-    more_apart : (a b : List ℕ) (node : ℕ) → number_of a (old.index.table ++ entry ∷ []) ≡ Some node → number_of b (old.index.table ++ entry ∷ []) ≡ Some node → a ≡ b
+    more_apart : (a b : List ℕ) (node : ℕ) → number_of a table ≡ Some node → number_of b table ≡ Some node → a ≡ b
     more_apart a b node p q = elim (cases_Bool (bytes_eq a o.0)) [
       | inl on ↦ elim (cases_Bool (bytes_eq b o.0)) [
         | inl also ↦ (bytes_eq-Decides a o.0).0 on ∙ sym ((bytes_eq-Decides b o.0).0 also)
@@ -111,18 +103,19 @@ module _ (first : ℕ) (owners : List (List ℕ × ℕ)) (old : NameNodes) (is :
       ]
     ]
 
-    more_rows : (name : List ℕ) (k : ℕ) → number_of name (old.index.table ++ entry ∷ []) ≡ Some (first + k) → get_or more k [] ≡ numbers_of name (owners ++ o ∷ [])
+    more_rows : (name : List ℕ) (k : ℕ) → number_of name table ≡ Some (first + k) → get_or more k [] ≡ numbers_of name (owners ++ o ∷ [])
     more_rows name k p = elim (cases_Bool (bytes_eq name o.0)) [
       | inl on ↦
           let here : length old.rows ≡ k = (let e = same_node _ _ (sym p ∙ own name on) in omega arith) in
-          get_or_at old.rows (o.1 ∷ []) [] [] k here ∙ ap (λ r. r ++ o.1 ∷ []) (sym (is.all o.0 none)) ∙ sym (numbers_own owners o) ∙ ap (λ z. numbers_of z (owners ++ o ∷ [])) (sym ((bytes_eq-Decides name o.0).0 on))
+          get_or_at old.rows (o.1 ∷ []) [] [] k here ∙ ap (λ r. r ++ o.1 ∷ []) (sym (is.all o.0 none)) ∙ sym (numbers_own owners o)
+          ∙ ap (λ z. numbers_of z (owners ++ o ∷ [])) (sym ((bytes_eq-Decides name o.0).0 on))
       | inr off ↦
           let was : number_of name old.index.table ≡ Some (first + k) = other name (Some (first + k)) off p in
           let below : k < length old.rows = (let at = is.inside name (first + k) was in let e = at.1 in let lt = at.2 in omega arith) in
           get_or_append_left old.rows ((o.1 ∷ []) ∷ []) [] k below ∙ is.rows name k was ∙ sym (numbers_other owners o name off)
     ]
 
-    more_all : (name : List ℕ) → number_of name (old.index.table ++ entry ∷ []) ≡ None → numbers_of name (owners ++ o ∷ []) ≡ []
+    more_all : (name : List ℕ) → number_of name table ≡ None → numbers_of name (owners ++ o ∷ []) ≡ []
     more_all name p = elim (cases_Bool (bytes_eq name o.0)) [
       | inl on ↦ absurd (none-some (first + length old.rows) (sym p ∙ own name on))
       | inr off ↦ numbers_other owners o name off ∙ is.all name (other name None off p)
@@ -131,8 +124,11 @@ module _ (first : ℕ) (owners : List (List ℕ × ℕ)) (old : NameNodes) (is :
     -- it has a node of its own
     pub name_more : (new : NameNodes) → IsOneMore first o.0 o.1 old new → AreNodes first (owners ++ o ∷ []) new
     name_more new added =
-        let table_is : old.index.table ++ entry ∷ [] ≡ new.index.table = sym (added.table ∙ ap (λ b. if is_some b then old.index.table else old.index.table ++ entry ∷ []) none) in
-        subst (AreNodes first (owners ++ o ∷ [])) (λ i. record { index = record { owners = sym added.owners i; table = table_is i; distinct = new.index.distinct }; rows = sym added.rows i }) (record {
+        let table_is : table ≡ new.index.table = sym (added.table ∙ ap (λ b. if is_some b then old.index.table else table) none) in
+        subst (AreNodes first (owners ++ o ∷ [])) (λ i. record {
+          index = record { owners = sym added.owners i; table = table_is i; distinct = new.index.distinct };
+          rows = sym added.rows i;
+        }) (record {
           index = index_push old.index.table old.index.owners entry absent is.index;
           few = subst (λ r. first + length r < 2 ^ 32) added.rows added.few;
           inside = more_inside;
@@ -143,16 +139,19 @@ module _ (first : ℕ) (owners : List (List ℕ × ℕ)) (old : NameNodes) (is :
         })
 
 -- with the declarations up to the next
-module _ (first : ℕ) (owners : List (List ℕ × ℕ)) (at : ℕ) (old : NameNodes) (o : List ℕ × ℕ) (there : slice_get owners at ≡ Some o) (is : AreNodes first (take at owners) old) where
+module _ (first : ℕ) (owners : List (List ℕ × ℕ)) (at : ℕ) (old : NameNodes) (o : List ℕ × ℕ)
+    (there : slice_get owners at ≡ Some o) (is : AreNodes first (take at owners) old) where
   one_more : take at owners ++ o ∷ [] ≡ take (at + 1) owners
   one_more = sym (take_more owners at o (slice_get_within owners at o there) ∙ ap (λ x. take at owners ++ x ∷ []) (get_or_from_slice_get owners at o o there))
 
-  pub node_found : (node : ℕ) (rows : List (List ℕ)) → number_of o.0 old.index.table ≡ Some node → rows ≡ set old.rows (node - first) (get_or old.rows (node - first) [] ++ o.1 ∷ [])
+  pub node_found : (node : ℕ) (rows : List (List ℕ)) → number_of o.0 old.index.table ≡ Some node
+      → rows ≡ set old.rows (node - first) (get_or old.rows (node - first) [] ++ o.1 ∷ [])
       → AreNodes first (take (at + 1) owners) (record { index = old.index; rows = rows })
   node_found node rows here longer =
       let place = is.inside o.0 node here in
       let k_is : node - first ≡ place.0 = (let e = place.1 in omega arith) in
-      subst (λ os. AreNodes first os (record { index = old.index; rows = rows })) one_more (subst (λ rs. AreNodes first (take at owners ++ o ∷ []) (record { index = old.index; rows = rs }))
+      subst (λ os. AreNodes first os (record { index = old.index; rows = rows })) one_more
+      (subst (λ rs. AreNodes first (take at owners ++ o ∷ []) (record { index = old.index; rows = rs }))
       (sym (longer ∙ ap (λ k. set old.rows k (get_or old.rows k [] ++ o.1 ∷ [])) k_is))
       (row_longer first (take at owners) old is o place.0 (here ∙ ap Some place.1) place.2))
 

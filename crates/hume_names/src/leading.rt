@@ -77,8 +77,8 @@ fn first_by_names(
     first_in_cycle(alloc, &graph)
 }
 
-// A declaration leads to the nodes of the names that it mentions, and the node of a name to all declarations of the name:
-// so there are no more edges than names in the source, however often each is declared.
+// A declaration leads to the nodes of the names that it mentions, and the node of a name to all its declarations: so there
+// are no more edges than names in the source, however often each is declared.
 fn graph_by_names(
     alloc: Global,
     kind: NameKind,

@@ -60,7 +60,7 @@ impl<'a> ResultElaboration<'a> {
         self.builder.alternatives(alloc, ty, part, count)
     }
 
-    fn raise_with(&mut self, exn: u8) -> Result<(), AllocError>
+    fn raise_with(&mut self, exn: u32) -> Result<(), AllocError>
         ensures { OnOk result (self.new ≡ make_step (RaiseWith exn) self.old) }
     {
         let part = self.plain.take_core()?;

@@ -74,7 +74,7 @@ fn raise_with<'a>(
 
 // The number of the exception of a name, which must carry something. The type of that goes on the stack.
 #[tactic(auto, using(crate::proofs::FoundExceptions::carrying_steps))]
-fn carrying(at: &mut ResultElaboration, name: &Text) -> Result<u8, Stop>
+fn carrying(at: &mut ResultElaboration, name: &Text) -> Result<u32, Stop>
     ensures found { IfOk result (λ number. (Some (number, true), at.new.0.0) ≡ with_exception (exn_named name.now at.old.0.0.2) at.old.0.0) }
     ensures keeps { OnOk result (at.new ≡ ((at.new.0.0, at.old.0.1, at.old.0.2, at.old.0.3), at.old.1, at.old.2, at.old.3)) }
     ensures none { IfErr result (λ stop. stop ≡ NoType → carried_by at.old.0.0.2 name.now ≡ None) }

@@ -88,7 +88,7 @@ impl ResultBuilder {
     }
 
     /// An exception that carries nothing.
-    pub fn raise(&mut self, exn: u8) -> Result<(), AllocError>
+    pub fn raise(&mut self, exn: u32) -> Result<(), AllocError>
         ensures { OnOk result (self.new ≡ (raise_result_core exn ∷ self.old.0, self.old.1, self.old.2)) }
     {
         self.results.push((Res::Raise(exn, None), false))?;
@@ -96,7 +96,7 @@ impl ResultBuilder {
     }
 
     /// An exception that carries the core.
-    pub fn raise_with(&mut self, exn: u8, part: (Expr, bool)) -> Result<(), AllocError>
+    pub fn raise_with(&mut self, exn: u32, part: (Expr, bool)) -> Result<(), AllocError>
         ensures { OnOk result (self.new ≡ (raise_with_result_core exn part ∷ self.old.0, self.old.1, self.old.2)) }
     {
         let (part, too_wide) = part;

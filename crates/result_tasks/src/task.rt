@@ -37,7 +37,7 @@ pub enum ResultMake {
     /// A `case` of the last core, which is of the last type, with so many of the last alternatives.
     Alternatives(usize),
     /// An exception that carries nothing.
-    Raise(u8),
+    Raise(u32),
     /// An exception that carries the last core.
-    RaiseWith(u8),
+    RaiseWith(u32),
 }

@@ -7,4 +7,5 @@ use Rattle.hume_names.proofs.leading.first_by_declarations.Goals as goal
 
 pub returns : goal.returns
 returns c =
-    subst (λ graph. IfOk c.first_in_cycle.result (IsFirst (InCycle graph))) (c.in_ok-graph.ensures ∙ ap (λ owners. map (λ d. meant c.args.kind owners (mentions_of d.1)) c.args.decls.now) c.requires.owners) c.first_in_cycle.ensures
+    let all_meant = ap (λ owners. map (λ d. meant c.args.kind owners (mentions_of d.1)) c.args.decls.now) c.requires.owners in
+    subst (λ graph. IfOk c.first_in_cycle.result (IsFirst (InCycle graph))) (c.in_ok-graph.ensures ∙ all_meant) c.first_in_cycle.ensures

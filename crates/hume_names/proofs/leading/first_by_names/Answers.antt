@@ -6,5 +6,6 @@ use Rattle.hume_names.proofs.leading.first_by_names.Goals as goal
 
 pub returns : goal.returns
 returns c =
-    let by_names : IsByNames c.args.kind c.args.decls.now _ c.in_ok-graph.graph = subst (λ owners. IsByNames c.args.kind c.args.decls.now owners c.in_ok-graph.graph) c.requires.owners c.in_ok-graph.ensures.by_names in
+    let by_names =
+    subst (λ owners. IsByNames c.args.kind c.args.decls.now owners c.in_ok-graph.graph) c.requires.owners c.in_ok-graph.ensures.by_names in
     IfOk-weaker c.first_in_cycle.result _ _ (first_by_names c.args.kind c.args.decls.now c.in_ok-graph.graph by_names) c.first_in_cycle.ensures

@@ -8,7 +8,6 @@ returns-in_ok-push_kept-in-Some c =
     let found = sym c.exception.ensures ∙ ap (option_map (λ f. (f.0, f.1.now))) c.in-Some.is in
     let functions = c.len-functions.ensures ∙ ap (λ s. length s.funs) c.signatures.ensures in
     let at = c.in_ok-at-in-Some.ensures ∙ ap (λ n. n + c.in-Some.number) functions in
-    ap (λ n. (Some (n, true), known_from c.push_kept.new.self s)) c.in_ok-small-in-Some.ensures
-    ∙ exception_pushed c.self.inside.context c.push_kept.new.self s c.args.self.now c.args.name.now c.self.view_is c.self.invariant
+    exception_pushed c.self.inside.context c.push_kept.new.self s c.args.self.now c.args.name.now c.self.view_is c.self.invariant
     c.in-Some.number c.in-Some.exception.now found (c.is_none.ensures ∙ ap not c.if-is_none.false)
     (c.in_ok-push_kept-in-Some.ensures.ok ∙ ap (λ n. with_kept n c.self.inside.context) at)
