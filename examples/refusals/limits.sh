@@ -67,12 +67,50 @@ elements() {
     printf 'f :: nat 8 -> nat 8 ;\nf n = <<%s>> @ n ;\n' "$(parts '' '' "$1" | sed 's/[0-9][0-9]*/n/g')"
 }
 
+# calls COUNT: a box that calls a function, which calls another one, and so on; each puts a vector of 1,024 numbers on the stack
+# before it calls, and the first one a vector of so many
+calls() {
+    local n count vector
+    printf 'f0 :: nat 8 -> nat 8 ;\nf0 n = n ;\n'
+    for ((n = 1; n <= 16; n++)); do
+        count=$((n < 16 ? 1024 : $1))
+        vector=$(printf 'n, %.0s' $(seq 2 "$count"))
+        printf 'f%s :: nat 8 -> nat 8 ;\nf%s n = <<%s f%s n>> @ 1 ;\n' "$n" "$n" "$vector" $((n - 1))
+    done
+    printf 'box b in (x :: nat 8) out (y :: nat 8) match (x) -> f16 x ; wire b.y to b.x initial 0 ;\n'
+}
+
+# updates COUNT: so many boxes of which each makes 64 vectors of 1,023 numbers, a line each behind the first
+updates() {
+    local n of='vector 1023 of bool' seven='v'
+    for ((n = 0; n < 7; n++)); do seven="update ($seven) 1 true"; done
+    printf 'f :: %s -> %s ; f v = %s ; ' "$of" "$of" "$seven"
+    printf 'g :: %s -> %s ; g v = f (f (f v)) ;\n' "$of" "$of"
+    for ((n = 0; n < $1; n++)); do
+        printf 'box b%s in (v :: %s) out (w :: %s) match (v) -> g (g (g v)) ; wire b%s.w to b%s.v ;\n' "$n" "$of" "$of" "$n" "$n"
+    done
+}
+
 pair functions 72 256 functions
 pair exceptions 72 61 exceptions
 pair boxes 72 256 boxes
 pair wires 72 1024 wires 1090
 pair rules 72 64 rules 1
 pair elements 42 1024 elements 1
+# 16,384 words of stack, and 63 boxes of 65,549 words of heap and stack
+pair calls 76 969 calls 35
+pair updates 78 63 updates 65
+# Types are asked before the limits, of raised exceptions of any number too.
+{
+    exceptions 300
+    echo 'f :: bool -> nat 8 ; f x = if x then raise E299 1 else 256 ;'
+} >"$folder/exceptions-and-a-literal.hume"
+echo 'exceptions-and-a-literal 41 301'
+{
+    exceptions 300
+    echo 'f :: bool -> nat 8 ; f x = if x then raise E299 1 else 255 ;'
+} >"$folder/exceptions-raised.hume"
+echo 'exceptions-raised 72 62'
 streams 257 >"$folder/streams-over.hume"
 echo 'streams-over 72 257'
 # The wires of 64 vectors have 65,536 words. A wire between two streams counts for none.

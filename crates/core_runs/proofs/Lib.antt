@@ -16,3 +16,4 @@ pub mod FillingInputs
 pub mod Runnings
 pub mod RoundEnds
 pub mod RunStarts
+pub mod TypedInputs

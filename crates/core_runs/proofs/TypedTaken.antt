@@ -29,7 +29,7 @@ use Rattle.core_runs.specs.inner.Reading.{MayCome, later_of}
 use Rattle.core_runs.specs.inner.Standing.{IsPieceAt}
 use Rattle.core_runs.specs.inner.Gatherings.{AreTakenTyped}
 
-values_typed : (types : Types) (ty : Ty) (lines : List (List ℕ)) (values : List Value) → AllZip (HoldsValue types ty) lines values
+pub values_typed : (types : Types) (ty : Ty) (lines : List (List ℕ)) (values : List Value) → AllZip (HoldsValue types ty) lines values
     → list_all (is_value types ty) values ≡ true
 values_typed types ty lines [] texts = refl
 values_typed types ty [] (value ∷ values) texts = absurd texts

@@ -15,18 +15,16 @@ use Rattle.program_check.specs.Refused.{IsRefusedFor, line_of_declaration}
 use Rattle.program_check.proofs.Phases.{check_phase}
 use Rattle.hume_front.specs.Accepted as front
 use Rattle.hume_front.specs.Accepted.{BreaksCore, BreaksProgram}
-use Rattle.hume_front.proofs.CoreRules.{wires_phase, handlers_phase}
+use Rattle.hume_front.proofs.CoreRules.{wires_phase, handlers_phase, costs_phase}
 use Rattle.hume_front.proofs.Lines.{line_is}
+
+above : (p m : ℕ) → p ≡ m → 7 < m → 7 < p
+above p m e h = omega (arith, e, h)
 
 core_phase : (core : Core) (f : Finding) → BreaksCore core f → 7 < phase_of f.rule
 core_phase core f (front.wires x) = above (phase_of f.rule) 8 (wires_phase core f x) (omega arith)
-  where
-    above : (p m : ℕ) → p ≡ m → 7 < m → 7 < p
-    above p m e h = omega arith
 core_phase core f (front.handlers x) = above (phase_of f.rule) 9 (handlers_phase core f x) (omega arith)
-  where
-    above : (p m : ℕ) → p ≡ m → 7 < m → 7 < p
-    above p m e h = omega arith
+core_phase core f (front.costs x) = above (phase_of f.rule) 10 (costs_phase core f x) (omega arith)
 
 module _ (text : List ℕ) (program : Program) where
   abbrev InCore : Finding → Type 0

@@ -9,6 +9,7 @@ use Rattle.hume_model.specs.declared.core_tree.Core.{Core}
 use Rattle.hume_model.specs.Handling.{HandlesAll}
 use Rattle.hume_model.specs.WellFormed.{HasSoundFrame, IsWellFormed}
 use Rattle.hume_model.specs.Wiring.{IsWired, WiresAgree}
+use Rattle.box_costs.specs.CostRules.{BreaksCosts}
 use Rattle.hume_check.specs.CheckRules.{BreaksCheck}
 use Rattle.hume_check.specs.CoreOf.{IsCoreOf}
 use Rattle.hume_check.specs.OfTokens.{IsOfTokens}
@@ -25,7 +26,7 @@ use Rattle.hume_front.specs.inner.Checked.{IsCoreError}
 use Rattle.hume_front.specs.declared.acceptance.FrontError.{FrontError}
 use Rattle.hume_front.specs.declared.acceptance.FrontError.TheVariants.{Refused, NoMemory}
 use Rattle.hume_front.specs.declared.acceptance.Accepted.{Accepted}
-use Rattle.hume_front.proofs.CoreRules.{fine_wires, fine_handlers}
+use Rattle.hume_front.proofs.CoreRules.{fine_wires, fine_handlers, fine_costs}
 use Rattle.hume_front.proofs.OneProgram.{one_program}
 use Rattle.hume_front.proofs.ProgramRules.{refused_core}
 
@@ -63,6 +64,9 @@ module _ (text : List ℕ) (accepted : Accepted) (h : IsAccepted text accepted) 
   wired =
       let wires = fine_wires accepted.core fine_core in
       (are_wired accepted.core wires, wires_agree accepted.core wires formed.frame.wires)
+
+  pub within : IsLeast (BreaksCosts accepted.core) None
+  within = fine_costs accepted.core fine_core
 
   pub handled : (n : ℕ) (b : BoxC) → slice_get accepted.core.nodes n ≡ Some (Rules b) → HandlesAll accepted.core b
   handled n b at = handles_all accepted.core formed (fine_handlers accepted.core fine_core) n b at

@@ -19,18 +19,21 @@ use Rattle.hume_parse.specs.Parsing.{IsWrongPlace}
 use Rattle.hume_model.specs.declared.core_tree.Core.{Core}
 use Rattle.hume_model.specs.WireRules.{BreaksWires}
 use Rattle.hume_model.specs.HandlerRules.{BreaksHandlers}
+use Rattle.box_costs.specs.CostRules.{BreaksCosts}
 use Rattle.hume_check.specs.CoreOf.{IsCoreOf}
 use Rattle.hume_check.specs.CheckRules.{BreaksCheck}
 use Rattle.wiring_check.specs.Wires.{IsWiringOf}
 use Rattle.program_check.specs.Refused.{IsRefusedFor}
+use Rattle.space_costs.specs.NodeCosts.{AreCosts}
 use Rattle.hume_front.specs.declared.acceptance.Accepted.{Accepted}
 use Rattle.hume_front.specs.declared.acceptance.FrontError.{FrontError}
 use Rattle.hume_front.specs.declared.acceptance.FrontError.TheVariants.{Refused, NoMemory}
 
--- what a core breaks: the rules on its wires, and those on exceptions
+-- what a core breaks: the rules on its wires, on exceptions, and on what its boxes may take
 pub data BreaksCore (core : Core) (f : Finding) : Type 0 where
   wires : BreaksWires core f → BreaksCore core f
   handlers : BreaksHandlers core f → BreaksCore core f
+  costs : BreaksCosts core f → BreaksCore core f
 
 -- what a program breaks, and what its core does
 pub data BreaksProgram (text : List ℕ) (program : Program) (f : Finding) : Type 0 where
@@ -61,12 +64,14 @@ pub record IsProgramOf (text : List ℕ) (program : Program) : Type 0 where
   pub read : IsRead text tokens
   pub spelled : StandsFor tokens program
 
--- The source has a program that breaks no rule, the program's core, and the wires of the core's inputs and outputs.
+-- The source has a program that breaks no rule, the program's core, the wires of the core's inputs and outputs, and the most
+-- that each of its nodes may take.
 pub record IsAccepted (text : List ℕ) (accepted : Accepted) : Type 0 where
   pub program : IsProgramOf text accepted.program
   pub fine : IsLeast (BreaksProgram text accepted.program) None
   pub core : IsCoreOf text accepted.program accepted.core
   pub wiring : IsWiringOf accepted.core accepted.wiring
+  pub costs : AreCosts accepted.core accepted.costs
 
 -- The least rule that the source breaks: it is too long; or else its first bad place is one of the lexer's; or else its
 -- tokens stand for no program; or else the least of the rules that its program breaks.

@@ -12,6 +12,7 @@ use hume_base::{Refusal, Rule, Token};
 use hume_lex::lex;
 use hume_model::Core;
 use hume_parse::parse;
+use space_costs::Costs;
 use std::alloc::{AllocError, Global};
 use thiserror::Error;
 use wiring_check::Wiring;
@@ -23,6 +24,8 @@ pub struct Accepted {
     pub core: Core,
     /// The wires of the core's inputs and outputs.
     pub wiring: Wiring,
+    /// The most that an execute step of each node may take.
+    pub costs: Costs,
 }
 
 /// Why a source isn't accepted.
@@ -77,10 +80,17 @@ fn accept_program(alloc: Global, text: &[u8], program: Program) -> Result<Accept
     ensures error { IfErr result (IsUnaccepted text.now) }
 {
     match check_program(alloc, text, &program) {
-        Ok(Checked { core, wiring }) => Ok(Accepted {
+        Ok(
+            Checked {
+                core,
+                wiring,
+                costs,
+            },
+        ) => Ok(Accepted {
             program,
             core,
             wiring,
+            costs,
         }),
         Err(error) => Err(error),
     }

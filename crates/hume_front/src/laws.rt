@@ -1,11 +1,13 @@
 //! Laws of the definitions, as contracts of functions that do nothing.
-ghost use Rattle.std.specs.Prelude.{◌≡◌, ℕ, List, Some, slice_get};
+ghost use Rattle.std.specs.Prelude.{◌≡◌, ℕ, List, Some, None, slice_get};
+ghost use Rattle.hume_base.specs.Least.{IsLeast};
 ghost use Rattle.hume_ast.specs.declared.tree.Program.{Program};
 ghost use Rattle.hume_model.specs.declared.core_tree.BoxC.{BoxC};
 ghost use Rattle.hume_model.specs.declared.core_tree.NodeC.TheVariants.{Rules};
 ghost use Rattle.hume_model.specs.Handling.{HandlesAll};
 ghost use Rattle.hume_model.specs.WellFormed.{IsWellFormed};
 ghost use Rattle.hume_model.specs.Wiring.{IsWired, WiresAgree};
+ghost use Rattle.box_costs.specs.CostRules.{BreaksCosts};
 ghost use Rattle.hume_front.specs.declared.acceptance.Accepted.{Accepted};
 ghost use Rattle.hume_front.specs.Accepted.{IsProgramOf, IsAccepted};
 
@@ -16,10 +18,11 @@ pub fn one_program()
 {}
 
 /// The core of an accepted source is well-formed, each of its inputs and outputs has one wire between equal types, and its
-/// boxes handle all that they raise.
+/// boxes handle all that they raise and may take no more than is allowed.
 pub fn accepted_cores_are_sound()
     ensures formed { (text : List ℕ) (accepted : Accepted) → IsAccepted text accepted → IsWellFormed accepted.core }
     ensures wired { (text : List ℕ) (accepted : Accepted) → IsAccepted text accepted → IsWired accepted.core × WiresAgree accepted.core }
     ensures handled { (text : List ℕ) (accepted : Accepted) → IsAccepted text accepted
         → (n : ℕ) (b : BoxC) → slice_get accepted.core.nodes n ≡ Some (Rules b) → HandlesAll accepted.core b }
+    ensures within { (text : List ℕ) (accepted : Accepted) → IsAccepted text accepted → IsLeast (BreaksCosts accepted.core) None }
 {}

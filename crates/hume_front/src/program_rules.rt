@@ -7,21 +7,23 @@ ghost use Rattle.hume_front.specs.Accepted.{IsProgramOf, IsUnaccepted};
 ghost use Rattle.hume_front.specs.inner.Checked.{IsChecked};
 
 use crate::acceptance::FrontError;
-use crate::core_rules::check_core;
+use crate::core_rules::{CoreParts, check_core};
 use hume_ast::Program;
 use hume_model::Core;
 use program_check::{CheckError, check};
+use space_costs::Costs;
 use std::alloc::Global;
 use wiring_check::Wiring;
 
-/// The core of a program, and the wires of its inputs and outputs.
+/// The core of a program, the wires of its inputs and outputs, and the most that each node may take.
 #[derive(Drop)]
 pub(crate) struct Checked {
     pub(crate) core: Core,
     pub(crate) wiring: Wiring,
+    pub(crate) costs: Costs,
 }
 
-/// The core of the program of a source and its wiring, if the program breaks no rule.
+/// The core of the program of a source with its wiring and its costs, if the program breaks no rule.
 pub(crate) fn check_program(
     alloc: Global,
     text: &[u8],
@@ -32,13 +34,13 @@ pub(crate) fn check_program(
     ensures error { IfErr result (IsUnaccepted text.now) }
 {
     match check(alloc, program, text) {
-        Ok(core) => with_wiring(alloc, text, program, core),
+        Ok(core) => with_parts(alloc, text, program, core),
         Err(CheckError::Refused(refusal)) => Err(FrontError::Refused(refusal)),
         Err(CheckError::NoMemory) => Err(FrontError::NoMemory),
     }
 }
 
-fn with_wiring(
+fn with_parts(
     alloc: Global,
     text: &[u8],
     program: &Program,
@@ -51,7 +53,11 @@ fn with_wiring(
     ensures error { IfErr result (IsUnaccepted text.now) }
 {
     match check_core(alloc, &core) {
-        Ok(wiring) => Ok(Checked { core, wiring }),
+        Ok(CoreParts { wiring, costs }) => Ok(Checked {
+            core,
+            wiring,
+            costs,
+        }),
         Err(error) => Err(error),
     }
 }

@@ -1,19 +1,19 @@
 -- A call that goes on after reads that have not failed ends as it would end from its start.
-use Rattle.std.proofs.Common.{◌≡◌, ℕ, Bool, true, false, ◌||◌, List, [], ◌∷◌, ◌++◌, take, refl, ◌∙◌, inl, inr}
+use Rattle.std.proofs.Common.{◌≡◌, ℕ, Bool, true, false, ◌||◌, List, [], ◌∷◌, ◌++◌, take, Option, refl, ◌∙◌, inl, inr}
+use Rattle.std.specs.Option.{MatchOption}
 use Rattle.std.specs.Str.{bytes_eq}
 use Rattle.hume_ports.specs.Port.{PortView}
 use Rattle.hume_ports.specs.Ports.{is_among, Untouched}
-use Rattle.hume_ports.specs.Delivery.{Pairs, Progress, ReadFailure, Roomy, SameFaults}
+use Rattle.hume_ports.specs.Delivery.{Pairs, Progress, SameFaults}
 use Rattle.hume_ports.proofs.Progress.{Delivered-on, Failure-on}
-use Rattle.hume_ports.proofs.Rooms.{Roomy-on, Roomy-nothing}
+use Rattle.hume_ports.proofs.Rooms.{Roomy-on}
 use Rattle.hume_ports.proofs.Untouched.{Untouched-on, Untouched-among}
 use Rattle.hume_run.specs.declared.status.Status.{Status}
-use Rattle.hume_run.specs.declared.status.Status.TheVariants.{Fault, NoMemory}
-use Rattle.hume_run.specs.Owed.{Owed}
-use Rattle.hume_run.specs.Headline.{Ends, Fails, FailedRead, FailedWrite, FailedFinish}
-use Rattle.hume_run.proofs.Ending.{ends_failed, ends_without_memory}
+use Rattle.hume_run.specs.declared.status.Status.TheVariants.{Fault}
+use Rattle.hume_run.specs.Owed.{CoreRun, Owed}
+use Rattle.hume_run.specs.Headline.{Ends, Fails, FailedRead, FailedInput, FailedWrite, FailedFinish}
 
-pub read_after : (reads : List (List ℕ)) (olds mids news : List PortView) (taken : Pairs) → Progress olds mids taken []
+abbrev pub read_after : (reads : List (List ℕ)) (olds mids news : List PortView) (taken : Pairs) → Progress olds mids taken []
     → FailedRead reads mids news → FailedRead reads olds news
 read_after reads olds mids news taken p f = record {
   name = f.name;
@@ -41,21 +41,26 @@ finish_after finishes writes olds mids news taken p f = record {
   failure = Failure-on (λ port. port.finish_faults) f.name olds mids news taken f.taken [] writes p p.same_faults.finishes f.failure;
 }
 
-fails_after : (owed : Owed) (olds mids news : List PortView) (taken : Pairs) → Progress olds mids taken [] → Fails owed mids news → Fails owed olds news
-fails_after owed olds mids news taken p (inl f) = inl (read_after owed.reads olds mids news taken p f)
-fails_after owed olds mids news taken p (inr (inl f)) = inr (inl (write_after owed.writes olds mids news taken p f))
-fails_after owed olds mids news taken p (inr (inr f)) = inr (inr (finish_after owed.finishes owed.writes olds mids news taken p f))
+-- A failed read of a run's input before is one since then.
+abbrev pub ReadsOn : Option CoreRun → List PortView → List PortView → List PortView → Type 0
+ReadsOn run olds mids news = MatchOption run ⊥ (λ run. FailedInput run mids news) → MatchOption run ⊥ (λ run. FailedInput run olds news)
+
+fails_after : (owed : Owed) (olds mids news : List PortView) (taken : Pairs) → Progress olds mids taken [] → ReadsOn owed.run olds mids news
+    → Fails owed mids news → Fails owed olds news
+fails_after owed olds mids news taken p on (inl f) = inl (on f)
+fails_after owed olds mids news taken p on (inr (inl f)) = inr (inl (write_after owed.writes olds mids news taken p f))
+fails_after owed olds mids news taken p on (inr (inr f)) = inr (inr (finish_after owed.finishes owed.writes olds mids news taken p f))
 
 pub quiet_after : (olds mids news : List PortView) → SameFaults olds mids → SameFaults mids news → SameFaults olds news
 quiet_after olds mids news p q = record { reads = q.reads ∙ p.reads; writes = q.writes ∙ p.writes; finishes = q.finishes ∙ p.finishes }
 
 pub ends_after : (owed : Owed) (olds mids news : List PortView) (status : Status) (taken : Pairs) → Progress olds mids taken []
-    → Untouched (owed.reads ++ owed.finishes) olds mids → Ends owed mids news status → Ends owed olds news status
-ends_after owed olds mids news status taken p untouched e = record {
+    → ReadsOn owed.run olds mids news → Untouched (owed.reads ++ owed.finishes) olds mids → Ends owed mids news status → Ends owed olds news status
+ends_after owed olds mids news status taken p on untouched e = record {
   answer = e.answer;
   bytes = λ a. Delivered-on olds mids news [] owed.writes p.delivered p.same_names (e.bytes a);
   flushed = e.flushed;
-  fault = λ f. fails_after owed olds mids news taken p (e.fault f);
+  fault = λ f. fails_after owed olds mids news taken p on (e.fault f);
   quiet = λ other. quiet_after olds mids news p.same_faults (e.quiet other);
   complete = λ roomy. e.complete (Roomy-on olds mids taken [] owed.writes p roomy);
   memory = λ m. Delivered-on olds mids news [] [] p.delivered p.same_names (e.memory m);
@@ -75,15 +80,3 @@ among-front name (x ∷ xs) ys h = among-or (bytes_eq name x) (is_among name xs)
 
 pub read_touched : (owed : Owed) (olds news : List PortView) (name : List ℕ) → is_among name owed.reads ≡ true → Untouched (name ∷ []) olds news → Untouched (owed.reads ++ owed.finishes) olds news
 read_touched owed olds news name reads untouched = Untouched-among olds news name (owed.reads ++ owed.finishes) (among-front name owed.reads owed.finishes reads) untouched
-
--- a read of one of the ports that are read failed
-pub ends_unread : (owed : Owed) (olds news : List PortView) (name : List ℕ) (taken : Pairs) → is_among name owed.reads ≡ true → ReadFailure name olds news taken []
-    → (Roomy olds [] → ⊥) → Untouched (name ∷ []) olds news → Ends owed olds news Fault
-ends_unread owed olds news name taken reads failure no_room untouched =
-    ends_failed owed olds news (inl (record { name = name; is_read = reads; taken = taken; failure = failure }))
-    (λ roomy. no_room (Roomy-nothing olds owed.writes roomy)) (read_touched owed olds news name reads untouched)
-
--- memory was refused after reads of one of them
-pub ends_unstarted : (owed : Owed) (olds news : List PortView) (name : List ℕ) (taken : Pairs) → is_among name owed.reads ≡ true → Progress olds news taken []
-    → Untouched (name ∷ []) olds news → Ends owed olds news NoMemory
-ends_unstarted owed olds news name taken reads p untouched = ends_without_memory owed olds news taken p (read_touched owed olds news name reads untouched)

@@ -15,8 +15,8 @@ use Rattle.hume_run.specs.Owed.{Owed}
 use Rattle.hume_run.specs.Headline.{Ends, FailedWrite, FailedFinish}
 use Rattle.gathered_writes.specs.Places.{name_at}
 use Rattle.hume_run.specs.inner.Places.{names_at}
-use Rattle.gathered_writes.specs.Gathered.{pairs_of, writes_of}
-use Rattle.hume_run.specs.inner.Reports.{IsReport}
+use Rattle.gathered_writes.specs.Gathered.{pairs_of}
+use Rattle.hume_run.specs.inner.Reports.{IsReport, all_writes}
 use Rattle.hume_run.proofs.Ending.{ends_failed, ends_answered, more_touched}
 
 -- what the writes of lines leave of the ports
@@ -36,9 +36,9 @@ as_failed_write writes olds news f = record {
 }
 
 pub settle_write_failed : (owed : Owed) (olds news : List PortView) (report : Report) → IsReport owed (names olds) report
-    → FailedWrite (pairs_of (names olds) (writes_of report.writes)) olds news
-    → (Roomy olds (pairs_of (names olds) (writes_of report.writes)) → false ≡ true)
-    → TouchesLines olds news (writes_of report.writes) → Ends owed olds news Fault
+    → FailedWrite (pairs_of (names olds) (all_writes report)) olds news
+    → (Roomy olds (pairs_of (names olds) (all_writes report)) → false ≡ true)
+    → TouchesLines olds news (all_writes report) → Ends owed olds news Fault
 settle_write_failed owed olds news report is failed no_room touches =
     let F : Pairs → Type 0 = λ pairs. FailedWrite pairs olds news in
     let R : Pairs → Type 0 = λ pairs. Roomy olds pairs in
@@ -48,7 +48,7 @@ settle_write_failed owed olds news report is failed no_room touches =
 
 -- the lines first, and then the finishes
 both_touched : (owed : Owed) (olds mids news : List PortView) (report : Report) → IsReport owed (names olds) report → names mids ≡ names olds
-    → TouchesLines olds mids (writes_of report.writes) → Untouched (names_at (names mids) report.finishes.items) mids news
+    → TouchesLines olds mids (all_writes report) → Untouched (names_at (names mids) report.finishes.items) mids news
     → Untouched (owed.reads ++ owed.finishes) olds news
 both_touched owed olds mids news report is same touches finished =
     let named : names_at (names mids) report.finishes.items ≡ owed.finishes = ap (λ ns. names_at ns report.finishes.items) same ∙ is.finishes in
@@ -57,10 +57,10 @@ both_touched owed olds mids news report is same touches finished =
     (Untouched-on owed.finishes olds mids news (touches owed.finishes is.among) same (subst U named finished))
 
 pub settle_finish_failed : (owed : Owed) (olds mids news : List PortView) (report : Report) → IsReport owed (names olds) report
-    → Progress olds mids [] (pairs_of (names olds) (writes_of report.writes))
+    → Progress olds mids [] (pairs_of (names olds) (all_writes report))
     → FailedFinish (names_at (names mids) report.finishes.items) [] mids news
     → (Roomy mids [] → false ≡ true)
-    → TouchesLines olds mids (writes_of report.writes) → Untouched (names_at (names mids) report.finishes.items) mids news
+    → TouchesLines olds mids (all_writes report) → Untouched (names_at (names mids) report.finishes.items) mids news
     → Ends owed olds news Fault
 settle_finish_failed owed olds mids news report is written failed no_room touches finished =
     let named : names_at (names mids) report.finishes.items ≡ owed.finishes = ap (λ ns. names_at ns report.finishes.items) written.same_names ∙ is.finishes in
@@ -80,16 +80,16 @@ settle_finish_failed owed olds mids news report is written failed no_room touche
     (both_touched owed olds mids news report is written.same_names touches finished)
 
 pub settle_done : (owed : Owed) (olds mids news : List PortView) (report : Report) → IsReport owed (names olds) report
-    → Progress olds mids [] (pairs_of (names olds) (writes_of report.writes))
+    → Progress olds mids [] (pairs_of (names olds) (all_writes report))
     → Progress mids news [] []
     → All (λ at. flushed_of (name_at (names mids) at) news ≡ true) report.finishes.items
-    → TouchesLines olds mids (writes_of report.writes) → Untouched (names_at (names mids) report.finishes.items) mids news
+    → TouchesLines olds mids (all_writes report) → Untouched (names_at (names mids) report.finishes.items) mids news
     → Ends owed olds news report.status
 settle_done owed olds mids news report is written quiet flushed touches finished =
     let named : names_at (names mids) report.finishes.items ≡ owed.finishes = ap (λ ns. names_at ns report.finishes.items) written.same_names ∙ is.finishes in
     let P : Pairs → Type 0 = λ pairs. Progress olds news [] pairs in
     let F : List (List ℕ) → Type 0 = λ ns. All (λ name. flushed_of name news ≡ true) ns in
     ends_answered owed olds news report.status [] is.status is.answer
-    (subst P (append-nil (pairs_of (names olds) (writes_of report.writes)) ∙ is.writes) (Progress-on olds mids news [] [] (pairs_of (names olds) (writes_of report.writes)) [] written quiet))
+    (subst P (append-nil (pairs_of (names olds) (all_writes report)) ∙ is.writes) (Progress-on olds mids news [] [] (pairs_of (names olds) (all_writes report)) [] written quiet))
     (subst F named (All-map (λ name. flushed_of name news ≡ true) (name_at (names mids)) report.finishes.items flushed))
     (both_touched owed olds mids news report is written.same_names touches finished)

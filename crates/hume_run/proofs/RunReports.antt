@@ -4,6 +4,8 @@ use Rattle.std.proofs.Common.{Vec, Global}
 use Rattle.std.specs.List.{All, filter_map}
 use Rattle.std.specs.Option.{is_some}
 use Rattle.std.specs.Str.{bytes_eq}
+use Rattle.std.proofs.lemmas.List.{map-append}
+use Rattle.std.proofs.lemmas.List.Elements.{All-append}
 use Rattle.std.proofs.lemmas.List.Folds.{list_any-append}
 use Rattle.hume_model.specs.declared.core_tree.NodeC.{NodeC}
 use Rattle.hume_model.specs.declared.core_tree.NodeC.TheVariants.{Rules, From, To}
@@ -25,9 +27,11 @@ use Rattle.core_runs.specs.Destinations.{GoToOutputsOr, IsOutputPlace}
 use Rattle.hume_run.specs.declared.report.Report.{Report}
 use Rattle.hume_run.specs.declared.status.Status.{Status}
 use Rattle.hume_run.specs.Statuses.{IsAnswer}
-use Rattle.hume_run.specs.Owed.{owed_run, run_finishes, run_status}
-use Rattle.hume_run.specs.inner.CoreRuns.{end_status}
-use Rattle.hume_run.specs.inner.Reports.{IsReport}
+use Rattle.gathered_writes.specs.declared.writes.Writes.{Writes}
+use Rattle.hume_run.specs.Owed.{run_finishes, run_status, table_writes}
+use Rattle.hume_run.specs.inner.CoreRuns.{end_status, owed_outputs}
+use Rattle.hume_run.specs.inner.Reports.{IsReport, all_writes}
+use Rattle.hume_run.proofs.Tables.{table_at, table_pairs, table_placed, table_among}
 
 -- a run whose result is known
 pub run_as : (core : Core) (steps : ℕ) (olds news : List PortView) (result other : Result RunEnd RunError) → result ≡ other → EndsRun core SPAN steps olds news result
@@ -89,25 +93,34 @@ write_placed core ns places out at are last (inr same) = (
 pub run_reports : (core : Core) (steps out : ℕ) (places : List ℕ) (olds mids : List PortView) (end : RunEnd) (report : Report) → ArePlacesOf core (names olds) places
     → IsPlaceOf std_out (names olds) out → names mids ≡ names olds
     → (runs : RunsTo core SPAN steps olds mids (pairs_of (names olds) (writes_of end.writes)) end.blocked) → GoToOutputsOr core places out (writes_of end.writes)
-    → (finishes : Vec ℕ Global) → report ≡ record { status = end_status end.blocked; writes = end.writes; finishes = finishes }
+    → (table : Writes) → writes_of table ≡ table_at core out
+    → (finishes : Vec ℕ Global) → report ≡ record { status = end_status end.blocked; table = table; writes = end.writes; finishes = finishes }
     → ((ns : List (List ℕ)) → ArePlacesOf core ns places → IsPlaceOf std_out ns out → (names_at ns finishes.items ≡ run_finishes core) × All (IsPlace ns) finishes.items)
-    → (source : List ℕ) → IsReport (owed_run steps source core runs.inputs) (names mids) report
-run_reports core steps out places olds mids end report are last same runs goes finishes is finished_by source =
+    → (source : List ℕ) → IsReport (owed_outputs steps source core runs.inputs) (names mids) report
+run_reports core steps out places olds mids end report are last same runs goes table tabled finishes is finished_by source =
     let status : report.status ≡ end_status end.blocked = ap (λ (r : Report). r.status) is in
     let writes : report.writes ≡ end.writes = ap (λ (r : Report). r.writes) is in
     let now_are = subst (λ ns. ArePlacesOf core ns places) (sym same) are in
     let now_last = subst (λ ns. IsPlaceOf std_out ns out) (sym same) last in
     let finished = subst (λ (r : Report). (names_at (names mids) r.finishes.items ≡ run_finishes core) × All (IsPlace (names mids)) r.finishes.items) (sym is)
     (finished_by (names mids) now_are now_last) in
-    let these : writes_of report.writes ≡ writes_of end.writes = ap writes_of writes in
+    let lines : writes_of report.table ≡ table_at core out = ap (λ (r : Report). writes_of r.table) is ∙ tabled in
+    let these : all_writes report ≡ table_at core out ++ writes_of end.writes = ap (λ ws. ws ++ writes_of report.writes) lines ∙ ap (λ ws. table_at core out ++ ws) (ap writes_of writes) in
+    let on_out = table_among core (names mids) out now_last (run_finishes core) (last_among core) in
     record {
       status = status ∙ same_status (blocked_round core runs.inputs SPAN steps) end.blocked runs.blocks;
       answer = subst IsAnswer (sym status) (answers end.blocked);
-      writes = ap (pairs_of (names mids)) these ∙ ap (λ ns. pairs_of ns (writes_of end.writes)) same ∙ runs.owes;
+      writes =
+          ap (pairs_of (names mids)) these
+          ∙ map-append (λ (write : ℕ × List ℕ). (name_at (names mids) write.0, write.1)) (table_at core out) (writes_of end.writes)
+          ∙ ap (λ ps. ps ++ pairs_of (names mids) (writes_of end.writes)) (table_pairs core (names mids) out now_last)
+          ∙ ap (λ ps. table_writes core ++ ps) (ap (λ ns. pairs_of ns (writes_of end.writes)) same ∙ runs.owes);
       finishes = finished.0;
       lines = subst (λ ws. All (λ (write : ℕ × List ℕ). IsPlace (names mids) write.0) ws) (sym these)
-          (λ k d less. (write_placed core (names mids) places out (get_or (writes_of end.writes) k d).0 now_are now_last (goes k d less)).0);
+          (All-append (λ (write : ℕ × List ℕ). IsPlace (names mids) write.0) (table_at core out) (writes_of end.writes) (table_placed core (names mids) out now_last)
+          (λ k d less. (write_placed core (names mids) places out (get_or (writes_of end.writes) k d).0 now_are now_last (goes k d less)).0));
       places = finished.1;
       among = subst (λ ws. All (λ (write : ℕ × List ℕ). is_among (name_at (names mids) write.0) (run_finishes core) ≡ true) ws) (sym these)
-          (λ k d less. (write_placed core (names mids) places out (get_or (writes_of end.writes) k d).0 now_are now_last (goes k d less)).1);
+          (All-append (λ (write : ℕ × List ℕ). is_among (name_at (names mids) write.0) (run_finishes core) ≡ true) (table_at core out) (writes_of end.writes) on_out
+          (λ k d less. (write_placed core (names mids) places out (get_or (writes_of end.writes) k d).0 now_are now_last (goes k d less)).1));
     }

@@ -1,10 +1,11 @@
--- The core of an accepted source can be run.
+-- The core of an accepted source can be run, and keeps its bounds.
 use Rattle.std.proofs.Common.{ℕ, List}
 use Rattle.hume_front.specs.Accepted as front
 use Rattle.hume_front.specs.Accepted.{IsAccepted}
 use Rattle.hume_front.specs.declared.acceptance.Accepted.{Accepted}
-use Rattle.hume_front.proofs.Sources.{formed, wired}
+use Rattle.hume_front.proofs.Sources.{formed, wired, within}
 use Rattle.net_engine.specs.Runnable.{IsRunnable}
+use Rattle.hume_run.specs.inner.Bounds.{KeepsBounds}
 use Rattle.printable_cores.proofs.NamedConstructors.{have_names}
 use Rattle.printable_cores.proofs.Printable.{printable}
 
@@ -18,3 +19,6 @@ runnable text accepted h =
       names = have_names text h.program.tokens accepted.program accepted.core h.program.read h.program.spelled (λ f b. h.fine f (front.check b)) h.core;
       printable = printable accepted.core (formed text accepted h);
     }
+
+pub bounded : (text : List ℕ) (accepted : Accepted) → IsAccepted text accepted → KeepsBounds accepted.core accepted.costs
+bounded text accepted h = record { frame = (formed text accepted h).frame; are = h.costs; within = within text accepted h }

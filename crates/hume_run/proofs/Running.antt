@@ -27,8 +27,9 @@ use Rattle.hume_run.specs.declared.order.Order.TheVariants.{Run, Check}
 use Rattle.hume_run.specs.Streams.{unfit_line}
 use Rattle.hume_run.specs.Owed.{Owed, IsRefusal, broken, unfit, IsOwed, owed_run, owed_refused, owed_accepted, run_finishes}
 use Rattle.hume_run.specs.Headline.{Ends, EndsEarly, FailedRead, Answers, AnswersFrom, source_text}
-use Rattle.hume_run.specs.inner.CoreRuns.{RunsCore}
+use Rattle.hume_run.specs.inner.CoreRuns.{RunsCore, owed_outputs}
 use Rattle.hume_run.proofs.Ending.{ends_failed, ends_without_memory}
+use Rattle.hume_run.proofs.InputReads.{reads_on}
 use Rattle.hume_run.proofs.Phases.{read_after, quiet_after, ends_after, read_touched}
 use Rattle.hume_run.proofs.Texts.{told_texts, told_by_all}
 
@@ -37,13 +38,6 @@ pub meant : (name : List ℕ) (ns : List (List ℕ)) (at : ℕ) → IsPlaceOf na
 meant name ns at p = let P : List ℕ → Type 0 = λ n. place_of n ns ≡ Some at in subst P p.named p.place.first
 
 -- the run of an accepted source
-
-or-true : (b : Bool) → (b || true) ≡ true
-or-true true = refl
-or-true false = refl
-
-among_later : (name first : List ℕ) (others : List (List ℕ)) → is_among name others ≡ true → is_among name (first ∷ others) ≡ true
-among_later name first others is = ap (λ b. bytes_eq name first || b) is ∙ or-true (bytes_eq name first)
 
 inputs_within : (source : List ℕ) (ins fins : List (List ℕ)) → Within ins ((source ∷ ins) ++ fins)
 inputs_within source ins fins name out =
@@ -69,7 +63,12 @@ run_unread steps core olds news failing untouched =
       coming = fails.inputs;
       are = fails.are;
       ends = λ source. ends_failed (owed_run steps source core fails.inputs) olds news
-          (inl (record { name = fails.name; is_read = among_later fails.name source (ports_of (inputs core)) fails.is_input; taken = fails.taken; failure = fails.failure }))
+          (inl (record {
+            read = record { name = fails.name; is_read = fails.is_input; taken = fails.taken; failure = fails.failure };
+            round = failing.round;
+            is = failing.is;
+            few = fails.few;
+          }))
           (λ roomy. fails.no_room (Roomy-nothing olds (owed_run steps source core fails.inputs).writes roomy))
           (inputs_touched steps source core fails.inputs olds news untouched);
     }
@@ -88,17 +87,33 @@ run_unstarted steps core olds news some reads untouched =
           (inputs_touched steps source core coming.0 olds news untouched);
     }
 
+-- with its inputs read, a run ends as it would by its outputs alone
+of_outputs : (steps : ℕ) (source : List ℕ) (core : Core) (coming : Inputs) (olds news : List PortView) (status : Status)
+    → Ends (owed_outputs steps source core coming) olds news status → Ends (owed_run steps source core coming) olds news status
+of_outputs steps source core coming olds news status e = record {
+  answer = e.answer;
+  bytes = e.bytes;
+  flushed = e.flushed;
+  fault = λ is. elim (e.fault is) [ inl none ↦ absurd none | inr later ↦ inr later ];
+  quiet = e.quiet;
+  complete = e.complete;
+  memory = e.memory;
+  untouched = e.untouched;
+  form = e.form;
+}
+
 -- the run's report was carried out
 pub run_settled : (steps : ℕ) (core : Core) (olds mids news : List PortView) (status : Status) (written : Pairs) (blocked : Bool)
     → (runs : RunsTo core SPAN steps olds mids written blocked) → Untouched (ports_of (inputs core)) olds mids
-    → ((source : List ℕ) → Ends (owed_run steps source core runs.inputs) mids news status) → RunsCore steps core olds news status
+    → ((source : List ℕ) → Ends (owed_outputs steps source core runs.inputs) mids news status) → RunsCore steps core olds news status
 run_settled steps core olds mids news status written blocked runs untouched ends = record {
   texts = runs.texts;
   told = runs.told;
   coming = runs.inputs;
   are = runs.are;
-  ends = λ source. (let owed = owed_run steps source core runs.inputs in
-      ends_after owed olds mids news status runs.taken runs.progress (inputs_touched steps source core runs.inputs olds mids untouched) (ends source));
+  ends = λ source. of_outputs steps source core runs.inputs olds news status
+      (ends_after (owed_outputs steps source core runs.inputs) olds mids news status runs.taken runs.progress (λ none. none)
+      (inputs_touched steps source core runs.inputs olds mids untouched) (ends source));
 }
 
 -- a call of an accepted source, or of a refused one
@@ -126,9 +141,9 @@ refused_answers order source text olds news status refusal breaks ends =
     owed_answers order source text olds news status (owed_refused source refusal) (broken_owed order source text (names olds) (told_texts olds) refusal breaks) (ends source)
 
 pub check_answers : (place : ℕ) (source text : List ℕ) (olds news : List PortView) (status : Status) (accepted : Accepted) → IsAccepted text accepted
-    → ((source : List ℕ) → Ends (owed_accepted source) olds news status) → Answers (Check place) source text olds news status
+    → ((source : List ℕ) → Ends (owed_accepted source accepted.core) olds news status) → Answers (Check place) source text olds news status
 check_answers place source text olds news status accepted is_accepted ends =
-    owed_answers (Check place) source text olds news status (owed_accepted source) (inr (accepted, is_accepted, refl)) (ends source)
+    owed_answers (Check place) source text olds news status (owed_accepted source accepted.core) (inr (accepted, is_accepted, refl)) (ends source)
 
 pub unfit_answers : (place steps : ℕ) (source text : List ℕ) (olds news : List PortView) (status : Status) (refusal : Refusal) (accepted : Accepted) (line : ℕ)
     → IsAccepted text accepted → unfit_line (names olds) source [] (streams accepted.core) ≡ Some line → refusal ≡ record { rule = C55; line = line }
@@ -173,6 +188,7 @@ answers_after order source text olds mids news status progress untouched answers
       owed = answers.owed;
       owes = subst N progress.same_names answers.owes;
       ends = ends_after answers.owed olds mids news status ((source, text) ∷ []) progress
+          (reads_on order source text (names mids) answers.texts answers.owed olds mids news answers.owes text progress)
           (read_touched answers.owed olds mids source (owed_reads order source text (names mids) answers.texts answers.owed answers.owes) untouched) answers.ends;
     }
 

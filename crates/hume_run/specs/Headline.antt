@@ -11,8 +11,11 @@ use Rattle.hume_run.specs.declared.status.Status.TheVariants.{Usage, Fault, NoMe
 use Rattle.hume_run.specs.Statuses.{IsAnswer}
 use Rattle.hume_run.specs.declared.order.Order.{Order}
 use Rattle.hume_run.specs.Words.{order_of, source_of}
-use Rattle.core_runs.specs.Streams.{std_out}
-use Rattle.hume_run.specs.Owed.{Owed, IsOwed}
+use Rattle.net_rounds.specs.Rounds.{IsRound, begins, length_of}
+use Rattle.core_runs.specs.declared.rounds.TheConstants.{SPAN}
+use Rattle.core_runs.specs.Runs.{HasTooFew}
+use Rattle.core_runs.specs.Streams.{std_out, inputs, ports_of}
+use Rattle.hume_run.specs.Owed.{CoreRun, Owed, IsOwed}
 
 -- The words have no form, or there is no port `std_out`, or none with the source's name.
 abbrev pub IsUsage : List (List ℕ) → List (List ℕ) → Type 0
@@ -25,6 +28,14 @@ pub record FailedRead (reads : List (List ℕ)) (old new : List PortView) : Type
   pub is_read : is_among name reads ≡ true
   pub taken : Pairs
   pub failure : ReadFailure name old new taken []
+
+-- A read of an input stream's port failed before a round of the run, from which fewer values had come than the stream had
+-- asserted and may need in the round. Nothing was written.
+pub record FailedInput (run : CoreRun) (old new : List PortView) : Type 0 where
+  pub read : FailedRead (ports_of (inputs run.core)) old new
+  pub round : ℕ
+  pub is : IsRound SPAN run.steps round
+  pub few : HasTooFew run.core run.coming (begins SPAN round) (length_of SPAN run.steps round) read.taken read.name
 
 -- One of these writes failed: those before it were made, and perhaps a front of its own bytes went out.
 pub record FailedWrite (writes : Pairs) (old new : List PortView) : Type 0 where
@@ -43,10 +54,10 @@ pub record FailedFinish (finishes : List (List ℕ)) (writes : Pairs) (old new :
   pub taken : Pairs
   pub failure : FinishFailure name old new taken writes
 
--- How a call that owes this may fail: at a read, a write or a finish.
+-- How a call that owes this may fail: at a read of an input of its run, if it has one, at a write or at a finish.
 abbrev pub Fails : Owed → List PortView → List PortView → Type 0
 Fails owed old new =
-    FailedRead owed.reads old new ⊎ (FailedWrite owed.writes old new ⊎ FailedFinish owed.finishes owed.writes old new)
+    MatchOption owed.run ⊥ (λ run. FailedInput run old new) ⊎ (FailedWrite owed.writes old new ⊎ FailedFinish owed.finishes owed.writes old new)
 
 -- What an answer says of a call that owes this.
 pub record Ends (owed : Owed) (old new : List PortView) (status : Status) : Type 0 where

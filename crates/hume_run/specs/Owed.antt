@@ -1,5 +1,5 @@
 -- What a call owes: its answer, the ports that it reads, what it writes to which ports, and the ports that it finishes.
-use Rattle.std.specs.Prelude.{◌≡◌, ◌⊎◌, ℕ, List, [], ◌∷◌, ◌++◌, Option, None, Some, codes, decimal}
+use Rattle.std.specs.Prelude.{◌≡◌, ◌⊎◌, ℕ, List, [], ◌∷◌, ◌++◌, map, Option, None, Some, codes, decimal}
 use Rattle.hume_base.specs.declared.rule.Refusal.{Refusal}
 use Rattle.hume_base.specs.declared.rule.Rule.TheVariants.{C55}
 use Rattle.hume_base.specs.Rules.{code_of}
@@ -12,11 +12,18 @@ use Rattle.core_runs.specs.declared.rounds.TheConstants.{SPAN}
 use Rattle.core_runs.specs.Streams.{std_out, streams, inputs, outputs, ports_of}
 use Rattle.core_runs.specs.Inputs.{Inputs, AreInputs}
 use Rattle.core_runs.specs.Writes.{writes, blocked_round}
+use Rattle.space_table.specs.Table.{space_table}
 use Rattle.hume_run.specs.declared.status.Status.{Status}
 use Rattle.hume_run.specs.declared.status.Status.TheVariants.{Done, Refused, BadValue}
 use Rattle.hume_run.specs.declared.order.Order.{Order}
 use Rattle.hume_run.specs.declared.order.Order.TheVariants.{Run, Check}
 use Rattle.hume_run.specs.Streams.{unfit_line}
+
+-- A run of a core for so many supersteps, with what comes to its nodes.
+pub record CoreRun : Type 0 where
+  pub steps : ℕ
+  pub core : Core
+  pub coming : Inputs
 
 -- each write as the name of its port and its bytes, in order; a name stands for the first port that has it
 pub record Owed : Type 0 where
@@ -24,6 +31,8 @@ pub record Owed : Type 0 where
   pub reads : List (List ℕ)
   pub writes : Pairs
   pub finishes : List (List ℕ)
+  -- whose input streams are read, if any are
+  pub run : Option CoreRun
 
 -- refusals
 
@@ -42,6 +51,7 @@ owed_refused source refusal = record {
   reads = source ∷ [];
   writes = (std_out, refused_line refusal) ∷ [];
   finishes = std_out ∷ [];
+  run = None;
 }
 
 -- a run
@@ -55,12 +65,17 @@ run_status (Some round) = BadValue
 abbrev pub run_finishes : Core → List (List ℕ)
 run_finishes core = other_names std_out (ports_of (outputs core)) ++ std_out ∷ []
 
+-- the table of bounds goes to `std_out`, each line by a write of its own
+abbrev pub table_writes : Core → Pairs
+table_writes core = map (λ line. (std_out, line)) (space_table core)
+
 abbrev pub owed_run : ℕ → List ℕ → Core → Inputs → Owed
 owed_run steps source core coming = record {
   status = run_status (blocked_round core coming SPAN steps);
   reads = source ∷ ports_of (inputs core);
-  writes = writes core coming SPAN steps;
+  writes = table_writes core ++ writes core coming SPAN steps;
   finishes = run_finishes core;
+  run = Some (record { steps = steps; core = core; coming = coming });
 }
 
 -- What a run of the source of that text owes, over ports of these names of which each has that text to read.
@@ -72,20 +87,21 @@ IsOwedRun steps source text names texts owed =
 
 -- a check
 
--- nothing is written
-abbrev pub owed_accepted : List ℕ → Owed
-owed_accepted source = record {
+-- the table alone
+abbrev pub owed_accepted : List ℕ → Core → Owed
+owed_accepted source core = record {
   status = Done;
   reads = source ∷ [];
-  writes = [];
+  writes = table_writes core;
   finishes = std_out ∷ [];
+  run = None;
 }
 
 -- What a check of the source of that text owes.
 abbrev pub IsOwedCheck : List ℕ → List ℕ → Owed → Type 0
 IsOwedCheck source text owed =
     ((refusal : Refusal) × Breaks text refusal × (owed ≡ owed_refused source refusal))
-    ⊎ ((accepted : Accepted) × IsAccepted text accepted × (owed ≡ owed_accepted source))
+    ⊎ ((accepted : Accepted) × IsAccepted text accepted × (owed ≡ owed_accepted source accepted.core))
 
 -- What the words ask for.
 abbrev pub IsOwed : Order → List ℕ → List ℕ → List (List ℕ) → (List ℕ → List ℕ) → Owed → Type 0

@@ -5,6 +5,7 @@ ghost use Rattle.hume_run.specs.Headline.{Ends, EndsEarly, Answers};
 ghost use Rattle.core_runs.specs.Streams.{std_out};
 ghost use Rattle.hume_run.specs.Owed.{owed_accepted};
 ghost use Rattle.gathered_writes.specs.Places.{IsPlaceOf};
+ghost use Rattle.hume_run.specs.inner.Bounds.{KeepsBounds};
 ghost use Rattle.hume_run.specs.inner.Reports.{IsReport};
 
 use crate::refuse::end_unaccepted;
@@ -13,7 +14,10 @@ use crate::settle::settle;
 use crate::status::Status;
 use gathered_writes::Writes;
 use hume_front::accept;
+use hume_model::Core;
 use hume_ports::Port;
+use space_costs::Costs;
+use space_table::gather_table;
 use std::alloc::{AllocError, Global};
 
 /// Says whether a source of that text is accepted. The port of the report is given by its place.
@@ -22,29 +26,43 @@ pub fn check_text(alloc: Global, ports: &mut [Box<dyn Port>], text: &[u8], out: 
     ensures { (place : ℕ) (source : List ℕ) → EndsEarly source (map view ports.old) (map view ports.new) result
         ⊎ Answers (Check place) source text.now (map view ports.old) (map view ports.new) result }
 {
-    match accept(alloc, text) {
-        Ok(_) => {}
+    let accepted = match accept(alloc, text) {
+        Ok(accepted) => accepted,
         Err(error) => return end_unaccepted(alloc, ports, out, error),
-    }
-    report_accepted(alloc, ports, out)
+    };
+    report_accepted(alloc, ports, &accepted.core, &accepted.costs, out)
 }
 
-fn report_accepted(alloc: Global, ports: &mut [Box<dyn Port>], out: usize) -> Status
-    requires { IsPlaceOf std_out (names (map view ports.old)) out }
-    ensures { (source : List ℕ) → Ends (owed_accepted source) (map view ports.old) (map view ports.new) result }
+fn report_accepted(
+    alloc: Global,
+    ports: &mut [Box<dyn Port>],
+    core: &Core,
+    costs: &Costs,
+    out: usize,
+) -> Status
+    requires bounds { KeepsBounds core.now costs.now }
+    requires out { IsPlaceOf std_out (names (map view ports.old)) out }
+    ensures { (source : List ℕ) → Ends (owed_accepted source core.now) (map view ports.old) (map view ports.new) result }
 {
-    match accepted_report(alloc, out) {
+    match accepted_report(alloc, core, costs, out) {
         Ok(report) => settle(ports, &report),
         Err(_) => Status::NoMemory,
     }
 }
 
-fn accepted_report(alloc: Global, out: usize) -> Result<Report, AllocError>
+fn accepted_report(
+    alloc: Global,
+    core: &Core,
+    costs: &Costs,
+    out: usize,
+) -> Result<Report, AllocError>
+    requires bounds { KeepsBounds core.now costs.now }
     ensures { IfOk result (λ report. (names : List (List ℕ)) → IsPlaceOf std_out names out
-        → (source : List ℕ) → IsReport (owed_accepted source) names report) }
+        → (source : List ℕ) → IsReport (owed_accepted source core.now) names report) }
 {
     Ok(Report {
         status: Status::Done,
+        table: gather_table(alloc, core, costs, out)?,
         writes: Writes::new(alloc),
         finishes: one_place(alloc, out)?,
     })

@@ -12,6 +12,7 @@ use crate::lines::refused_line;
 use crate::report::{Report, one_place, one_write};
 use crate::settle::settle;
 use crate::status::Status;
+use gathered_writes::Writes;
 use hume_base::Refusal;
 use hume_front::FrontError;
 use hume_ports::Port;
@@ -53,6 +54,7 @@ fn refusal_report(alloc: Global, out: usize, refusal: Refusal) -> Result<Report,
     let line = refused_line(alloc, refusal)?;
     Ok(Report {
         status: Status::Refused,
+        table: Writes::new(alloc),
         writes: one_write(alloc, out, &line)?,
         finishes: one_place(alloc, out)?,
     })

@@ -5,11 +5,12 @@ use crate::status::Status;
 use gathered_writes::Writes;
 use std::alloc::{AllocError, Global};
 
-/// What is left to do when nothing but a port can stop it: the writes in order, the places of the ports that are
-/// finished, and the answer.
+/// What is left to do when nothing but a port can stop it: the writes in order, those of the table of bounds first, the places
+/// of the ports that are finished, and the answer.
 #[derive(Drop)]
 pub struct Report {
     pub status: Status,
+    pub table: Writes,
     pub writes: Writes,
     pub finishes: Vec<usize>,
 }

@@ -6,6 +6,7 @@ ghost use Rattle.net_engine.specs.Runnable.{IsRunnable};
 ghost use Rattle.core_runs.specs.Streams.{ArePlacesOf, ArePortsApart, std_out};
 ghost use Rattle.hume_run.specs.declared.order.Order.TheVariants.{Run};
 ghost use Rattle.hume_run.specs.Headline.{EndsEarly, Answers};
+ghost use Rattle.hume_run.specs.inner.Bounds.{KeepsBounds};
 ghost use Rattle.hume_run.specs.inner.CoreRuns.{RunsCore, end_status};
 
 use crate::finishes::finish_places;
@@ -16,10 +17,13 @@ use crate::status::Status;
 use crate::streams::{PlacesError, find_places};
 use core_runs::{RunEnd, RunError, each_run_has_inputs, run_core};
 use evaluation_depth::{SAFE_DEPTH, SAFE_VALUE_DEPTH, evaluation_depth, value_depth};
+use gathered_writes::Writes;
 use hume_base::{Refusal, Rule};
 use hume_front::accept;
 use hume_model::Core;
 use hume_ports::Port;
+use space_costs::Costs;
+use space_table::gather_table;
 use std::alloc::{AllocError, Global};
 
 /// Runs a source of that text for so many supersteps. The port of the report is given by its place, and that of the
@@ -41,7 +45,15 @@ pub fn run_text(
         Err(error) => return end_unaccepted(alloc, ports, out, error),
     };
     match find_places(alloc, ports, &accepted.core, source) {
-        Ok(places) => run_accepted(alloc, ports, steps, &accepted.core, &places, out),
+        Ok(places) => run_accepted(
+            alloc,
+            ports,
+            steps,
+            &accepted.core,
+            &accepted.costs,
+            &places,
+            out,
+        ),
         Err(PlacesError::Unfit(line)) => refuse(alloc, ports, out, unfit_at(line)),
         Err(PlacesError::NoMemory) => Status::NoMemory,
     }
@@ -70,10 +82,12 @@ fn run_accepted(
     ports: &mut [Box<dyn Port>],
     steps: u32,
     core: &Core,
+    costs: &Costs,
     places: &[usize],
     out: usize,
 ) -> Status
     requires runnable { IsRunnable core.now }
+    requires bounds { KeepsBounds core.now costs.now }
     requires places { ArePlacesOf core.now (names (map view ports.old)) places.now }
     requires apart { ArePortsApart core.now }
     requires out { IsPlaceOf std_out (names (map view ports.old)) out }
@@ -83,18 +97,21 @@ fn run_accepted(
     let Ok(true) = is_shallow(alloc, core) else {
         return Status::NoMemory;
     };
+    let Ok(table) = gather_table(alloc, core, costs, out) else {
+        return Status::NoMemory;
+    };
     let Ok(finishes) = finish_places(alloc, core, places, out) else {
         return Status::NoMemory;
     };
     match run_core(alloc, core, steps, ports, places, out) {
-        Ok(end) => settle(ports, &run_report(end, finishes)),
+        Ok(end) => settle(ports, &run_report(end, table, finishes)),
         Err(RunError::Failed) => Status::Fault,
         Err(RunError::NoMemory) => Status::NoMemory,
     }
 }
 
-fn run_report(end: RunEnd, finishes: Vec<usize>) -> Report
-    ensures { result ≡ record { status = end_status end.blocked; writes = end.writes; finishes = finishes } }
+fn run_report(end: RunEnd, table: Writes, finishes: Vec<usize>) -> Report
+    ensures { result ≡ record { status = end_status end.blocked; table = table; writes = end.writes; finishes = finishes } }
 {
     let RunEnd { writes, blocked } = end;
     let status = if blocked {
@@ -104,6 +121,7 @@ fn run_report(end: RunEnd, finishes: Vec<usize>) -> Report
     };
     Report {
         status,
+        table,
         writes,
         finishes,
     }

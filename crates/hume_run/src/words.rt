@@ -2,10 +2,9 @@ ghost use Rattle.std.specs.Prelude.{◌≡◌, ◌<◌, ◌≤◌, length, map, 
 ghost use Rattle.hume_run.specs.Words.{order_of, number_of, run_of as asked_run, steps_of};
 ghost use Rattle.hume_run.specs.inner.Places.{source_place};
 
-use crate::limits::MAX_SUPERSTEPS;
 use crate::numbers::{is_number, value};
 use crate::order::Order;
-use hume_base::limits::MAX_WORKERS;
+use hume_base::limits::{MAX_SUPERSTEPS, MAX_WORKERS};
 
 /// The place of the source's name among the words of a run.
 const RUN_SOURCE: u32 = 3;

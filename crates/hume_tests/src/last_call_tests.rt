@@ -30,7 +30,10 @@ const SOURCE: &str = "p read\np read\np read\n";
 
 const INPUT: &str = "i read\ni read\n";
 
-const VALUES: &str = "o write\no write\n";
+// The table of bounds, with a line for the box and one for all.
+const TABLE: &str = "std_out write\nstd_out write\n";
+
+const TABLE_AND_VALUES: &str = "std_out write\nstd_out write\no write\no write\n";
 
 const ALL_FINISHED: &str = "o finish\nstd_out finish\n";
 
@@ -89,15 +92,15 @@ fn a_call_reads_then_writes_line_by_line_then_finishes_each_port_once(
     let two = b"1\n2\n";
     let mut no_steps = run(two, none);
     no_steps.words = "run 0 1 p i o";
-    let bad = "i read\nstd_out write\n";
+    let bad = "i read\nstd_out write\nstd_out write\nstd_out write\n";
     let report = "std_out write\nstd_out finish\n";
     let rows = [
         Row(
             run(two, none),
             Status::Done,
-            [SOURCE, INPUT, VALUES, ALL_FINISHED],
+            [SOURCE, INPUT, TABLE_AND_VALUES, ALL_FINISHED],
         ),
-        Row(no_steps, Status::Done, [SOURCE, ALL_FINISHED, "", ""]),
+        Row(no_steps, Status::Done, [SOURCE, TABLE, ALL_FINISHED, ""]),
         Row(
             run(b"x\n", none),
             Status::BadValue,
@@ -111,7 +114,7 @@ fn a_call_reads_then_writes_line_by_line_then_finishes_each_port_once(
         Row(
             check(none),
             Status::Done,
-            [SOURCE, "std_out finish\n", "", ""],
+            [SOURCE, TABLE, "std_out finish\n", ""],
         ),
         Row(
             refused("check p", none),
@@ -152,32 +155,37 @@ fn no_call_is_made_after_a_failing_write_or_finish(rt: HostRuntime) -> Result<()
     let second = "o write\no write fails\n";
     let output = "o finish fails\n";
     let report = "o finish\nstd_out finish fails\n";
-    let bad = "i read\nstd_out write fails\n";
+    let bad = "i read\nstd_out write\nstd_out write\nstd_out write fails\n";
     let refusal = "std_out write fails\n";
     let finish = "std_out write\nstd_out finish fails\n";
     let rows = [
         Row(
             run(two, ("o", 1)),
             Status::Fault,
-            [SOURCE, INPUT, first, ""],
+            [SOURCE, INPUT, TABLE, first],
         ),
         Row(
             run(two, ("o", 2)),
             Status::Fault,
-            [SOURCE, INPUT, second, ""],
+            [SOURCE, INPUT, TABLE, second],
         ),
         Row(
             run(two, ("o", 3)),
             Status::Fault,
-            [SOURCE, INPUT, VALUES, output],
+            [SOURCE, INPUT, TABLE_AND_VALUES, output],
         ),
         Row(
             run(two, ("std_out", 1)),
             Status::Fault,
-            [SOURCE, INPUT, VALUES, report],
+            [SOURCE, INPUT, refusal, ""],
         ),
         Row(
-            run(b"x\n", ("std_out", 1)),
+            run(two, ("std_out", 3)),
+            Status::Fault,
+            [SOURCE, INPUT, TABLE_AND_VALUES, report],
+        ),
+        Row(
+            run(b"x\n", ("std_out", 3)),
             Status::Fault,
             [SOURCE, bad, "", ""],
         ),
@@ -194,7 +202,12 @@ fn no_call_is_made_after_a_failing_write_or_finish(rt: HostRuntime) -> Result<()
         Row(
             check(("std_out", 1)),
             Status::Fault,
-            [SOURCE, "std_out finish fails\n", "", ""],
+            [SOURCE, refusal, "", ""],
+        ),
+        Row(
+            check(("std_out", 3)),
+            Status::Fault,
+            [SOURCE, TABLE, "std_out finish fails\n", ""],
         ),
     ];
     all_are_noted(&rt, rt.alloc(), &rows)

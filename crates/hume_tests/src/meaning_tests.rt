@@ -30,7 +30,7 @@ fn empty_core(alloc: Global) -> Core {
 enum Wanted<'a> {
     Word(u64),
     Parts(&'a [u64]),
-    Raised(u8),
+    Raised(u32),
 }
 
 fn is_wanted(outcome: &Outcome, wanted: Wanted) -> bool {
@@ -40,7 +40,7 @@ fn is_wanted(outcome: &Outcome, wanted: Wanted) -> bool {
     }
 }
 
-fn is_raised(exn: u8, wanted: Wanted) -> bool {
+fn is_raised(exn: u32, wanted: Wanted) -> bool {
     match wanted {
         Wanted::Raised(number) => number == exn,
         _ => false,

@@ -235,7 +235,7 @@ pub(crate) fn dividing(alloc: Global) -> Result<Core, AllocError> {
 }
 
 // One handler of an exception, which gives one output.
-fn handlers(alloc: Global, exn: u8, bound: bool, out: Expr) -> Result<List<HandC>, AllocError> {
+fn handlers(alloc: Global, exn: u32, bound: bool, out: Expr) -> Result<List<HandC>, AllocError> {
     let handler = HandC {
         exn,
         bound,

@@ -39,7 +39,7 @@ fn a_fill_stops_at_what_is_wanted_and_tells_the_bad_line(rt: HostRuntime) -> Res
     let text = b"1\r\n \t\n -2 \n0x\n3";
     let mut port: Box<dyn Port> = Box::new(
         rt.alloc(),
-        MemPort::make(rt.alloc(), "in", text, 3, 0, &[])?,
+        MemPort::make(rt.alloc(), "in", text, 1, 0, &[])?,
     )?;
     assert!(rt; queue.fill(&types, &INT_32, &mut port, 2).is_ok() && queue.count() == 2);
     let first = gives(&mut queue, 1);
@@ -47,6 +47,24 @@ fn a_fill_stops_at_what_is_wanted_and_tells_the_bad_line(rt: HostRuntime) -> Res
     assert!(rt; first && second);
     let bad = queue.fill(&types, &INT_32, &mut port, 1);
     assert!(rt; matches!(bad, Err(FillError::BadValue(4))));
+    Ok(())
+}
+
+#[test]
+fn a_read_that_fails_within_a_line_loses_nothing(rt: HostRuntime) -> Result<(), Fail> {
+    let types = no_types(rt.alloc());
+    let mut queue = InQueue::make(rt.alloc(), &types, &INT_32, 2)?;
+    let failing = [Missed { call: 4, taken: 0 }];
+    let mut port: Box<dyn Port> = Box::new(
+        rt.alloc(),
+        MemPort::make(rt.alloc(), "in", b"1\n23\n", 1, 0, &failing)?,
+    )?;
+    let failed = queue.fill(&types, &INT_32, &mut port, 2);
+    assert!(rt; matches!(failed, Err(FillError::Failed)) && queue.count() == 1);
+    assert!(rt; queue.fill(&types, &INT_32, &mut port, 2).is_ok() && queue.count() == 2);
+    let first = gives(&mut queue, 1);
+    let second = gives(&mut queue, 23);
+    assert!(rt; first && second);
     Ok(())
 }
 

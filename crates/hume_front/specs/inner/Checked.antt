@@ -6,9 +6,11 @@ use Rattle.hume_model.specs.declared.core_tree.Core.{Core}
 use Rattle.hume_model.specs.Declarations.{IsRefusal}
 use Rattle.hume_check.specs.CoreOf.{IsCoreOf}
 use Rattle.wiring_check.specs.Wires.{IsWiringOf}
+use Rattle.space_costs.specs.NodeCosts.{AreCosts}
 use Rattle.hume_front.specs.Accepted.{BreaksCore, BreaksProgram}
 use Rattle.hume_front.specs.declared.acceptance.FrontError.{FrontError}
 use Rattle.hume_front.specs.declared.acceptance.FrontError.TheVariants.{Refused, NoMemory}
+use Rattle.hume_front.specs.declared.core_rules.CoreParts.{CoreParts}
 use Rattle.hume_front.specs.declared.program_rules.Checked.{Checked}
 
 -- the least rule that the core breaks is refused, or memory is wanting
@@ -16,8 +18,14 @@ abbrev pub IsCoreError : Core → FrontError → Type 0
 IsCoreError core (Refused refusal) = IsRefusal core (BreaksCore core) refusal
 IsCoreError core NoMemory = Unit {0}
 
--- the program breaks no rule, and has this core and these wires
+-- the core has these wires and these costs
+pub record AreCoreParts (core : Core) (parts : CoreParts) : Type 0 where
+  pub wiring : IsWiringOf core parts.wiring
+  pub costs : AreCosts core parts.costs
+
+-- the program breaks no rule, and has this core, these wires and these costs
 pub record IsChecked (text : List ℕ) (program : Program) (checked : Checked) : Type 0 where
   pub fine : IsLeast (BreaksProgram text program) None
   pub core : IsCoreOf text program checked.core
   pub wiring : IsWiringOf checked.core checked.wiring
+  pub costs : AreCosts checked.core checked.costs

@@ -1,11 +1,14 @@
 use Rattle.std.proofs.Common.{◌≡◌, ◌∙◌, ap, sym, subst, refl, inl, inr, Err}
 use Rattle.hume_run.specs.declared.order.Order.TheVariants.{Run}
-use Rattle.hume_run.proofs.Runnable.{runnable}
+use Rattle.hume_run.proofs.Runnable.{runnable, bounded}
 use Rattle.hume_run.proofs.Running.{early_unstarted, run_answers, unfit_answers}
 use Rattle.hume_run.proofs.run.run_text.Goals as goal
 
 pub run_accepted-requires-clause-runnable : goal.run_accepted-requires-clause-runnable
 run_accepted-requires-clause-runnable g c = runnable _ _ c.in-Ok.ensures.accepted
+
+pub run_accepted-requires-clause-bounds : goal.run_accepted-requires-clause-bounds
+run_accepted-requires-clause-bounds g c = bounded _ _ c.in-Ok.ensures.accepted
 
 pub returns-in-Err : goal.returns-in-Err
 returns-in-Err g c place = c.end_unaccepted.ensures (Run c.args.steps place) _ _ c.in-Err.ensures.error

@@ -1,0 +1,3 @@
+pub mod Sliding
+pub mod Objects
+pub mod Staying

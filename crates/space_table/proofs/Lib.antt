@@ -1,0 +1,4 @@
+pub mod Sums
+pub mod Bounds
+pub mod Parts
+pub mod Lines
