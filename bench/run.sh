@@ -34,7 +34,7 @@ run() {
     for _run in 1 2 3 4 5; do
         rm -f o
         start=$(date +%s%N)
-        "$tool" run "$2" 1 "chain $1" i o >&2 || { echo "run $2 1 'chain $1' i o ended with $?" >&2 && return 1; }
+        "$tool" run "$2" 1 "chain $1" i o >/dev/null || { echo "run $2 1 'chain $1' i o ended with $?" >&2 && return 1; }
         took=$((($(date +%s%N) - start) / 1000))
         [ -n "$least" ] && [ "$least" -le "$took" ] || least=$took
     done
@@ -73,7 +73,7 @@ for steps in 1000 10000; do
 done
 if [ -x /usr/bin/time ]; then
     for steps in 1000 1000000; do
-        /usr/bin/time -f %M -o kilobytes "$tool" run $steps 1 'chain 1' i o
+        /usr/bin/time -f %M -o kilobytes "$tool" run $steps 1 'chain 1' i o >/dev/null
         printf '%s supersteps of one box take %s kB of memory\n' $steps "$(cat kilobytes)"
     done
 fi

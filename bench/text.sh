@@ -98,7 +98,7 @@ row() {
     for _run in 1 2 3; do
         rm -f o
         start=$(date +%s%N)
-        "$@"
+        "$@" >/dev/null
         took=$((($(date +%s%N) - start) / 1000000))
         cmp i o
         [ -n "$least" ] && [ "$least" -le "$took" ] || least=$took
@@ -114,7 +114,7 @@ texts() {
     rm -f o
     local start
     start=$(date +%s%N)
-    perf record -q -o samples "$tool" run 1000000 1 "$1" i o
+    perf record -q -o samples "$tool" run 1000000 1 "$1" i o >/dev/null
     perf report -i samples --stdio -F overhead,sym --percent-limit 0 2>"/dev/null" |
         awk -v values="$1" -v ms=$((($(date +%s%N) - start) / 1000000)) '
             $2 == "[k]" { system_share += $1 }
