@@ -290,6 +290,18 @@ cuts six-lines 'box b in (x :: int 32) out (y :: int 32) match (x) -> (x + 1) ; 
 cuts ten-lines 'data Light = Red | Amber | Green ; exception Broken nat 8 ; next :: Light -> Light ; next Red = Green ; next light = case light of Green -> Amber | _ -> Red end ; box b in (light :: Light, tick :: bool) out (shown :: Light) fair (light, true) -> next light | (*, _*) -> raise Broken 3 handle Broken number -> Red ; stream s from "i" ; wire s to b.light initial (Red) ; ' \
     'eeeeeeeeeeeeeeeeeeeeeeeeeeeeeeeeeaaeeeeeeeeeeeeeeeeetteeeeaaeeeeeleeeeeeeeteeeeeeeeeeeeeeeeeeeeeeeeeeeaaeeeeeeeeeeeeeeeeeeeeeeeeeeeeeeeeeeeeeeeeeeeeeeteeeeeeeeeeaaeeeeeeteeeeeeeeeleeeeeeeeeeeeeeleettteeetteeeeeeeeeleeeeeeeeettteeeeeeeeeeeeeeeeteeeeeeeeeeeeeeeeeeeeeeeteeeeeeeeeeeeeeeeettttteeeeeeeeeeeeeeeeteeeeeeaaeeeeeeeeettteelleeaaeeeeeeeteeeeeeeeeetttttteeeeeeeeaa'
 refused cut-comment-1 20 '' - ''
+# The first lines of a whole source: what is missing is first a declaration's end, and then a wire.
+whole=('box b in (x :: int 32) out (y :: int 32)' 'match (x) -> (x + 1) ;' 'stream s from "i" ;' 'stream t to "o" ;' 'wire s to b.x ;')
+for cut in '1 20 2' '2 50 1' '4 50 1' '5 52 1'; do
+    read -r count code line <<<"$cut"
+    printf '%s\n' "${whole[@]:0:count}" >"$folder/cut-lines-$count.hume"
+    echo "cut-lines-$count $code $line"
+done
+put cut-lines-0 "${whole[0]}"
+echo 'cut-lines-0 20 1'
+# A byte beyond those of the language may stand in a comment.
+grammatical byte-in-comment $'-- \310\n'
+refused byte-outside 10 '' $'\310' ''
 grammatical cut-comment-2 '--'
 grammatical cut-comment-3 '-- a'$'\n'
 grammatical cut-comment-4 '-- a'$'\n''wire a to b ; -- b'$'\n\n'

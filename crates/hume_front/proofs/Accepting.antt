@@ -4,15 +4,17 @@ use Rattle.std.specs.List.{All}
 use Rattle.hume_base.specs.declared.limits.TheConstants.{MAX_SOURCE_BYTES}
 use Rattle.hume_base.specs.declared.rule.Rule.TheVariants.{C70}
 use Rattle.hume_base.specs.declared.rule.Refusal.{Refusal}
+use Rattle.hume_base.specs.declared.token.Kind.{Kind}
 use Rattle.hume_base.specs.declared.token.Token.{Token}
 use Rattle.hume_base.specs.Places.{line_at}
+use Rattle.hume_ast.specs.Fits.{IsProper}
 use Rattle.hume_lex.specs.declared.lexer.LexError.{LexError}
 use Rattle.hume_lex.specs.declared.lexer.LexError.TheVariants as lexical
 use Rattle.hume_lex.specs.BadPlaces.{IsRead, IsBadPlace, bad_place}
 use Rattle.hume_lex.proofs.Places.{token_within}
 use Rattle.hume_parse.specs.declared.parser.ParseError.{ParseError}
 use Rattle.hume_parse.specs.declared.parser.ParseError.TheVariants as syntactic
-use Rattle.hume_parse.specs.Parsing.{IsWrongToken, IsWrongPlace}
+use Rattle.hume_parse.specs.Parsing.{BeginsSome, BeginsNone, IsWrongToken, IsWrongPlace}
 use Rattle.hume_front.specs.declared.acceptance.FrontError.{FrontError}
 use Rattle.hume_front.specs.declared.acceptance.FrontError.TheVariants.{Refused}
 use Rattle.hume_front.specs.Accepted.{Breaks, too_long, bad_token, no_program, IsUnaccepted, rule_of_lexer, rule_of_parser, wrong_place}
@@ -23,16 +25,16 @@ all_middle : {A : Type 0} (P : A → Type 0) (front : List A) (x : A) (rest : Li
 all_middle P [] x rest all = all 0 x (omega arith)
 all_middle P (y ∷ front) x rest all = all_middle P front x rest (λ k d h. all (suc k) d (omega (arith, h)))
 
-token_place : (text : List ℕ) (tokens : List Token) (place : ℕ) → IsRead text tokens → IsWrongToken tokens place → place < length text
-token_place text tokens place read wrong =
+token_place : (Why : List Kind → Type 0) (text : List ℕ) (tokens : List Token) (place : ℕ) → IsRead text tokens → IsWrongToken Why tokens place → place < length text
+token_place Why text tokens place read wrong =
     let Within : Token → Type 0 = λ token. token.place < length text in
     let all : All Within (wrong.front ++ wrong.token ∷ wrong.rest) = subst (All Within) wrong.cut (token_within text tokens read.0) in
     subst (λ p. p < length text) wrong.here (all_middle Within wrong.front wrong.token wrong.rest all)
 
 fault_place : (text : List ℕ) (tokens : List Token) (error : ParseError) → IsRead text tokens → IsWrongPlace tokens (length text) error → wrong_place error ≤ length text
-fault_place text tokens (syntactic.Syntax place) read (none, inl wrong) = omega (arith, token_place text tokens place read wrong)
-fault_place text tokens (syntactic.Syntax place) read (none, inr end) = omega (arith, end)
-fault_place text tokens (syntactic.Deep place) read (none, wrong) = omega (arith, token_place text tokens place read wrong)
+fault_place text tokens (syntactic.Syntax place) read (inl wrong) = omega (arith, token_place (BeginsNone IsProper) text tokens place read wrong)
+fault_place text tokens (syntactic.Syntax place) read (inr short) = omega (arith, short.1)
+fault_place text tokens (syntactic.Deep place) read wrong = omega (arith, token_place (BeginsSome IsProper) text tokens place read wrong)
 fault_place text tokens syntactic.NoMemory read wrong = absurd wrong
 
 pub told_within : (text : List ℕ) (tokens : List Token) (given told : ParseError) → IsRead text tokens → (given ≡ syntactic.NoMemory) ⊎ IsWrongPlace tokens (length text) given

@@ -4,3 +4,4 @@ pub mod Lines
 pub mod OneProgram
 pub mod ProgramRules
 pub mod Sources
+pub mod OneRefusal

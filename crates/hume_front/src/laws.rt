@@ -1,6 +1,7 @@
 //! Laws of the definitions, as contracts of functions that do nothing.
 ghost use Rattle.std.specs.Prelude.{◌≡◌, ℕ, List, Some, None, slice_get};
 ghost use Rattle.hume_base.specs.Least.{IsLeast};
+ghost use Rattle.hume_base.specs.declared.rule.Refusal.{Refusal};
 ghost use Rattle.hume_ast.specs.declared.tree.Program.{Program};
 ghost use Rattle.hume_model.specs.declared.core_tree.BoxC.{BoxC};
 ghost use Rattle.hume_model.specs.declared.core_tree.NodeC.TheVariants.{Rules};
@@ -9,12 +10,18 @@ ghost use Rattle.hume_model.specs.WellFormed.{IsWellFormed};
 ghost use Rattle.hume_model.specs.Wiring.{IsWired, WiresAgree};
 ghost use Rattle.box_costs.specs.CostRules.{BreaksCosts};
 ghost use Rattle.hume_front.specs.declared.acceptance.Accepted.{Accepted};
-ghost use Rattle.hume_front.specs.Accepted.{IsProgramOf, IsAccepted};
+ghost use Rattle.hume_front.specs.Accepted.{IsProgramOf, IsAccepted, Breaks};
 
 /// A source stands for one program at most, and one that is accepted has one core.
 pub fn one_program()
     ensures program { (text : List ℕ) (first second : Program) → IsProgramOf text first → IsProgramOf text second → first ≡ second }
     ensures core { (text : List ℕ) (first second : Accepted) → IsAccepted text first → IsAccepted text second → first.core ≡ second.core }
+{}
+
+/// A source that breaks a rule breaks one, at one line, and is not accepted.
+pub fn one_answer()
+    ensures refusal { (text : List ℕ) (first second : Refusal) → Breaks text first → Breaks text second → first ≡ second }
+    ensures apart { (text : List ℕ) (accepted : Accepted) (refusal : Refusal) → IsAccepted text accepted → Breaks text refusal → ⊥ }
 {}
 
 /// The core of an accepted source is well-formed, each of its inputs and outputs has one wire between equal types, and its

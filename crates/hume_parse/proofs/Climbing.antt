@@ -14,7 +14,7 @@ use Rattle.hume_ast.specs.Fits.{op_level}
 use Rattle.hume_parse.specs.inner.Gives.{Fails}
 use Rattle.hume_parse.specs.inner.Climbing.{level_rest, climbed, within, operator_within, limit_behind, operand_level}
 use Rattle.hume_parse.specs.declared.stop.Stop.{Stop}
-use Rattle.token_readers.specs.inner.Readers.{Reader, ◌>>=◌, behind, made}
+use Rattle.token_readers.specs.inner.Readers.{Reader, Wrong, ◌>>=◌, behind, made}
 use Rattle.token_readers.specs.inner.Types.{types}
 use Rattle.token_readers.specs.inner.Expressions.{exps, expressions_with, at_level, if_level, next_operator, one_operand, with_operator, operands, operator_of, app_layer, unary_layer}
 use Rattle.token_readers.proofs.Local.{bind_ok, bind_same, chosen_ok}
@@ -29,22 +29,22 @@ unrolled p ks ls e h =
     let is : (roll-Exp x.0.0, x.0.1) ≡ (e, ls) = (let f = x.2 in cc) in
     x.1 ∙ ap (λ (y : Exp-F Exp). Ok (y, x.0.1)) (sym (out-roll-Exp x.0.0)) ∙ ap (λ (y : Exp × List Kind). Ok (out-Exp y.0, y.1)) is
 
-unrolled_by : (r : Result (Exp-F Exp × List Kind) ℕ) (n : ℕ) → made roll-Exp (λ ks. r) [] ≡ Err n → r ≡ Err n
+unrolled_by : (r : Result (Exp-F Exp × List Kind) Wrong) (n : Wrong) → made roll-Exp (λ ks. r) [] ≡ Err n → r ≡ Err n
 unrolled_by (Ok x) n h = cc
-unrolled_by (Err m) n h = (let f : ◌≡◌ {A = Result (Exp × List Kind) ℕ} (Err m) (Err n) = h in let g : m ≡ n = cc in ap Err g)
+unrolled_by (Err m) n h = (let f : ◌≡◌ {A = Result (Exp × List Kind) Wrong} (Err m) (Err n) = h in let g : m ≡ n = cc in ap Err g)
 
-pub unrolled_err : (p : Reader (Exp-F Exp)) (ks : List Kind) (n : ℕ) → made roll-Exp p ks ≡ Err n → p ks ≡ Err n
+pub unrolled_err : (p : Reader (Exp-F Exp)) (ks : List Kind) (n : Wrong) → made roll-Exp p ks ≡ Err n → p ks ≡ Err n
 unrolled_err p ks n h = unrolled_by (p ks) n h
 
 behind_short : (ks : List Kind) → length (behind ks) ≤ length ks
 behind_short [] = omega arith
 behind_short (k ∷ ks) = omega arith
 
-bind_assoc : {A B C : Type 0} (r : Result A ℕ) (f : A → Result B ℕ) (g : B → Result C ℕ) → ((r >>= f) >>= g) ≡ (r >>= λ x. f x >>= g)
+bind_assoc : {A B C : Type 0} (r : Result A Wrong) (f : A → Result B Wrong) (g : B → Result C Wrong) → ((r >>= f) >>= g) ≡ (r >>= λ x. f x >>= g)
 bind_assoc (Ok x) f g = refl
 bind_assoc (Err n) f g = refl
 
-bind_give : {A B : Type 0} (r : Result (A × B) ℕ) → r ≡ (r >>= λ y. Ok (y.0, y.1))
+bind_give : {A B : Type 0} (r : Result (A × B) Wrong) → r ≡ (r >>= λ y. Ok (y.0, y.1))
 bind_give (Ok x) = refl
 bind_give (Err n) = refl
 
@@ -72,7 +72,7 @@ module _ (m : ℕ) where
   operand_by : (l : ℕ) (o : Option BinOp) (x : Exp-F Exp) (ks : List Kind) (y : Exp-F Exp × List Kind) → with_operator o m (child l) x ks ≡ Ok y → length y.1 < length ks
   operand_by l None x ks y e = cc
   operand_by l (Some o) x ks y e =
-      let w = chosen_ok (nat_le (exp_depth (roll-Exp x)) m) (child l (behind ks) >>= λ right. Ok (Exp-F.Binary o (roll-Exp x) right.0, right.1)) (length ks) y e in
+      let w = chosen_ok (nat_le (exp_depth (roll-Exp x)) m) (child l (behind ks) >>= λ right. Ok (Exp-F.Binary o (roll-Exp x) right.0, right.1)) (true, length ks) y e in
       let u = bind_ok (child l (behind ks)) (λ right. Ok (Exp-F.Binary o (roll-Exp x) right.0, right.1)) y w.1 in
       let is : (Exp-F.Binary o (roll-Exp x) u.0.0, u.0.1) ≡ y = (let f = u.2 in cc) in
       omega (arith, all_shrink 64 m (l + 1) (behind ks) u.0 u.1, behind_short ks, ap (λ (z : Exp-F Exp × List Kind). length z.1) is)
@@ -170,7 +170,7 @@ behind_count o = by (op_level o == 4) refl where
   by false e = rw e
 
 -- the loop
-module _ (whole : Result (Exp × List Kind) ℕ) (level limit m : ℕ) (left : Exp) (ks : List Kind) (is : whole ≡ made roll-Exp (climbed (limit - level) level m (out-Exp left)) ks) (high : level ≤ limit) where
+module _ (whole : Result (Exp × List Kind) Wrong) (level limit m : ℕ) (left : Exp) (ks : List Kind) (is : whole ≡ made roll-Exp (climbed (limit - level) level m (out-Exp left)) ks) (high : level ≤ limit) where
   pub loop_ends : operator_within level limit ks ≡ None → whole ≡ Ok (left, ks)
   loop_ends e = is ∙ rw (climb_stop m (limit - level) level (out-Exp left) ks (λ i a b. none_comes level limit ks e i a (omega (arith, b, high)))) (ap (λ y. Ok (y, ks)) (roll-out-Exp left))
 
@@ -199,34 +199,34 @@ module _ (m : ℕ) where
   Begins level = (first : Reader (Exp-F Exp)) × (at_level (operand_level level) (exps (suc m)) ≡ made roll-Exp first)
       × ((ks : List Kind) → at_level level (exps (suc m)) ks ≡ made roll-Exp (λ ls. first ls >>= λ x. climbed (operand_level level - level) level m x.0 x.1) ks)
 
-  abbrev o : ℕ → Exp-F Exp × List Kind → Result (Exp-F Exp × List Kind) ℕ
+  abbrev o : ℕ → Exp-F Exp × List Kind → Result (Exp-F Exp × List Kind) Wrong
   o l x = level_rest l m x.0 x.1
 
-  two : (r : Result (Exp-F Exp × List Kind) ℕ) → (((((r >>= o 6) >>= o 5) >>= o 4) >>= o 3) >>= o 2) ≡ (r >>= λ x. climbed 5 2 m x.0 x.1)
+  two : (r : Result (Exp-F Exp × List Kind) Wrong) → (((((r >>= o 6) >>= o 5) >>= o 4) >>= o 3) >>= o 2) ≡ (r >>= λ x. climbed 5 2 m x.0 x.1)
   two (Ok x) = refl
   two (Err n) = refl
 
-  three : (r : Result (Exp-F Exp × List Kind) ℕ) → ((((r >>= o 6) >>= o 5) >>= o 4) >>= o 3) ≡ (r >>= λ x. climbed 4 3 m x.0 x.1)
+  three : (r : Result (Exp-F Exp × List Kind) Wrong) → ((((r >>= o 6) >>= o 5) >>= o 4) >>= o 3) ≡ (r >>= λ x. climbed 4 3 m x.0 x.1)
   three (Ok x) = refl
   three (Err n) = refl
 
-  four : (r : Result (Exp-F Exp × List Kind) ℕ) → (((r >>= o 6) >>= o 5) >>= o 4) ≡ (r >>= λ x. climbed 3 4 m x.0 x.1)
+  four : (r : Result (Exp-F Exp × List Kind) Wrong) → (((r >>= o 6) >>= o 5) >>= o 4) ≡ (r >>= λ x. climbed 3 4 m x.0 x.1)
   four (Ok x) = refl
   four (Err n) = refl
 
-  five : (r : Result (Exp-F Exp × List Kind) ℕ) → ((r >>= o 6) >>= o 5) ≡ (r >>= λ x. climbed 2 5 m x.0 x.1)
+  five : (r : Result (Exp-F Exp × List Kind) Wrong) → ((r >>= o 6) >>= o 5) ≡ (r >>= λ x. climbed 2 5 m x.0 x.1)
   five (Ok x) = refl
   five (Err n) = refl
 
-  six : (r : Result (Exp-F Exp × List Kind) ℕ) → (r >>= o 6) ≡ (r >>= λ x. climbed 1 6 m x.0 x.1)
+  six : (r : Result (Exp-F Exp × List Kind) Wrong) → (r >>= o 6) ≡ (r >>= λ x. climbed 1 6 m x.0 x.1)
   six (Ok x) = refl
   six (Err n) = refl
 
-  eight : (r : Result (Exp-F Exp × List Kind) ℕ) → (r >>= o 8) ≡ (r >>= λ x. climbed 1 8 m x.0 x.1)
+  eight : (r : Result (Exp-F Exp × List Kind) Wrong) → (r >>= o 8) ≡ (r >>= λ x. climbed 1 8 m x.0 x.1)
   eight (Ok x) = refl
   eight (Err n) = refl
 
-  abbrev roll_all : Result (Exp-F Exp × List Kind) ℕ → Result (Exp × List Kind) ℕ
+  abbrev roll_all : Result (Exp-F Exp × List Kind) Wrong → Result (Exp × List Kind) Wrong
   roll_all r = r >>= λ x. Ok (roll-Exp x.0, x.1)
 
   abbrev unary_first : Reader (Exp-F Exp)

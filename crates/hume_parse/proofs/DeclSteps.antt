@@ -46,8 +46,8 @@ whole_wire [] a b c d t = cc
 whole_wire (k ∷ ks) a b c d t = rw (a, b, c, d, t)
 
 pub whole_none : (ts : List Token) → next (is_word word.Data) (kinds ts) ≡ false → next (is_word word.Exception) (kinds ts) ≡ false → next (is_word word.Box) (kinds ts) ≡ false → next (is_word word.Stream) (kinds ts) ≡ false → next (is_word word.Wire) (kinds ts) ≡ false
-    → whole_decl MAX_DEPTH (kinds ts) ≡ Err (length ts)
-whole_none ts a b c d e = rw (a, b, c, d, e) (ap Err (kinds_length ts))
+    → whole_decl MAX_DEPTH (kinds ts) ≡ Err (false, length ts)
+whole_none ts a b c d e = rw (a, b, c, d, e) (ap (λ m. Err (false, m)) (kinds_length ts))
 
 pub maybe_some : {A : Type 0} (test : Kind → Bool) (p : Reader A) (ks : List Kind) → next test ks ≡ true → maybe test p ks ≡ made Some p ks
 maybe_some test p ks t = rw t

@@ -1,5 +1,5 @@
 -- What the loops over expressions keep.
-use Rattle.std.proofs.Common.{◌≡◌, ℕ, ◌+◌, ◌<◌, ◌≤◌, List, [], ◌∷◌, ◌++◌, length, refl, sym, ap, ◌∙◌, arith, length-append}
+use Rattle.std.proofs.Common.{◌≡◌, ℕ, ◌<◌, ◌≤◌, List, [], ◌∷◌, ◌++◌, length, refl, sym, ap, ◌∙◌, arith, length-append}
 use Rattle.std.specs.Prelude.{Result, Ok, Err}
 use Rattle.hume_base.specs.declared.symbol.Symbol.{Symbol}
 use Rattle.hume_base.specs.declared.symbol.Symbol.TheVariants.{Comma, Arrow}
@@ -13,26 +13,26 @@ use Rattle.hume_ast.specs.declared.tree.Pat.{Pat}
 use Rattle.hume_parse.specs.declared.stop.Stop.{Stop}
 use Rattle.hume_parse.specs.inner.Gives.{Fails}
 use Rattle.hume_parse.specs.inner.Parts.{other_parts}
-use Rattle.token_readers.specs.inner.Readers.{◌>>=◌, after, made, many, led, is_sign}
+use Rattle.token_readers.specs.inner.Readers.{Wrong, ◌>>=◌, after, made, many, led, is_sign}
 use Rattle.token_readers.specs.inner.Patterns.{patterns}
 use Rattle.token_readers.specs.inner.Expressions.{exps, alternative}
 use Rattle.token_readers.proofs.ExpressionsRead.{expressions_read, alternatives_of, atom_shrink}
 use Rattle.hume_parse.proofs.Loops.{joined, fails_on, kinds_length}
 
 -- behind the parts stands a token
-abbrev pub closing : {A : Type 0} → Kind → Result (A × List Kind) ℕ → Result (A × List Kind) ℕ
+abbrev pub closing : {A : Type 0} → Kind → Result (A × List Kind) Wrong → Result (A × List Kind) Wrong
 closing token r = r >>= λ a. after token a.1 >>= λ rest. Ok (a.0, rest)
 
-pub closing_ends : {A : Type 0} (whole : Result (A × List Kind) ℕ) (token : Kind) (items : A) (ks ls : List Kind) → whole ≡ closing token (Ok (items, ks)) → after token ks ≡ Ok ls → whole ≡ Ok (items, ls)
+pub closing_ends : {A : Type 0} (whole : Result (A × List Kind) Wrong) (token : Kind) (items : A) (ks ls : List Kind) → whole ≡ closing token (Ok (items, ks)) → after token ks ≡ Ok ls → whole ≡ Ok (items, ls)
 closing_ends whole token items ks ls e g = e ∙ rw g
 
-pub closing_stops : {A : Type 0} (whole : Result (A × List Kind) ℕ) (token : Kind) (items : A) (ks : List Kind) (stop : Stop) → whole ≡ closing token (Ok (items, ks)) → Fails stop (after token ks) → Fails stop whole
+pub closing_stops : {A : Type 0} (whole : Result (A × List Kind) Wrong) (token : Kind) (items : A) (ks : List Kind) (stop : Stop) → whole ≡ closing token (Ok (items, ks)) → Fails stop (after token ks) → Fails stop whole
 closing_stops whole token items ks stop e g = fails_on stop (after token ks) whole (λ n h. e ∙ rw h) g
 
-first_by : {A : Type 0} (first : A) (token : Kind) (r : Result (List A × List Kind) ℕ) → made (λ parts. first ∷ parts) (λ ks. closing token r) [] ≡ closing token (joined (first ∷ []) r)
+first_by : {A : Type 0} (first : A) (token : Kind) (r : Result (List A × List Kind) Wrong) → made (λ parts. first ∷ parts) (λ ks. closing token r) [] ≡ closing token (joined (first ∷ []) r)
 first_by first token (Err n) = refl
 first_by first token (Ok x) = ends (after token x.1) where
-  ends : (s : Result (List Kind) ℕ) → made (λ parts. first ∷ parts) (λ ks. s >>= λ rest. Ok (x.0, rest)) [] ≡ (s >>= λ rest. Ok (first ∷ x.0, rest))
+  ends : (s : Result (List Kind) Wrong) → made (λ parts. first ∷ parts) (λ ks. s >>= λ rest. Ok (x.0, rest)) [] ≡ (s >>= λ rest. Ok (first ∷ x.0, rest))
   ends (Ok rest) = refl
   ends (Err n) = refl
 

@@ -1,5 +1,5 @@
 -- Reading expressions, step by step, as the code goes.
-use Rattle.std.proofs.Common.{◌≡◌, ◌≢◌, ℕ, zero, suc, ◌+◌, ◌-◌, ◌<◌, ◌≤◌, ◌==◌, List, [], ◌∷◌, length, Bool, true, false, refl, sym, ap, ◌∙◌, subst, arith}
+use Rattle.std.proofs.Common.{◌≡◌, ◌≢◌, ℕ, zero, suc, ◌-◌, ◌<◌, ◌≤◌, ◌==◌, List, [], ◌∷◌, length, Bool, true, false, refl, sym, ap, ◌∙◌, subst, arith}
 use Rattle.std.specs.Prelude.{Result, Ok, Err, Some, None, nat_le}
 use Rattle.std.proofs.lemmas.Bool.{le-leb, lt-leb, eqb-true}
 use native.Mathlib.Numerals.{unary_clauses}
@@ -20,11 +20,11 @@ use Rattle.hume_ast.specs.Depth.{exp_depth}
 use Rattle.hume_ast.specs.Places.{kinds}
 use Rattle.hume_parse.specs.inner.Gives.{Fails}
 use Rattle.hume_parse.specs.inner.Climbing.{operand_level}
-use Rattle.hume_parse.specs.inner.Parts.{let_parts, if_parts, case_parts, raise_parts, minus_parts, update_parts, other_parts, parens_parts, vect_parts, in_list, head_of, is_name, call_of, call_with, opens_form, opens_parts, too_deep, plain_atom}
+use Rattle.hume_parse.specs.inner.Parts.{let_parts, if_parts, case_parts, raise_parts, minus_parts, update_parts, other_parts, parens_parts, vect_parts, in_list, head_of, is_name, call_of, call_with, opens_form, opens_parts, too_deep, no_part, no_atom, plain_atom}
 use Rattle.hume_parse.specs.declared.stop.Stop.{Stop}
 use Rattle.hume_parse.specs.declared.trees.Head.{Head}
 use Rattle.hume_parse.specs.declared.trees.Head.TheVariants.{Function, Constructor}
-use Rattle.token_readers.specs.inner.Readers.{Reader, ◌>>=◌, next, behind, is_word, is_sign, made, both, closed, led, pick, many, cons, after, number_of, stop as fault}
+use Rattle.token_readers.specs.inner.Readers.{Reader, Wrong, ◌>>=◌, next, behind, is_word, is_sign, made, both, closed, led, pick, many, cons, after, number_of}
 use Rattle.token_readers.specs.inner.Types.{types}
 use Rattle.token_readers.specs.inner.Patterns.{is_upper}
 use Rattle.token_readers.specs.inner.Expressions.{exps, expressions_with, at_level, with_operator, starts_atom, is_lower, is_number, update_of, exp_in_parens, parts_tail, cast_tail, app_of, con_exp_of, ExpReaders}
@@ -47,17 +47,17 @@ deep_one opens n ks e = by (n == 1) refl where
   by true f = (eqb-true n 1 f, sym (rw f) ∙ e)
   by false f = absurd (let g : false ≡ true = sym (rw f) ∙ e in cc)
 
-form_alone : (ts : List Token) → next opens_form (kinds ts) ≡ true → (exps 1).whole (kinds ts) ≡ Err (length ts)
+form_alone : (ts : List Token) → next opens_form (kinds ts) ≡ true → (exps 1).whole (kinds ts) ≡ Err (true, length ts)
 unfolding expressions_with
 form_alone [] t = cc
 form_alone (k ∷ ts) t = by (is_word word.Let k.kind) (is_word word.If k.kind) (is_word word.Case k.kind) refl refl refl where
-  by : (a b c : Bool) → is_word word.Let k.kind ≡ a → is_word word.If k.kind ≡ b → is_word word.Case k.kind ≡ c → (exps 1).whole (kinds (k ∷ ts)) ≡ Err (suc (length ts))
-  by true b c e f g = rw e (ap (λ m. Err (suc m)) (kinds_length ts))
-  by false true c e f g = rw (e, f) (ap (λ m. Err (suc m)) (kinds_length ts))
-  by false false true e f g = rw (e, f, g) (ap (λ m. Err (suc m)) (kinds_length ts))
+  by : (a b c : Bool) → is_word word.Let k.kind ≡ a → is_word word.If k.kind ≡ b → is_word word.Case k.kind ≡ c → (exps 1).whole (kinds (k ∷ ts)) ≡ Err (true, suc (length ts))
+  by true b c e f g = rw e (ap (λ m. Err (true, suc m)) (kinds_length ts))
+  by false true c e f g = rw (e, f) (ap (λ m. Err (true, suc m)) (kinds_length ts))
+  by false false true e f g = rw (e, f, g) (ap (λ m. Err (true, suc m)) (kinds_length ts))
   by false false false e f g = absurd (let h : false ≡ true = sym (rw (e, f, g)) ∙ t in cc)
 
-pub exp_deep : (n : ℕ) (ts : List Token) → too_deep opens_form n (kinds ts) ≡ true → (exps n).whole (kinds ts) ≡ Err (length ts)
+pub exp_deep : (n : ℕ) (ts : List Token) → too_deep opens_form n (kinds ts) ≡ true → (exps n).whole (kinds ts) ≡ Err (true, length ts)
 exp_deep n ts e = let d = deep_one opens_form n (kinds ts) e in ap (λ m. (exps m).whole (kinds ts)) d.0 ∙ form_alone ts d.1
 
 pub exp_let : (n : ℕ) (ks : List Kind) → 0 < n → too_deep opens_form n ks ≡ false → next (is_word word.Let) ks ≡ true → (exps n).whole ks ≡ let_parts (n - 1) (behind ks)
@@ -106,7 +106,7 @@ pub form_case : (n : ℕ) (ks : List Kind) → 0 < n → too_deep opens_form n k
 form_case n [] h d a b t = cc
 form_case n (k ∷ ks) h d a b t = form_room n k ks (rw (a, b, t)) h d
 
-pub unary_zero : (n : ℕ) (ks : List Kind) → n ≡ 0 → (exps n).unary ks ≡ fault ks
+pub unary_zero : (n : ℕ) (ks : List Kind) → n ≡ 0 → (exps n).unary ks ≡ no_part ks
 unfolding expressions_with
 unary_zero n ks e = rw e
 
@@ -123,10 +123,10 @@ unary_not (suc zero) ks h a t = absurd (omega (arith, h))
 unary_not (suc (suc n)) [] h a t = cc
 unary_not (suc (suc n)) (k ∷ ks) h a t = rw (a, t) (made_twice (exps (suc n)).unary ks Exp-F.Not roll-Exp tree.Not rolls-Not ∙ (simp unary_clauses))
 
-pub unary_not_one : (n : ℕ) (ts : List Token) → n ≡ 1 → next (is_sign symbol.Minus) (kinds ts) ≡ false → next (is_word word.Not) (kinds ts) ≡ true → (exps n).unary (kinds ts) ≡ Err (length ts)
+pub unary_not_one : (n : ℕ) (ts : List Token) → n ≡ 1 → next (is_sign symbol.Minus) (kinds ts) ≡ false → next (is_word word.Not) (kinds ts) ≡ true → (exps n).unary (kinds ts) ≡ Err (true, length ts)
 unfolding expressions_with
 unary_not_one n [] e a t = cc
-unary_not_one n (k ∷ ks) e a t = rw (e, a, t) (ap (λ m. Err (suc m)) (kinds_length ks))
+unary_not_one n (k ∷ ks) e a t = rw (e, a, t) (ap (λ m. Err (true, suc m)) (kinds_length ks))
 
 pub unary_plain : (n : ℕ) (ks : List Kind) → 0 < n → next (is_sign symbol.Minus) ks ≡ false → next (is_word word.Not) ks ≡ false → (exps n).unary ks ≡ at_level 8 (exps n) ks
 unfolding expressions_with
@@ -138,7 +138,7 @@ pub minus_number : (n : ℕ) (ks : List Kind) → next is_number ks ≡ true →
 minus_number n [] t = cc
 minus_number n (k ∷ ks) t = rw t (made_twice (pick number_of) (k ∷ ks) (Exp-F.Num true) roll-Exp (tree.Num true) (rolls-Num true))
 
-unary_end : (n : ℕ) → (exps n).unary [] ≡ Err 0
+unary_end : (n : ℕ) → (exps n).unary [] ≡ Err (false, 0)
 unfolding expressions_with
 unary_end zero = refl
 unary_end (suc n) = refl
@@ -157,7 +157,7 @@ not_upper [] t = refl
 not_upper (Upper name ∷ ks) t = cc
 not_upper (_ ∷ ks) t = refl
 
-called : (head : Head) (made_by : List ℕ × List Exp → Exp-F Exp) (name : List ℕ) → ((items : List Exp) → made_by (name, items) ≡ call_of head items) → (r : Result (List Exp × List Kind) ℕ)
+called : (head : Head) (made_by : List ℕ × List Exp → Exp-F Exp) (name : List ℕ) → ((items : List Exp) → made_by (name, items) ≡ call_of head items) → (r : Result (List Exp × List Kind) Wrong)
     → made roll-Exp (made made_by (λ ks. r >>= λ b. Ok ((name, b.0), b.1))) [] ≡ made roll-Exp (made (call_of head) (λ ks. r)) []
 called head made_by name same (Ok x) = ap (λ e. Ok (roll-Exp e, x.1)) (same x.0)
 called head made_by name same (Err n) = refl
@@ -183,10 +183,10 @@ app_update (suc zero) ks h a t = absurd (omega (arith, h))
 app_update (suc (suc n)) [] h a t = cc
 app_update (suc (suc n)) (k ∷ ks) h a t = rw (not_lower (k ∷ ks) a, not_upper (k ∷ ks) a, t) (simp unary_clauses)
 
-pub app_update_one : (n : ℕ) (ts : List Token) → n ≡ 1 → next is_name (kinds ts) ≡ false → next (is_word word.Update) (kinds ts) ≡ true → (exps n).app (kinds ts) ≡ Err (length ts)
+pub app_update_one : (n : ℕ) (ts : List Token) → n ≡ 1 → next is_name (kinds ts) ≡ false → next (is_word word.Update) (kinds ts) ≡ true → (exps n).app (kinds ts) ≡ Err (true, length ts)
 unfolding expressions_with
 app_update_one n [] e a t = cc
-app_update_one n (k ∷ ks) e a t = rw (e, not_lower (kinds (k ∷ ks)) a, not_upper (kinds (k ∷ ks)) a, t) (ap (λ m. Err (suc m)) (kinds_length ks))
+app_update_one n (k ∷ ks) e a t = rw (e, not_lower (kinds (k ∷ ks)) a, not_upper (kinds (k ∷ ks)) a, t) (ap (λ m. Err (true, suc m)) (kinds_length ks))
 
 pub app_star : (n : ℕ) (ks : List Kind) → 0 < n → next is_name ks ≡ false → next (is_word word.Update) ks ≡ false → next (is_sign symbol.Star) ks ≡ true → (exps n).app ks ≡ Ok (tree.Star, behind ks)
 unfolding expressions_with
@@ -200,9 +200,9 @@ app_atom zero ks h a c d = absurd (omega (arith, h))
 app_atom (suc n) [] h a c d = refl
 app_atom (suc n) (k ∷ ks) h a c d = rw (not_lower (k ∷ ks) a, not_upper (k ∷ ks) a, c, d)
 
-pub atom_zero : (n : ℕ) (ts : List Token) → n ≡ 0 → (exps n).atom (kinds ts) ≡ Err (length ts)
+pub atom_zero : (n : ℕ) (ks : List Kind) → n ≡ 0 → (exps n).atom ks ≡ no_atom ks
 unfolding expressions_with
-atom_zero n ts e = rw e (ap Err (kinds_length ts))
+atom_zero n ks e = rw e
 
 -- no word is next where a symbol is
 sign_next : (s : Symbol) (k : Kind) → is_sign s k ≡ true → (w : Keyword) → is_word w k ≡ false
@@ -213,16 +213,16 @@ parts_sign : (k : Kind) → opens_parts k ≡ true → (w : Keyword) → is_word
 parts_sign (Sign other) t w = refl
 parts_sign _ t w = cc
 
-parts_alone : (ts : List Token) → next opens_parts (kinds ts) ≡ true → (exps 1).atom (kinds ts) ≡ Err (length ts)
+parts_alone : (ts : List Token) → next opens_parts (kinds ts) ≡ true → (exps 1).atom (kinds ts) ≡ Err (true, length ts)
 unfolding expressions_with
 parts_alone [] t = cc
 parts_alone (k ∷ ts) t = by (is_sign symbol.OpenParen k.kind) (is_sign symbol.OpenAngles k.kind) refl refl where
-  by : (a b : Bool) → is_sign symbol.OpenParen k.kind ≡ a → is_sign symbol.OpenAngles k.kind ≡ b → (exps 1).atom (kinds (k ∷ ts)) ≡ Err (suc (length ts))
-  by true b e f = rw (parts_sign k.kind t word.True, parts_sign k.kind t word.False, e) (ap (λ m. Err (suc m)) (kinds_length ts))
-  by false true e f = rw (parts_sign k.kind t word.True, parts_sign k.kind t word.False, e, f) (ap (λ m. Err (suc m)) (kinds_length ts))
+  by : (a b : Bool) → is_sign symbol.OpenParen k.kind ≡ a → is_sign symbol.OpenAngles k.kind ≡ b → (exps 1).atom (kinds (k ∷ ts)) ≡ Err (true, suc (length ts))
+  by true b e f = rw (parts_sign k.kind t word.True, parts_sign k.kind t word.False, e) (ap (λ m. Err (true, suc m)) (kinds_length ts))
+  by false true e f = rw (parts_sign k.kind t word.True, parts_sign k.kind t word.False, e, f) (ap (λ m. Err (true, suc m)) (kinds_length ts))
   by false false e f = absurd (let h : false ≡ true = sym (rw (e, f)) ∙ t in cc)
 
-pub atom_deep : (n : ℕ) (ts : List Token) → too_deep opens_parts n (kinds ts) ≡ true → (exps n).atom (kinds ts) ≡ Err (length ts)
+pub atom_deep : (n : ℕ) (ts : List Token) → too_deep opens_parts n (kinds ts) ≡ true → (exps n).atom (kinds ts) ≡ Err (true, length ts)
 atom_deep n ts e = let d = deep_one opens_parts n (kinds ts) e in ap (λ m. (exps m).atom (kinds ts)) d.0 ∙ parts_alone ts d.1
 
 pub atom_open : (n : ℕ) (ks : List Kind) → n ≢ 0 → too_deep opens_parts n ks ≡ false → next (is_sign symbol.OpenParen) ks ≡ true → (exps n).atom ks ≡ parens_parts (n - 1) (behind ks)
@@ -265,7 +265,7 @@ in_listed : (first : Exp) (others : List Exp) → exp_in_parens (first, (None, o
 in_listed first [] = refl
 in_listed first (second ∷ others) = refl
 
-others_by : (first : Exp) (r : Result (List Exp × List Kind) ℕ) → made roll-Exp (made exp_in_parens (λ ks. made parts_tail (λ ls. r) [] >>= λ b. Ok ((first, b.0), b.1))) [] ≡ made (λ parts. roll-Exp (in_list parts)) (made (λ others. first ∷ others) (λ ks. r)) []
+others_by : (first : Exp) (r : Result (List Exp × List Kind) Wrong) → made roll-Exp (made exp_in_parens (λ ks. made parts_tail (λ ls. r) [] >>= λ b. Ok ((first, b.0), b.1))) [] ≡ made (λ parts. roll-Exp (in_list parts)) (made (λ others. first ∷ others) (λ ks. r)) []
 others_by first (Ok x) = ap (λ e. Ok (roll-Exp e, x.1)) (in_listed first x.0)
 others_by first (Err n) = refl
 
@@ -287,17 +287,17 @@ pub parens_cast : (room : ℕ) (ks ls : List Kind) (first : Exp) → (exps room)
     → parens_parts room ks ≡ made (tree.Cast first) (closed (types 64) (Sign symbol.CloseParen)) (behind ls)
 parens_cast room ks [] first e t = cc
 parens_cast room ks (l ∷ ls) first e t = rw (e, t) (by (closed (types 64) (Sign symbol.CloseParen) ls)) where
-  by : (r : Result (TyExp × List Kind) ℕ) → made roll-Exp (made exp_in_parens (λ ks. made cast_tail (λ ls. r) [] >>= λ b. Ok ((first, b.0), b.1))) [] ≡ made (tree.Cast first) (λ ks. r) []
+  by : (r : Result (TyExp × List Kind) Wrong) → made roll-Exp (made exp_in_parens (λ ks. made cast_tail (λ ls. r) [] >>= λ b. Ok ((first, b.0), b.1))) [] ≡ made (tree.Cast first) (λ ks. r) []
   by (Ok x) = ap (λ e. Ok (e, x.1)) (rolls-Cast first x.0)
   by (Err n) = refl
 
 pub vect_others : (room : ℕ) (ks ls : List Kind) (first : Exp) → (exps room).whole ks ≡ Ok (first, ls)
     → vect_parts room ks ≡ made tree.Vect (made (λ others. first ∷ others) (other_parts symbol.CloseAngles room)) ls
 vect_others room ks ls first e = rw e (by (many (is_sign symbol.Comma) (led (Sign symbol.Comma) (exps room).whole) ls)) where
-  by : (r : Result (List Exp × List Kind) ℕ) → made roll-Exp (made Exp-F.Vect (closed (λ ks. made cons (λ ls. r >>= λ b. Ok ((first, b.0), b.1)) []) (Sign symbol.CloseAngles))) [] ≡ made tree.Vect (made (λ others. first ∷ others) (closed (λ ks. r) (Sign symbol.CloseAngles))) []
+  by : (r : Result (List Exp × List Kind) Wrong) → made roll-Exp (made Exp-F.Vect (closed (λ ks. made cons (λ ls. r >>= λ b. Ok ((first, b.0), b.1)) []) (Sign symbol.CloseAngles))) [] ≡ made tree.Vect (made (λ others. first ∷ others) (closed (λ ks. r) (Sign symbol.CloseAngles))) []
   by (Err n) = refl
   by (Ok x) = ends (after (Sign symbol.CloseAngles) x.1) where
-    ends : (r : Result (List Kind) ℕ) → made roll-Exp (made Exp-F.Vect (λ ks. r >>= λ rest. Ok (first ∷ x.0, rest))) [] ≡ made tree.Vect (made (λ others. first ∷ others) (λ ks. r >>= λ rest. Ok (x.0, rest))) []
+    ends : (r : Result (List Kind) Wrong) → made roll-Exp (made Exp-F.Vect (λ ks. r >>= λ rest. Ok (first ∷ x.0, rest))) [] ≡ made tree.Vect (made (λ others. first ∷ others) (λ ks. r >>= λ rest. Ok (x.0, rest))) []
     ends (Ok rest) = ap (λ e. Ok (e, rest)) (rolls-Vect (first ∷ x.0))
     ends (Err n) = refl
 
@@ -313,8 +313,8 @@ right_on o m child left ks d =
     rw (subst (λ e. nat_le (exp_depth e) m ≡ true) (sym (roll-out-Exp left)) d)
     (made_twice child (behind ks) (Exp-F.Binary o (roll-Exp (out-Exp left))) roll-Exp (tree.Binary o left) (λ right. rolls-Binary o (roll-Exp (out-Exp left)) right ∙ ap (λ y. tree.Binary o y right) (roll-out-Exp left)))
 
-pub right_deep : (o : BinOp) (m : ℕ) (child : Reader Exp) (left : Exp) (ts : List Token) → nat_le (exp_depth left) m ≡ false → made roll-Exp (with_operator (Some o) m child (out-Exp left)) (kinds ts) ≡ Err (length ts)
-right_deep o m child left ts d = rw (subst (λ e. nat_le (exp_depth e) m ≡ false) (sym (roll-out-Exp left)) d) (ap Err (kinds_length ts))
+pub right_deep : (o : BinOp) (m : ℕ) (child : Reader Exp) (left : Exp) (ts : List Token) → nat_le (exp_depth left) m ≡ false → made roll-Exp (with_operator (Some o) m child (out-Exp left)) (kinds ts) ≡ Err (true, length ts)
+right_deep o m child left ts d = rw (subst (λ e. nat_le (exp_depth e) m ≡ false) (sym (roll-out-Exp left)) d) (ap (λ m. Err (true, m)) (kinds_length ts))
 
 pub ruleset whole_steps = (exp_deep, exp_let, exp_if, exp_case, exp_raise, exp_or, form_let, form_if, form_case)
 

@@ -1,5 +1,5 @@
 -- What one more turn of a loop keeps.
-use Rattle.std.proofs.Common.{◌≡◌, ℕ, suc, ◌<◌, List, [], ◌∷◌, ◌++◌, length, Bool, true, false, refl, sym, ap, ◌∙◌, arith, length-append, append_assoc, append-nil}
+use Rattle.std.proofs.Common.{◌≡◌, suc, ◌<◌, List, [], ◌∷◌, ◌++◌, length, Bool, true, false, refl, sym, ap, ◌∙◌, arith, length-append, append_assoc, append-nil}
 use Rattle.std.specs.Prelude.{Result, Ok, Err}
 use Rattle.hume_base.specs.declared.symbol.Symbol.{Symbol}
 use Rattle.hume_base.specs.declared.token.Kind.{Kind}
@@ -9,7 +9,7 @@ use Rattle.hume_ast.specs.Places.{kinds}
 use Rattle.hume_parse.specs.inner.Gives.{Fails}
 use Rattle.hume_parse.specs.declared.stop.Stop.{Stop}
 use Rattle.hume_parse.specs.declared.stop.Stop.TheVariants.{Memory, Syntax, Deep}
-use Rattle.token_readers.specs.inner.Readers.{Reader, ◌>>=◌, next, behind, is_sign, made, many, led}
+use Rattle.token_readers.specs.inner.Readers.{Reader, Wrong, ◌>>=◌, next, behind, is_sign, made, many, led}
 use Rattle.token_readers.proofs.Local.{many_stop, many_turn}
 use Rattle.token_readers.proofs.Forms.{Reads, led_reads}
 
@@ -18,7 +18,7 @@ kinds_length [] = refl
 kinds_length (token ∷ tokens) = ap suc (kinds_length tokens)
 
 -- made twice is made once
-made_by : {A B C : Type 0} (r : Result (A × List Kind) ℕ) (f : A → B) (g : B → C) (h : A → C) → ((a : A) → g (f a) ≡ h a) → made g (made f (λ ks. r)) [] ≡ made h (λ ks. r) []
+made_by : {A B C : Type 0} (r : Result (A × List Kind) Wrong) (f : A → B) (g : B → C) (h : A → C) → ((a : A) → g (f a) ≡ h a) → made g (made f (λ ks. r)) [] ≡ made h (λ ks. r) []
 made_by (Ok x) f g h same = ap (λ c. Ok (c, x.1)) (same x.0)
 made_by (Err n) f g h same = refl
 
@@ -26,10 +26,10 @@ pub made_twice : {A B C : Type 0} (p : Reader A) (ks : List Kind) (f : A → B) 
 made_twice p ks f g h same = made_by (p ks) f g h same
 
 -- behind those that were read
-abbrev pub joined : {A : Type 0} → List A → Result (List A × List Kind) ℕ → Result (List A × List Kind) ℕ
+abbrev pub joined : {A : Type 0} → List A → Result (List A × List Kind) Wrong → Result (List A × List Kind) Wrong
 joined front r = r >>= λ others. Ok (front ++ others.0, others.1)
 
-joined_turn : {A : Type 0} (front : List A) (a : A) (r : Result (List A × List Kind) ℕ) → joined front (r >>= λ others. Ok (a ∷ others.0, others.1)) ≡ joined (front ++ a ∷ []) r
+joined_turn : {A : Type 0} (front : List A) (a : A) (r : Result (List A × List Kind) Wrong) → joined front (r >>= λ others. Ok (a ∷ others.0, others.1)) ≡ joined (front ++ a ∷ []) r
 joined_turn front a (Ok x) = ap (λ l. Ok (l, x.1)) (sym (append_assoc front (a ∷ []) x.0))
 joined_turn front a (Err n) = refl
 
@@ -44,13 +44,13 @@ module _ {A : Type 0} (test : Kind → Bool) (p : Reader A) (shrinks : (ks : Lis
   pub loop_turn : (a : A) (ls : List Kind) → next test ks ≡ true → p ks ≡ Ok (a, ls) → joined front (many test p ks) ≡ joined (front ++ a ∷ []) (many test p ls)
   loop_turn a ls e g = ap (joined front) (many_turn test p shrinks ks e) ∙ rw g (joined_turn front a (many test p ls))
 
-  pub loop_fails : (n : ℕ) → next test ks ≡ true → p ks ≡ Err n → joined front (many test p ks) ≡ Err n
+  pub loop_fails : (n : Wrong) → next test ks ≡ true → p ks ≡ Err n → joined front (many test p ks) ≡ Err n
   loop_fails n e g = ap (joined front) (many_turn test p shrinks ks e) ∙ rw g
 
-pub fails_on : {Y Z : Type 0} (f : Stop) (r : Result Y ℕ) (s : Result Z ℕ) → ((n : ℕ) → r ≡ Err n → s ≡ Err n) → Fails f r → Fails f s
+pub fails_on : {Y Z : Type 0} (f : Stop) (r : Result Y Wrong) (s : Result Z Wrong) → ((n : Wrong) → r ≡ Err n → s ≡ Err n) → Fails f r → Fails f s
 fails_on Memory r s h e = tt
-fails_on (Syntax n) r s h e = h n e
-fails_on (Deep n) r s h e = h n e
+fails_on (Syntax n) r s h e = h (false, n) e
+fails_on (Deep n) r s h e = h (true, n) e
 
 -- parts with a sign before each of them
 module _ {A : Type 0} {spell : A → List Kind} {Fit : A → Type 0} {Ends : List Kind → Type 0} {p : Reader A} (reads : Reads spell Fit Ends p) (sign : Symbol) where
@@ -60,7 +60,7 @@ module _ {A : Type 0} {spell : A → List Kind} {Fit : A → Type 0} {Ends : Lis
   abbrev pub parts : Reader (List A)
   parts = many (is_sign sign) (led (Sign sign) p)
 
-  module _ {B : Type 0} (whole : Result (B × List Kind) ℕ) (f : Result (List A × List Kind) ℕ → Result (B × List Kind) ℕ) (errs : (n : ℕ) → f (Err n) ≡ Err n) (front : List A) (ks b : List Kind) (is : whole ≡ f (joined front (parts ks))) where
+  module _ {B : Type 0} (whole : Result (B × List Kind) Wrong) (f : Result (List A × List Kind) Wrong → Result (B × List Kind) Wrong) (errs : (n : Wrong) → f (Err n) ≡ Err n) (front : List A) (ks b : List Kind) (is : whole ≡ f (joined front (parts ks))) where
     pub parts_stop : next (is_sign sign) ks ≡ false → whole ≡ f (Ok (front, ks))
     parts_stop e = is ∙ ap f (loop_stop (is_sign sign) (led (Sign sign) p) led_shrinks front ks e)
 
@@ -74,7 +74,7 @@ module _ {A : Type 0} {spell : A → List Kind} {Fit : A → Type 0} {Ends : Lis
 
 -- parts side by side
 module _ {A : Type 0} (test : Kind → Bool) (p : Reader A) (shr : (ks : List Kind) (x : A × List Kind) → p ks ≡ Ok x → length x.1 < length ks) where
-  module _ {B : Type 0} (whole : Result (B × List Kind) ℕ) (f : Result (List A × List Kind) ℕ → Result (B × List Kind) ℕ) (errs : (n : ℕ) → f (Err n) ≡ Err n) (front : List A) (ks : List Kind) (is : whole ≡ f (joined front (many test p ks))) where
+  module _ {B : Type 0} (whole : Result (B × List Kind) Wrong) (f : Result (List A × List Kind) Wrong → Result (B × List Kind) Wrong) (errs : (n : Wrong) → f (Err n) ≡ Err n) (front : List A) (ks : List Kind) (is : whole ≡ f (joined front (many test p ks))) where
     pub beside_stop : next test ks ≡ false → whole ≡ f (Ok (front, ks))
     beside_stop e = is ∙ ap f (loop_stop test p shr front ks e)
 

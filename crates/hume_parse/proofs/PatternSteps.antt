@@ -13,14 +13,15 @@ use Rattle.hume_ast.specs.declared.tree.Pat.TheVariants.{rolls-Name, rolls-Any, 
 use Rattle.hume_ast.specs.declared.tree.Pat.TheOpen.{Pat-F}
 use Rattle.hume_ast.specs.Places.{kinds}
 use Rattle.hume_parse.specs.inner.Gives.{Fails}
+use Rattle.hume_parse.specs.inner.Parts.{no_pattern}
 use Rattle.hume_parse.specs.declared.stop.Stop.{Stop}
-use Rattle.token_readers.specs.inner.Readers.{Reader, next, behind, is_word, is_sign, after, made, both, closed, give, pick, number_of, many, led}
+use Rattle.token_readers.specs.inner.Readers.{Reader, Wrong, next, behind, is_word, is_sign, after, made, both, closed, give, pick, number_of, many, led}
 use Rattle.token_readers.specs.inner.Patterns.{patterns, pat_leaf, is_upper, con_pat, pat_in_parens, input_pattern}
 use Rattle.hume_parse.proofs.Loops.{made_twice, kinds_length, fails_on}
 
-pub pat_zero : (n : ℕ) (ts : List Token) → n ≡ 0 → (patterns n).atom (kinds ts) ≡ Err (length ts)
+pub pat_zero : (n : ℕ) (ks : List Kind) → n ≡ 0 → (patterns n).atom ks ≡ no_pattern ks
 unfolding patterns
-pat_zero n ts e = rw e (ap Err (kinds_length ts))
+pat_zero n ks e = rw e
 
 pub whole_con : (n : ℕ) (ks : List Kind) → 0 < n → next is_upper ks ≡ true → (patterns n).whole ks ≡ made roll-Pat (con_pat (patterns (n - 1)).atom) ks
 unfolding patterns
@@ -68,10 +69,10 @@ atom_open (suc (suc n)) [] h a b c d t = cc
 atom_open (suc (suc n)) (k ∷ ks) h a b c d t = rw (a, b, c, d, t) (simp unary_clauses)
 
 pub atom_open_one : (n : ℕ) (ts : List Token) → n ≡ 1 → next (is_sign symbol.Underscore) (kinds ts) ≡ false → next (is_sign symbol.Minus) (kinds ts) ≡ false → next (is_word word.True) (kinds ts) ≡ false → next (is_word word.False) (kinds ts) ≡ false → next (is_sign symbol.OpenParen) (kinds ts) ≡ true
-    → (patterns n).atom (kinds ts) ≡ Err (length ts)
+    → (patterns n).atom (kinds ts) ≡ Err (true, length ts)
 unfolding patterns
 atom_open_one n [] e a b c d t = cc
-atom_open_one n (k ∷ ks) e a b c d t = rw (e, a, b, c, d, t) (ap (λ m. Err (suc m)) (kinds_length ks))
+atom_open_one n (k ∷ ks) e a b c d t = rw (e, a, b, c, d, t) (ap (λ m. Err (true, suc m)) (kinds_length ks))
 
 pub atom_leaf : (n : ℕ) (ks : List Kind) → 0 < n → next (is_sign symbol.Underscore) ks ≡ false → next (is_sign symbol.Minus) ks ≡ false → next (is_word word.True) ks ≡ false → next (is_word word.False) ks ≡ false → next (is_sign symbol.OpenParen) ks ≡ false
     → (patterns n).atom ks ≡ made roll-Pat (pick pat_leaf) ks
@@ -104,10 +105,10 @@ parens_more first [] e = absurd (e refl)
 parens_more first (other ∷ others) e = rolls-Tuple (first ∷ other ∷ others)
 
 -- what is behind the first pattern in parentheses
-abbrev pub parens_from : Pat → Result (List Pat × List Kind) ℕ → Result (Pat × List Kind) ℕ
+abbrev pub parens_from : Pat → Result (List Pat × List Kind) Wrong → Result (Pat × List Kind) Wrong
 parens_from first r = made roll-Pat (made pat_in_parens (both (give first) (closed (λ ks. r) (Sign symbol.CloseParen)))) []
 
-abbrev pub con_from : List ℕ → Result (List Pat × List Kind) ℕ → Result (Pat × List Kind) ℕ
+abbrev pub con_from : List ℕ → Result (List Pat × List Kind) Wrong → Result (Pat × List Kind) Wrong
 con_from name r = made (tree.Con name) (λ ks. r) []
 
 pub ruleset pattern_steps = (pat_zero, whole_con, whole_atom, atom_any, atom_minus, atom_true, atom_false, atom_open, atom_open_one, atom_leaf, rolls-Con)
@@ -118,11 +119,11 @@ pub ruleset leaf_steps = (rolls-Name, rolls-Con, rolls-Num, rolls-Letter, kinds_
 
 pub ruleset parens_steps = (parens_one, parens_more)
 
-pub con_stop : (name other : List ℕ) (whole : Result (Pat × List Kind) ℕ) (parts : List Pat) (ks : List Kind) → name ≡ other → whole ≡ con_from name (Ok (parts, ks)) → whole ≡ Ok (tree.Con other parts, ks)
+pub con_stop : (name other : List ℕ) (whole : Result (Pat × List Kind) Wrong) (parts : List Pat) (ks : List Kind) → name ≡ other → whole ≡ con_from name (Ok (parts, ks)) → whole ≡ Ok (tree.Con other parts, ks)
 con_stop name other whole parts ks same e = e ∙ ap (λ x. Ok (tree.Con x parts, ks)) same
 
-pub parens_stop : (first : Pat) (whole : Result (Pat × List Kind) ℕ) (others : List Pat) (ks ls : List Kind) (p : Pat) → whole ≡ parens_from first (Ok (others, ks)) → after (Sign symbol.CloseParen) ks ≡ Ok ls → p ≡ roll-Pat (pat_in_parens (first, others)) → whole ≡ Ok (p, ls)
+pub parens_stop : (first : Pat) (whole : Result (Pat × List Kind) Wrong) (others : List Pat) (ks ls : List Kind) (p : Pat) → whole ≡ parens_from first (Ok (others, ks)) → after (Sign symbol.CloseParen) ks ≡ Ok ls → p ≡ roll-Pat (pat_in_parens (first, others)) → whole ≡ Ok (p, ls)
 parens_stop first whole others ks ls p e g h = e ∙ rw g (ap (λ q. Ok (q, ls)) (sym h))
 
-pub parens_fail : (first : Pat) (whole : Result (Pat × List Kind) ℕ) (others : List Pat) (ks : List Kind) (stop : Stop) → whole ≡ parens_from first (Ok (others, ks)) → Fails stop (after (Sign symbol.CloseParen) ks) → Fails stop whole
-parens_fail first whole others ks stop e g = fails_on stop (after (Sign symbol.CloseParen) ks) whole (λ n h. e ∙ rw h) g
+pub parens_fail : (first : Pat) (whole : Result (Pat × List Kind) Wrong) (others : List Pat) (ks : List Kind) (why : Stop) → whole ≡ parens_from first (Ok (others, ks)) → Fails why (after (Sign symbol.CloseParen) ks) → Fails why whole
+parens_fail first whole others ks why e g = fails_on why (after (Sign symbol.CloseParen) ks) whole (λ n h. e ∙ rw h) g

@@ -1,68 +1,133 @@
--- What is reported of a stop is right.
-use Rattle.std.proofs.Common.{◌≡◌, ◌⊎◌, inl, inr, ℕ, ◌-◌, List, [], ◌∷◌, ◌++◌, length, take, drop, refl, sym, ap, ◌∙◌, subst, arith, length-append, append_assoc}
+-- What is reported of a stop is the one wrong token, and why it is wrong.
+use Rattle.std.proofs.Common.{◌≡◌, ◌⊎◌, inl, inr, ℕ, suc, ◌-◌, List, [], ◌∷◌, ◌++◌, length, drop, Bool, true, false, refl, sym, ap, ◌∙◌, subst, arith, length-append, append_assoc, append-nil}
+use Rattle.std.specs.Prelude.{Some, None}
+use Rattle.std.proofs.lemmas.List.{drop_at, drop_all, map-append}
 use Rattle.hume_base.specs.declared.limits.TheConstants.{MAX_DEPTH}
-use Rattle.std.specs.Prelude.{Err}
-use Rattle.std.proofs.lemmas.List.{take_at, drop_at, take-map, drop-map, map-append, take-append-drop}
+use Rattle.hume_base.specs.declared.token.Kind.{Kind}
 use Rattle.hume_base.specs.declared.token.Token.{Token}
-use Rattle.hume_ast.specs.Places.{kinds, unplaced, StandsFor}
-use Rattle.hume_parse.specs.inner.Gives.{Fails}
-use Rattle.hume_parse.specs.declared.stop.Stop.{Stop}
-use Rattle.hume_parse.specs.declared.stop.Stop.TheVariants as stop
+use Rattle.hume_ast.specs.declared.tree.Program.{Program}
+use Rattle.hume_ast.specs.Fits.{IsProper, IsFit}
+use Rattle.hume_ast.specs.Spelling.{spelled}
+use Rattle.hume_ast.specs.Places.{kinds}
 use Rattle.hume_parse.specs.declared.parser.ParseError.{ParseError}
 use Rattle.hume_parse.specs.declared.parser.ParseError.TheVariants.{Syntax, Deep, NoMemory}
-use Rattle.hume_ast.specs.declared.tree.Program.{Program}
-use Rattle.hume_parse.specs.Parsing.{IsNoProgram, BeginsNone, IsWrongToken, IsWrongPlace}
-use Rattle.hume_parse.specs.inner.Reported.{place_of, reported_syntax, reported_deep, reported}
+use Rattle.hume_parse.specs.declared.stop.Stop.{Stop}
+use Rattle.hume_parse.specs.declared.stop.Stop.TheVariants as stop
+use Rattle.hume_parse.specs.Parsing.{BeginsSome, BeginsNone, IsWrongToken, IsWrongPlace}
+use Rattle.hume_parse.specs.inner.Gives.{Fails}
+use Rattle.hume_parse.specs.inner.Reported.{place_of, place_left, reported_syntax, reported_deep, reported}
 use Rattle.token_readers.specs.inner.Programs.{program}
-use Rattle.token_readers.proofs.Local.{SameNext}
-use Rattle.token_readers.proofs.StandingFor.{standing_read, no_both, program_refused}
+use Rattle.token_readers.proofs.StandingFor.{NoneGoesOn}
+use Rattle.token_readers.proofs.ExactPlace.{IsByDepth, IsExact, program_exact}
 use Rattle.hume_parse.proofs.Loops.{kinds_length}
 
-no_program : (tokens : List Token) (n : ℕ) → program MAX_DEPTH (kinds tokens) ≡ Err n → IsNoProgram tokens
-no_program tokens n e p f = no_both (program MAX_DEPTH (kinds tokens)) (unplaced p.decls, []) n (standing_read tokens p f) e
+-- the token behind those of the kinds in front
+pub record CutAt (tokens : List Token) (before behind : List Kind) (kind : Kind) : Type 0 where
+  pub front : List Token
+  pub token : Token
+  pub rest : List Token
+  pub cut : tokens ≡ front ++ token ∷ rest
+  pub same_front : kinds front ≡ before
+  pub same_kind : token.kind ≡ kind
+  pub same_rest : kinds rest ≡ behind
 
-module _ (tokens : List Token) (n : ℕ) (e : program MAX_DEPTH (kinds tokens) ≡ Err n) where
-  abbrev at : ℕ
-  at = length tokens - n
+cut_at : (tokens : List Token) (before behind : List Kind) (kind : Kind) → kinds tokens ≡ before ++ kind ∷ behind → CutAt tokens before behind kind
+cut_at [] [] behind kind e = absurd (let f = e in cc)
+cut_at [] (k ∷ before) behind kind e = absurd (let f = e in cc)
+cut_at (token ∷ tokens) [] behind kind e = record {
+  front = [];
+  token = token;
+  rest = tokens;
+  cut = refl;
+  same_front = refl;
+  same_kind = (let f = e in cc);
+  same_rest = (let f = e in cc);
+}
+cut_at (token ∷ tokens) (k ∷ before) behind kind e =
+    let later : kinds tokens ≡ before ++ kind ∷ behind = (let f = e in cc) in
+    let first : token.kind ≡ k = (let f = e in cc) in
+    let s = cut_at tokens before behind kind later in record {
+      front = token ∷ s.front;
+      token = s.token;
+      rest = s.rest;
+      cut = ap (λ ts. token ∷ ts) {y = s.front ++ s.token ∷ s.rest} s.cut;
+      same_front = (let here = s.same_front in cc);
+      same_kind = s.same_kind;
+      same_rest = s.same_rest;
+    }
 
-  module _ (token : Token) (others : List Token) (is : drop at tokens ≡ token ∷ others) where
-    abbrev front : List Token
-    front = take at tokens
+-- the kinds of the tokens through one
+pub through : (front : List Token) (token : Token) → kinds (front ++ token ∷ []) ≡ kinds front ++ token.kind ∷ []
+through front token = map-append (λ (token : Token). token.kind) front (token ∷ [])
 
-    cut : tokens ≡ front ++ token ∷ others
-    cut = sym (take-append-drop at tokens) ∙ ap (λ l. front ++ l) is
+-- where the token stands that has so many behind it
+pub place_there : (tokens front rest : List Token) (token : Token) (left : ℕ) → tokens ≡ front ++ token ∷ rest → left ≡ suc (length rest) → place_left tokens left ≡ Some token.place
+place_there tokens front rest token left cut many =
+    let long : length front ≡ length tokens - left = omega (arith, ap length cut, length-append front (token ∷ rest), many) in
+    ap (λ (ts : List Token). place_of (drop (length tokens - left) ts)) cut ∙ ap place_of (drop_at front (token ∷ rest) (length tokens - left) long)
 
-    begins_none : BeginsNone (kinds (front ++ token ∷ []))
-    begins_none p more fit same =
-        let r = program_refused MAX_DEPTH (kinds tokens) n e in
-        let long : length r.0 ≡ at = omega (arith, ap length r.2, length-append r.0 r.1, kinds_length tokens, r.3) in
-        let before : kinds front ≡ r.0 = sym (take-map (λ (t : Token). t.kind) at tokens) ∙ ap (take at) r.2 ∙ take_at r.0 r.1 at long in
-        let behind : kinds (token ∷ others) ≡ r.1 = ap kinds (sym is) ∙ sym (drop-map (λ (t : Token). t.kind) at tokens) ∙ ap (drop at) r.2 ∙ drop_at r.0 r.1 at long in
-        r.4 p.decls (token.kind ∷ more) fit (subst (λ ks. SameNext ks (token.kind ∷ more)) behind refl)
-        (same
-        ∙ ap (λ l. l ++ more) (map-append (λ (t : Token). t.kind) front (token ∷ []))
-        ∙ append_assoc (kinds front) (token.kind ∷ []) more
-        ∙ ap (λ l. l ++ token.kind ∷ more) before)
+pub none_left : (tokens : List Token) → place_left tokens 0 ≡ None
+none_left tokens = ap place_of (drop_all (length tokens - 0) tokens (omega arith))
 
-    wrong : IsWrongToken tokens token.place
-    wrong = record { front = front; token = token; rest = others; cut = cut; here = refl; wrong = begins_none }
+-- the stop that says so of the readers' wrong token
+abbrev pub stop_by : Bool → ℕ → Stop
+stop_by true left = stop.Deep left
+stop_by false left = stop.Syntax left
 
-  syntax_by : (end : ℕ) (left : List Token) → drop at tokens ≡ left → IsWrongPlace tokens end (reported_syntax end (place_of left))
-  syntax_by end [] is = (no_program tokens n e, inr refl)
-  syntax_by end (token ∷ others) is = (no_program tokens n e, inl (wrong token others is))
+abbrev pub by_depth : Bool → ℕ → ParseError
+by_depth true place = Deep place
+by_depth false place = Syntax place
 
-  deep_by : (end : ℕ) (left : List Token) → drop at tokens ≡ left → IsWrongPlace tokens end (reported_deep end (place_of left))
-  deep_by end [] is = (no_program tokens n e, inr refl)
-  deep_by end (token ∷ others) is = (no_program tokens n e, wrong token others is)
+-- what is reported where no token is left, and where one is
+pub reported_none : (left : ℕ) (tokens : List Token) (end : ℕ) → place_left tokens left ≡ None → reported (stop_by false left) tokens end ≡ Syntax end
+reported_none left tokens end e = ap (reported_syntax end) e
 
-pub reported_right : (stop : Stop) (tokens : List Token) (end : ℕ) → Fails stop (program MAX_DEPTH (kinds tokens)) → (reported stop tokens end ≡ NoMemory) ⊎ IsWrongPlace tokens end (reported stop tokens end)
+pub reported_some : (deep : Bool) (left : ℕ) (tokens : List Token) (end place : ℕ) → place_left tokens left ≡ Some place → reported (stop_by deep left) tokens end ≡ by_depth deep place
+reported_some true left tokens end place e = ap (reported_deep end) e
+reported_some false left tokens end place e = ap (reported_syntax end) e
+
+module _ (tokens : List Token) (end : ℕ) where
+  -- the token behind those in front is wrong
+  module _ (front rest : List Kind) (kind : Kind) (c : CutAt tokens front rest kind) (begun : BeginsSome IsFit front) (none : NoneGoesOn MAX_DEPTH front (kind ∷ rest)) where
+    through_it : kinds (c.front ++ c.token ∷ []) ≡ front ++ kind ∷ []
+    through_it = through c.front c.token ∙ ap (λ l. l ++ c.token.kind ∷ []) c.same_front ∙ ap (λ k. front ++ k ∷ []) c.same_kind
+
+    on_with : (program : Program) (more : List Kind) → spelled program ≡ kinds (c.front ++ c.token ∷ []) ++ more → spelled program ≡ front ++ kind ∷ more
+    on_with program more is = is ∙ ap (λ l. l ++ more) through_it ∙ append_assoc front (kind ∷ []) more
+
+    token_with : (Why : List Kind → Type 0) → Why (kinds (c.front ++ c.token ∷ [])) → IsWrongToken Why tokens c.token.place
+    token_with Why why = record {
+      front = c.front;
+      token = c.token;
+      rest = c.rest;
+      cut = c.cut;
+      here = refl;
+      begun = subst (BeginsSome IsFit) (sym c.same_front) begun;
+      wrong = λ program more fit is. none program.decls (kind ∷ more) fit refl (on_with program more is);
+      why = why;
+    }
+
+    wrong_by : (deep : Bool) → IsByDepth deep front (kind ∷ rest) → IsWrongPlace tokens end (by_depth deep c.token.place)
+    wrong_by true depth = token_with (BeginsSome IsProper) (subst (BeginsSome IsProper) (sym through_it) depth)
+    wrong_by false depth = inl (token_with (BeginsNone IsProper) (λ program more proper is. depth program (kind ∷ more) proper refl (on_with program more is)))
+
+  right_by : (deep : Bool) (left : ℕ) (front rest : List Kind) → kinds tokens ≡ front ++ rest → left ≡ length rest → BeginsSome IsFit front → NoneGoesOn MAX_DEPTH front rest → IsByDepth deep front rest
+      → IsWrongPlace tokens end (reported (stop_by deep left) tokens end)
+  right_by true left front [] cut many begun none depth = absurd depth
+  right_by false left front [] cut many begun none depth =
+      let all : kinds tokens ≡ front = cut ∙ append-nil front in
+      subst (IsWrongPlace tokens end) (sym (reported_none left tokens end (ap (place_left tokens) many ∙ none_left tokens)))
+      (inr (record { begun = subst (BeginsSome IsFit) (sym all) begun; none = λ program fit is. none program.decls [] fit tt (is ∙ cut) }, refl))
+  right_by deep left front (kind ∷ rest) cut many begun none depth =
+      let c = cut_at tokens front rest kind cut in
+      let there = place_there tokens c.front c.rest c.token left c.cut (many ∙ ap suc (ap length (sym c.same_rest) ∙ kinds_length c.rest)) in
+      subst (IsWrongPlace tokens end) (sym (reported_some deep left tokens end c.token.place there)) (wrong_by front rest kind c begun none deep depth)
+
+  -- exactly one token is wrong, and it is reported
+  pub exact_reported : (deep : Bool) (left : ℕ) → IsExact (kinds tokens) (deep, left) → IsWrongPlace tokens end (reported (stop_by deep left) tokens end)
+  exact_reported deep left x = right_by deep left x.front x.rest x.cut x.left x.begun x.none x.depth
+
+pub reported_right : (why : Stop) (tokens : List Token) (end : ℕ) → Fails why (program MAX_DEPTH (kinds tokens)) → (reported why tokens end ≡ NoMemory) ⊎ IsWrongPlace tokens end (reported why tokens end)
 reported_right stop.Memory tokens end f = inl refl
-reported_right (stop.Syntax n) tokens end f = inr (syntax_by tokens n f end (drop (length tokens - n) tokens) refl)
-reported_right (stop.Deep n) tokens end f = inr (deep_by tokens n f end (drop (length tokens - n) tokens) refl)
-
--- where the tokens stand for a program, nothing but memory can be wanting
-pub only_memory : (tokens : List Token) (end : ℕ) (error : ParseError) (program : Program) → StandsFor tokens program → (error ≡ NoMemory) ⊎ IsWrongPlace tokens end error → error ≡ NoMemory
-only_memory tokens end error program stands (inl memory) = memory
-only_memory tokens end NoMemory program stands (inr w) = refl
-only_memory tokens end (Syntax place) program stands (inr w) = absurd (w.0 program stands)
-only_memory tokens end (Deep place) program stands (inr w) = absurd (w.0 program stands)
+reported_right (stop.Syntax left) tokens end f = inr (exact_reported tokens end false left (program_exact (kinds tokens) (false, left) f))
+reported_right (stop.Deep left) tokens end f = inr (exact_reported tokens end true left (program_exact (kinds tokens) (true, left) f))

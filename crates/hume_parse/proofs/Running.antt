@@ -20,7 +20,7 @@ use Rattle.hume_ast.specs.Places.{kinds}
 use Rattle.hume_parse.specs.inner.Gives.{Fails}
 use Rattle.hume_parse.specs.inner.Items.{wants}
 use Rattle.hume_parse.specs.inner.Progress.{place_with, place_behind, as_decl, closed, with_equation, took}
-use Rattle.token_readers.specs.inner.Readers.{◌>>=◌}
+use Rattle.token_readers.specs.inner.Readers.{Wrong, ◌>>=◌}
 use Rattle.token_readers.specs.inner.Items.{Item as Line, Whole, Signature, Equation, Expecting as Place, Outside, Wanting, Within, expecting_after as place_after, no_items as no_lines, item as line, items as lines}
 use Rattle.token_readers.specs.inner.Programs.{Gathered, with_line, gathered, program}
 use Rattle.token_readers.proofs.ItemsRead.{spelled_item as spelled_line, MayStand, item_reads as line_reads}
@@ -37,7 +37,7 @@ finished None more = more.1
 finished (Some function) more = Fun function.name function.types (function.equations ++ more.0) ∷ more.1
 
 -- what a program is, when these lines are still to come
-abbrev pub ending : Progress → Result (List Line × List Kind) ℕ → Result (List Decl × List Kind) ℕ
+abbrev pub ending : Progress → Result (List Line × List Kind) Wrong → Result (List Decl × List Kind) Wrong
 ending progress read = read >>= λ x. Ok (unplaced progress.decls ++ finished progress.function (gathered x.0), x.1)
 
 unplaced_append : (xs ys : List (ℕ × Decl)) → unplaced (xs ++ ys) ≡ unplaced xs ++ unplaced ys
@@ -80,7 +80,7 @@ next_place place (Equation parts) progress h = within progress.function h where
   within None h = absurd h
   within (Some f) h = some_behind f.equations parts
 
-ending_turn : (place : ℕ) (l : Line) (progress : Progress) → MayStand (place_behind progress.function) l → (r : Result (List Line × List Kind) ℕ)
+ending_turn : (place : ℕ) (l : Line) (progress : Progress) → MayStand (place_behind progress.function) l → (r : Result (List Line × List Kind) Wrong)
     → ending progress (r >>= λ others. Ok (l ∷ others.0, others.1)) ≡ ending (took place l progress) r
 ending_turn place l progress h (Ok x) = ap (λ decls. Ok (decls, x.1)) (line_taken place l progress (gathered x.0) h)
 ending_turn place l progress h (Err n) = refl
@@ -224,9 +224,9 @@ module _ (all : List Token) (progress : Progress) (rest : List Token) (running :
     at_end : program MAX_DEPTH (kinds all) ≡ ending progress (no_lines (place_behind progress.function) [])
     at_end = running.reads ∙ ap (λ (ts : List Token). ending progress (lines MAX_DEPTH (place_behind progress.function) (kinds ts))) over ∙ ap (ending progress) (lines_end MAX_DEPTH (place_behind progress.function))
 
-    pub running_wants : wants (place_behind progress.function) ≡ true → program MAX_DEPTH (kinds all) ≡ Err 0
+    pub running_wants : wants (place_behind progress.function) ≡ true → program MAX_DEPTH (kinds all) ≡ Err (false, 0)
     running_wants w = at_end ∙ ap (ending progress) (by (place_behind progress.function) w) where
-      by : (place : Place) → wants place ≡ true → no_lines place [] ≡ Err 0
+      by : (place : Place) → wants place ≡ true → no_lines place [] ≡ Err (false, 0)
       by Outside w = cc
       by Wanting w = refl
       by Within w = cc

@@ -51,10 +51,10 @@ type_vector (suc (suc n)) [] h a b c d t = cc
 type_vector (suc (suc n)) (k ∷ ks) h a b c d t = rw (a, b, c, d, t) (simp unary_clauses)
 
 pub type_vector_one : (n : ℕ) (ts : List Token) → n ≡ 1 → next (is_word word.Bool) (kinds ts) ≡ false → next (is_word word.Char) (kinds ts) ≡ false → next (is_word word.Int) (kinds ts) ≡ false → next (is_word word.Nat) (kinds ts) ≡ false
-    → next (is_word word.Vector) (kinds ts) ≡ true → types n (kinds ts) ≡ Err (length ts)
+    → next (is_word word.Vector) (kinds ts) ≡ true → types n (kinds ts) ≡ Err (true, length ts)
 unfolding types
 type_vector_one n [] e a b c d t = cc
-type_vector_one n (k ∷ ks) e a b c d t = rw (e, a, b, c, d, t) (ap (λ m. Err (suc m)) (kinds_length ks))
+type_vector_one n (k ∷ ks) e a b c d t = rw (e, a, b, c, d, t) (ap (λ m. Err (true, suc m)) (kinds_length ks))
 
 pub type_tuple : (n : ℕ) (ks : List Kind) → 1 < n → next (is_word word.Bool) ks ≡ false → next (is_word word.Char) ks ≡ false → next (is_word word.Int) ks ≡ false → next (is_word word.Nat) ks ≡ false → next (is_word word.Vector) ks ≡ false → next (is_sign symbol.OpenParen) ks ≡ true
     → types n ks ≡ made roll-TyExp (made TyExp-F.Tuple (closed (several symbol.Comma (types (n - 1))) (Sign symbol.CloseParen))) (behind ks)
@@ -65,10 +65,10 @@ type_tuple (suc (suc n)) [] h a b c d f t = cc
 type_tuple (suc (suc n)) (k ∷ ks) h a b c d f t = rw (a, b, c, d, f, t) (simp unary_clauses)
 
 pub type_tuple_one : (n : ℕ) (ts : List Token) → n ≡ 1 → next (is_word word.Bool) (kinds ts) ≡ false → next (is_word word.Char) (kinds ts) ≡ false → next (is_word word.Int) (kinds ts) ≡ false → next (is_word word.Nat) (kinds ts) ≡ false
-    → next (is_word word.Vector) (kinds ts) ≡ false → next (is_sign symbol.OpenParen) (kinds ts) ≡ true → types n (kinds ts) ≡ Err (length ts)
+    → next (is_word word.Vector) (kinds ts) ≡ false → next (is_sign symbol.OpenParen) (kinds ts) ≡ true → types n (kinds ts) ≡ Err (true, length ts)
 unfolding types
 type_tuple_one n [] e a b c d f t = cc
-type_tuple_one n (k ∷ ks) e a b c d f t = rw (e, a, b, c, d, f, t) (ap (λ m. Err (suc m)) (kinds_length ks))
+type_tuple_one n (k ∷ ks) e a b c d f t = rw (e, a, b, c, d, f, t) (ap (λ m. Err (true, suc m)) (kinds_length ks))
 
 pub type_name : (n : ℕ) (ks : List Kind) → 0 < n → next (is_word word.Bool) ks ≡ false → next (is_word word.Char) ks ≡ false → next (is_word word.Int) ks ≡ false → next (is_word word.Nat) ks ≡ false → next (is_word word.Vector) ks ≡ false → next (is_sign symbol.OpenParen) ks ≡ false
     → types n ks ≡ (pick upper_name ks >>= λ x. Ok (tree.Named x.0, x.1))

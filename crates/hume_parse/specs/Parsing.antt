@@ -1,33 +1,41 @@
--- What the parser answers.
+-- What the parser answers where tokens stand for no program: exactly which token is wrong, and why.
 use Rattle.std.specs.Prelude.{◌≡◌, ◌⊎◌, ℕ, List, [], ◌∷◌, ◌++◌}
 use Rattle.hume_base.specs.declared.token.Kind.{Kind}
 use Rattle.hume_base.specs.declared.token.Token.{Token}
 use Rattle.hume_ast.specs.declared.tree.Program.{Program}
 use Rattle.hume_ast.specs.Spelling.{spelled}
-use Rattle.hume_ast.specs.Fits.{IsFit}
-use Rattle.hume_ast.specs.Places.{kinds, StandsFor}
+use Rattle.hume_ast.specs.Fits.{IsProper, IsFit}
+use Rattle.hume_ast.specs.Places.{kinds}
 use Rattle.hume_parse.specs.declared.parser.ParseError.{ParseError}
 use Rattle.hume_parse.specs.declared.parser.ParseError.TheVariants.{Syntax, Deep, NoMemory}
 
--- the tokens stand for no program
-abbrev pub IsNoProgram : List Token → Type 0
-IsNoProgram tokens = (program : Program) → StandsFor tokens program → ⊥
+-- the spelling of one of these programs begins so
+abbrev pub BeginsSome : (Program → Type 0) → List Kind → Type 0
+BeginsSome Fits front = (program : Program) × (more : List Kind) × Fits program × (spelled program ≡ front ++ more)
 
--- no fit program is spelled so at its front
-abbrev pub BeginsNone : List Kind → Type 0
-BeginsNone front = (program : Program) (more : List Kind) → IsFit program → spelled program ≡ front ++ more → ⊥
+-- that of none of them does
+abbrev pub BeginsNone : (Program → Type 0) → List Kind → Type 0
+BeginsNone Fits front = (program : Program) (more : List Kind) → Fits program → spelled program ≡ front ++ more → ⊥
 
--- at the place stands a token, and no fit program's spelling begins with the tokens through it
-pub record IsWrongToken (tokens : List Token) (place : ℕ) : Type 0 where
+-- At the place stands the first token with which no fit program goes on. What is asked of the tokens through it tells why.
+pub record IsWrongToken (Why : List Kind → Type 0) (tokens : List Token) (place : ℕ) : Type 0 where
   pub front : List Token
   pub token : Token
   pub rest : List Token
   pub cut : tokens ≡ front ++ token ∷ rest
   pub here : token.place ≡ place
-  pub wrong : BeginsNone (kinds (front ++ token ∷ []))
+  pub begun : BeginsSome IsFit (kinds front)
+  pub wrong : BeginsNone IsFit (kinds (front ++ token ∷ []))
+  pub why : Why (kinds (front ++ token ∷ []))
 
--- Why the tokens stand for no program: a place is reported, that of a wrong token or the end.
+-- all tokens begin a fit program, and none is spelled by them alone
+pub record IsCutShort (tokens : List Token) : Type 0 where
+  pub begun : BeginsSome IsFit (kinds tokens)
+  pub none : (program : Program) → IsFit program → spelled program ≡ kinds tokens → ⊥
+
+-- Which place is reported of tokens that stand for no program: that of the first wrong token, or the end. It is one of depth
+-- exactly where a program that is only too deep goes on with the token.
 abbrev pub IsWrongPlace : List Token → ℕ → ParseError → Type 0
-IsWrongPlace tokens end (Syntax place) = IsNoProgram tokens × (IsWrongToken tokens place ⊎ (place ≡ end))
-IsWrongPlace tokens end (Deep place) = IsNoProgram tokens × IsWrongToken tokens place
+IsWrongPlace tokens end (Syntax place) = IsWrongToken (BeginsNone IsProper) tokens place ⊎ (IsCutShort tokens × (place ≡ end))
+IsWrongPlace tokens end (Deep place) = IsWrongToken (BeginsSome IsProper) tokens place
 IsWrongPlace tokens end NoMemory = ⊥

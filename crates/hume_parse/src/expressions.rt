@@ -12,14 +12,17 @@ ghost use Rattle.token_readers.specs.inner.Patterns.{patterns};
 ghost use Rattle.token_readers.specs.inner.Expressions.{exps, at_level, alternative as alternative_read, starts_atom as atom_starts, with_operator};
 
 use crate::leaves::{
-    closed_type, head, name_and_equals, negative_number, part_stop, pattern_and_arrow, plain_atom,
+    atom_stop, closed_type, head, name_and_equals, negative_number, part_stop, pattern_and_arrow,
+    plain_atom,
 };
 use crate::operators::{
-    are_parts_too_deep, first_limit, is_form_too_deep, limit_behind, next_is_name, next_is_number,
-    next_operator, right_level, starts_atom,
+    are_parts_too_deep, first_limit, is_form_too_deep, limit_behind, next_operator, right_level,
+    starts_atom,
 };
 use crate::stop::Stop;
-use crate::tokens::{after_sign, after_word, behind, next_is_sign, next_is_word, upper};
+use crate::tokens::{
+    after_sign, after_word, behind, next_is_name, next_is_number, next_is_sign, next_is_word, upper,
+};
 use crate::trees::{
     Alternatives, Tree, Trees, binary_tree, call_tree, case_tree, cast_tree, if_tree, let_tree,
     neg_tree, not_tree, parens_tree, raise_tree, update_tree, vect_tree,
@@ -309,7 +312,7 @@ fn atom(alloc: Global, rest: &[Token], room: u32) -> Result<(Tree, &[Token]), St
     ensures { Gives (λ x. (x.0.exp, kinds x.1.now)) result ((exps room).atom (kinds rest.now)) }
 {
     if room == 0 {
-        return Err(Stop::Deep(rest.len()));
+        return Err(atom_stop(rest));
     }
     if are_parts_too_deep(rest, room) {
         return Err(Stop::Deep(rest.len()));

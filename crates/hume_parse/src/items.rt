@@ -6,9 +6,8 @@ ghost use Rattle.token_readers.specs.inner.Items.{item as line, named_item as na
 
 use crate::declarations::whole_decl;
 use crate::functions::{equation, signature};
-use crate::operators::next_is_lower;
 use crate::stop::Stop;
-use crate::tokens::{lower, next_is_sign};
+use crate::tokens::{lower, next_is_lower, next_is_sign};
 use hume_ast::{Decl, Exp, Pat, TyExp};
 use hume_base::limits::MAX_DEPTH;
 use hume_base::{List, Symbol, Text, Token};

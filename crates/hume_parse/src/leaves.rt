@@ -6,12 +6,12 @@ ghost use Rattle.hume_ast.specs.declared.tree.Exp.TheVariants.{Num as NumTree};
 ghost use Rattle.hume_ast.specs.Depth.{exp_depth};
 ghost use Rattle.hume_ast.specs.Places.{kinds};
 ghost use Rattle.hume_parse.specs.inner.Gives.{Gives, Fails};
-ghost use Rattle.hume_parse.specs.inner.Parts.{head_of, no_exp, plain_atom as plain_read};
+ghost use Rattle.hume_parse.specs.inner.Parts.{head_of, no_atom, no_part, plain_atom as plain_read};
 ghost use Rattle.token_readers.specs.inner.Readers.{made, closed, pick, lower_name, number_of};
 ghost use Rattle.token_readers.specs.inner.Types.{types};
 ghost use Rattle.token_readers.specs.inner.Patterns.{patterns};
 
-use crate::operators::begins_part;
+use crate::operators::{begins_part, starts_atom};
 use crate::patterns::pattern;
 use crate::stop::Stop;
 use crate::tokens::{after_sign, lower, number};
@@ -100,9 +100,20 @@ fn leaf(alloc: Global, rest: &[Token]) -> Result<(Exp, &[Token]), Stop>
 
 /// Why nothing is read behind a sign where no part may be deeper.
 pub fn part_stop(rest: &[Token]) -> Stop
-    ensures { Fails result (no_exp (kinds rest.now)) }
+    ensures { Fails result (no_part (kinds rest.now)) }
 {
     if begins_part(rest) {
+        Stop::Deep(rest.len())
+    } else {
+        Stop::Syntax(rest.len())
+    }
+}
+
+/// Why no atom is read where none may be deeper.
+pub fn atom_stop(rest: &[Token]) -> Stop
+    ensures { Fails result (no_atom (kinds rest.now)) }
+{
+    if starts_atom(rest) {
         Stop::Deep(rest.len())
     } else {
         Stop::Syntax(rest.len())

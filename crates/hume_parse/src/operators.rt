@@ -2,9 +2,9 @@ ghost use Rattle.std.specs.Prelude.{◌≡◌, ◌+◌, ◌<◌, ◌≤◌, leng
 ghost use Rattle.hume_ast.specs.Fits.{op_level as level_of_op};
 ghost use Rattle.hume_ast.specs.Places.{kinds};
 ghost use Rattle.token_readers.specs.inner.Readers.{next};
-ghost use Rattle.token_readers.specs.inner.Expressions.{operator_of as operator_said, starts_atom as atom_starts, begins_part as part_begins, is_lower, is_number};
+ghost use Rattle.token_readers.specs.inner.Expressions.{operator_of as operator_said, starts_atom as atom_starts, begins_part as part_begins};
 ghost use Rattle.hume_parse.specs.inner.Climbing.{operator_within, within, limit_behind as limit, operand_level};
-ghost use Rattle.hume_parse.specs.inner.Parts.{is_name, opens_form as form_opens, opens_parts as parts_open, too_deep};
+ghost use Rattle.hume_parse.specs.inner.Parts.{opens_form as form_opens, opens_parts as parts_open, too_deep};
 
 use hume_ast::BinOp;
 use hume_base::{Keyword, Kind, Symbol, Token};
@@ -106,48 +106,6 @@ pub fn starts_atom(rest: &[Token]) -> bool
             Kind::Lower(_) | Kind::Upper(_) | Kind::Number(_) | Kind::Letter(_) => true,
             Kind::Word(Keyword::True | Keyword::False) => true,
             Kind::Sign(Symbol::OpenParen | Symbol::OpenAngles) => true,
-            _ => false,
-        },
-    }
-}
-
-/// Whether the next token is a number.
-pub fn next_is_number(rest: &[Token]) -> bool
-    ensures is { result ≡ next is_number (kinds rest.now) }
-    ensures some { IsTrue result → 0 < length rest.now }
-{
-    match rest {
-        [] => false,
-        [token, ..] => match token.kind {
-            Kind::Number(_) => true,
-            _ => false,
-        },
-    }
-}
-
-/// Whether the next token is a name that begins with a small letter.
-pub fn next_is_lower(rest: &[Token]) -> bool
-    ensures is { result ≡ next is_lower (kinds rest.now) }
-    ensures some { IsTrue result → 0 < length rest.now }
-{
-    match rest {
-        [] => false,
-        [token, ..] => match token.kind {
-            Kind::Lower(_) => true,
-            _ => false,
-        },
-    }
-}
-
-/// Whether the next token is a name.
-pub fn next_is_name(rest: &[Token]) -> bool
-    ensures is { result ≡ next is_name (kinds rest.now) }
-    ensures some { IsTrue result → 0 < length rest.now }
-{
-    match rest {
-        [] => false,
-        [token, ..] => match token.kind {
-            Kind::Lower(_) | Kind::Upper(_) => true,
             _ => false,
         },
     }

@@ -3,12 +3,13 @@ ghost use Rattle.hume_base.specs.declared.symbol.Symbol.TheVariants.{CloseParen,
 ghost use Rattle.hume_base.specs.declared.token.Kind.TheVariants.{Sign};
 ghost use Rattle.hume_ast.specs.declared.tree.Pat.{roll-Pat};
 ghost use Rattle.hume_ast.specs.Places.{kinds};
-ghost use Rattle.hume_parse.specs.inner.Gives.{Gives};
+ghost use Rattle.hume_parse.specs.inner.Gives.{Gives, Fails};
+ghost use Rattle.hume_parse.specs.inner.Parts.{no_pattern};
 ghost use Rattle.token_readers.specs.inner.Readers.{next, is_sign, led, made, both, closed, many, pick};
-ghost use Rattle.token_readers.specs.inner.Patterns.{patterns, pat_leaf as leaf_said, starts_pat as pat_starts, is_upper, con_pat, pat_in_parens, input_pattern as input};
+ghost use Rattle.token_readers.specs.inner.Patterns.{patterns, pat_leaf as leaf_said, starts_pat as pat_starts, con_pat, pat_in_parens, input_pattern as input};
 
 use crate::stop::Stop;
-use crate::tokens::{after_sign, behind, next_is_sign, next_is_word, number, upper};
+use crate::tokens::{after_sign, behind, next_is_sign, next_is_upper, next_is_word, number, upper};
 use hume_ast::Pat;
 use hume_base::{Box, Keyword, Kind, List, Symbol, Token};
 use std::alloc::{AllocError, Global};
@@ -70,7 +71,7 @@ pub fn pat_atom(alloc: Global, rest: &[Token], room: u32) -> Result<(Pat, &[Toke
     ensures shorter { IfOk result (λ x. length x.1.now < length rest.now) }
 {
     if room == 0 {
-        return Err(Stop::Deep(rest.len()));
+        return Err(pat_stop(rest));
     }
     if next_is_sign(rest, Symbol::Underscore) {
         return Ok((Pat::Any, behind(rest)));
@@ -144,16 +145,14 @@ fn pat_leaf(alloc: Global, rest: &[Token]) -> Result<(Pat, &[Token]), Stop>
     }
 }
 
-pub fn next_is_upper(rest: &[Token]) -> bool
-    ensures is { result ≡ next is_upper (kinds rest.now) }
-    ensures some { IsTrue result → 0 < length rest.now }
+// Why no pattern is read where none may be deeper.
+fn pat_stop(rest: &[Token]) -> Stop
+    ensures { Fails result (no_pattern (kinds rest.now)) }
 {
-    match rest {
-        [] => false,
-        [token, ..] => match token.kind {
-            Kind::Upper(_) => true,
-            _ => false,
-        },
+    if starts_pat(rest) {
+        Stop::Deep(rest.len())
+    } else {
+        Stop::Syntax(rest.len())
     }
 }
 

@@ -2,7 +2,10 @@ ghost use Rattle.std.specs.Prelude.{◌≡◌, ◌<◌, length, IfOk, IsTrue};
 ghost use Rattle.hume_base.specs.declared.token.Kind.TheVariants.{Word, Sign};
 ghost use Rattle.hume_ast.specs.Places.{kinds};
 ghost use Rattle.hume_parse.specs.inner.Gives.{Gives};
+ghost use Rattle.hume_parse.specs.inner.Parts.{is_name};
 ghost use Rattle.token_readers.specs.inner.Readers.{next, is_sign, is_word, behind as passed, after, pick, lower_name, upper_name, number_of, port_name};
+ghost use Rattle.token_readers.specs.inner.Patterns.{is_upper};
+ghost use Rattle.token_readers.specs.inner.Expressions.{is_lower, is_number};
 
 use crate::stop::Stop;
 use hume_base::{Keyword, Kind, Symbol, Text, Token};
@@ -30,6 +33,62 @@ pub fn next_is_word(rest: &[Token], keyword: Keyword) -> bool
         [] => false,
         [token, ..] => match token.kind {
             Kind::Word(other) => other.is(keyword),
+            _ => false,
+        },
+    }
+}
+
+/// Whether the next token is a number.
+pub fn next_is_number(rest: &[Token]) -> bool
+    ensures is { result ≡ next is_number (kinds rest.now) }
+    ensures some { IsTrue result → 0 < length rest.now }
+{
+    match rest {
+        [] => false,
+        [token, ..] => match token.kind {
+            Kind::Number(_) => true,
+            _ => false,
+        },
+    }
+}
+
+/// Whether the next token is a name that begins with a small letter.
+pub fn next_is_lower(rest: &[Token]) -> bool
+    ensures is { result ≡ next is_lower (kinds rest.now) }
+    ensures some { IsTrue result → 0 < length rest.now }
+{
+    match rest {
+        [] => false,
+        [token, ..] => match token.kind {
+            Kind::Lower(_) => true,
+            _ => false,
+        },
+    }
+}
+
+/// Whether the next token is a name that begins with a capital letter.
+pub fn next_is_upper(rest: &[Token]) -> bool
+    ensures is { result ≡ next is_upper (kinds rest.now) }
+    ensures some { IsTrue result → 0 < length rest.now }
+{
+    match rest {
+        [] => false,
+        [token, ..] => match token.kind {
+            Kind::Upper(_) => true,
+            _ => false,
+        },
+    }
+}
+
+/// Whether the next token is a name.
+pub fn next_is_name(rest: &[Token]) -> bool
+    ensures is { result ≡ next is_name (kinds rest.now) }
+    ensures some { IsTrue result → 0 < length rest.now }
+{
+    match rest {
+        [] => false,
+        [token, ..] => match token.kind {
+            Kind::Lower(_) | Kind::Upper(_) => true,
             _ => false,
         },
     }

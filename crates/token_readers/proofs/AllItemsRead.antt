@@ -3,7 +3,7 @@ use Rattle.std.proofs.Common.{◌≡◌, ℕ, zero, suc, ◌<◌, ◌≤◌, Lis
 use Rattle.std.specs.Prelude.{Ok, Result}
 use Rattle.std.specs.List.{flat_map}
 use Rattle.hume_base.specs.declared.token.Kind.{Kind}
-use Rattle.token_readers.specs.inner.Readers.{Reader, ◌>>=◌}
+use Rattle.token_readers.specs.inner.Readers.{Wrong, Reader, ◌>>=◌}
 use Rattle.token_readers.specs.inner.Items.{Item, Expecting, Outside, Wanting, Within, expecting_after, item, no_items, items_by, items}
 use Rattle.token_readers.proofs.Local.{Splits, bind_ok, bind_same, splits_bind, splits_as, local_give, give_empty, stop_empty}
 use Rattle.token_readers.proofs.ItemsRead.{spelled_item, ItemFits, item_reads, some_item, item_shrinks}
@@ -39,7 +39,7 @@ module _ (bound : ℕ) where
   at_end zero expecting = refl
   at_end (suc n) expecting = refl
 
-  abbrev with_first : Item → List Item × List Kind → Result (List Item × List Kind) ℕ
+  abbrev with_first : Item → List Item × List Kind → Result (List Item × List Kind) Wrong
   with_first l others = Ok (l ∷ others.0, others.1)
 
   -- a bound over the number of tokens makes no difference

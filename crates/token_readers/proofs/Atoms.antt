@@ -31,18 +31,18 @@ leaf_says bound room (Letter byte) x e = subst (λ y. LayerFit bound room 10 y �
 leaf_says bound room _ x e = cc
 
 module _ (bound room : ℕ) (type : Reader TyExp) (child atom : Reader Exp) (types : Reads spelled_ty (TypeFits bound) Anything type) (reads : Reads spelled_exp (ExpFits bound room 1) (EndsAt 1) child) (atoms : Reads spelled_exp (ExpFits bound room 10) (EndsAt 10) atom) where
-  abbrev others : List Exp → List Kind
+  abbrev pub others : List Exp → List Kind
   others = flat_map (λ e. Sign symbol.Comma ∷ spelled_exp e)
 
-  others_read : Reads others (Each (ExpFits bound room 1)) (λ rest. (next (is_sign symbol.Comma) rest ≡ false) × EndsAt 1 rest) (many (is_sign symbol.Comma) (led (Sign symbol.Comma) child))
+  pub others_read : Reads others (Each (ExpFits bound room 1)) (λ rest. (next (is_sign symbol.Comma) rest ≡ false) × EndsAt 1 rest) (many (is_sign symbol.Comma) (led (Sign symbol.Comma) child))
   others_read = many_reads (led_reads reads (Sign symbol.Comma) tt) (is_sign symbol.Comma) (λ e rest f. refl) (λ e rest f. omega arith)
 
   -- what stands behind the first expression in parentheses
-  tail_spell : Tail → List Kind
+  unfoldable pub tail_spell : Tail → List Kind
   tail_spell (Some t, es) = Word word.As ∷ (spelled_ty t ++ Sign symbol.CloseParen ∷ [])
   tail_spell (None, es) = others es ++ Sign symbol.CloseParen ∷ []
 
-  TailFit : Tail → Type 0
+  unfoldable pub TailFit : Tail → Type 0
   TailFit (Some t, []) = TypeFits bound t
   TailFit (Some t, e ∷ es) = ⊥
   TailFit (None, es) = Each (ExpFits bound room 1) es
@@ -60,7 +60,7 @@ module _ (bound room : ℕ) (type : Reader TyExp) (child atom : Reader Exp) (typ
   tail_complete (None, []) rest f e = made_complete parts_read parts_tail [] rest f tt
   tail_complete (None, x ∷ xs) rest f e = made_complete parts_read parts_tail (x ∷ xs) rest f tt
 
-  tail_reads : Reads tail_spell TailFit Anything (alternatives (tail_ways type child))
+  pub tail_reads : Reads tail_spell TailFit Anything (alternatives (tail_ways type child))
   unfolding tail_spell TailFit
   tail_reads = record {
     sound = alternatives_sound tail_spell TailFit (tail_ways type child) (
@@ -89,14 +89,14 @@ module _ (bound room : ℕ) (type : Reader TyExp) (child atom : Reader Exp) (typ
   parens_reads : Reads (λ (a : Exp × Tail). Sign symbol.OpenParen ∷ (spelled_exp a.0 ++ tail_spell a.1)) (λ (a : Exp × Tail). ExpFits bound room 1 a.0 × TailFit a.1) Anything (led (Sign symbol.OpenParen) (both child (alternatives (tail_ways type child))))
   parens_reads = led_reads (both_reads reads tail_reads tail_stops) (Sign symbol.OpenParen) tt
 
-  parens_fit : (a : Exp × Tail) → ExpFits bound room 1 a.0 × TailFit a.1 → LayerFit bound room 10 (exp_in_parens a)
+  pub parens_fit : (a : Exp × Tail) → ExpFits bound room 1 a.0 × TailFit a.1 → LayerFit bound room 10 (exp_in_parens a)
   unfolding TailFit
   parens_fit (e, (Some t, [])) f = (omega arith, f)
   parens_fit (e, (Some t, x ∷ xs)) f = absurd f.1
   parens_fit (e, (None, [])) f = (omega arith, f.0)
   parens_fit (e, (None, x ∷ xs)) f = (omega arith, (omega arith, f))
 
-  parens_same : (a : Exp × Tail) → exp_spell (exp_in_parens a) ≡ Sign symbol.OpenParen ∷ (spelled_exp a.0 ++ tail_spell a.1)
+  pub parens_same : (a : Exp × Tail) → exp_spell (exp_in_parens a) ≡ Sign symbol.OpenParen ∷ (spelled_exp a.0 ++ tail_spell a.1)
   unfolding tail_spell
   parens_same (e, (Some t, es)) = ap (λ m. Sign symbol.OpenParen ∷ m) (append_assoc (spelled_exp e) (Word word.As ∷ spelled_ty t) (Sign symbol.CloseParen ∷ []))
   parens_same (e, (None, [])) = refl
@@ -109,7 +109,7 @@ module _ (bound room : ℕ) (type : Reader TyExp) (child atom : Reader Exp) (typ
   Atomic = LayerFit bound room 10
 
   leaf_by : (o : Option (Exp-F Exp)) (k : Kind) (ks : List Kind) (x : Exp-F Exp × List Kind) → exp_leaf k ≡ o → pick exp_leaf (k ∷ ks) ≡ Ok x → Atomic x.0 × (k ∷ ks ≡ exp_spell x.0 ++ x.1)
-  leaf_by None k ks x g e = absurd (let f : Err (suc (length ks)) ≡ Ok x = sym (rw g) ∙ e in cc)
+  leaf_by None k ks x g e = absurd (let f : Err (false, suc (length ks)) ≡ Ok x = sym (rw g) ∙ e in cc)
   leaf_by (Some y) k ks x g e =
       let is : (y, ks) ≡ x = (let f : Ok (y, ks) ≡ Ok x = sym (rw g) ∙ e in cc) in
       let w = leaf_says bound room k y g in
@@ -193,7 +193,7 @@ module _ (bound room : ℕ) (type : Reader TyExp) (child atom : Reader Exp) (typ
   atom_reads = record { sound = atom_sound; complete = λ x rest f s. atom_complete x rest f; local = alternatives_local (atom_ways room type child) atom_local }
 
   -- names with their arguments
-  first_atom : (e : Exp) (rest : List Kind) → ExpFits bound room 10 e → next starts_atom (spelled_exp e ++ rest) ≡ true
+  pub first_atom : (e : Exp) (rest : List Kind) → ExpFits bound room 10 e → next starts_atom (spelled_exp e ++ rest) ≡ true
   first_atom e rest f = atom_next (spelled_exp e) rest (opens_at bound room 10 e (omega arith) f)
 
   arguments_read : Reads (flat_map spelled_exp) (Each (ExpFits bound room 10)) (EndsAt 9) (many starts_atom atom)
@@ -211,11 +211,11 @@ module _ (bound room : ℕ) (type : Reader TyExp) (child atom : Reader Exp) (typ
   abbrev Applied : Exp-F Exp → Type 0
   Applied = LayerFit bound room 9
 
-  app_level : (name : List ℕ) (es : List Exp) → 9 ≤ exp_level (Exp-F.App name es)
+  pub app_level : (name : List ℕ) (es : List Exp) → 9 ≤ exp_level (Exp-F.App name es)
   app_level name [] = omega arith
   app_level name (e ∷ es) = omega arith
 
-  con_level : (name : List ℕ) (es : List Exp) → 9 ≤ exp_level (Exp-F.Con name es)
+  pub con_level : (name : List ℕ) (es : List Exp) → 9 ≤ exp_level (Exp-F.Con name es)
   con_level name [] = omega arith
   con_level name (e ∷ es) = omega arith
 

@@ -10,9 +10,9 @@ use Rattle.hume_ast.specs.Spelling.{spelled_exp, operator_token}
 use Rattle.hume_ast.specs.Fits.{ExpFits, ExpParts, TypeFits, PatFits, exp_level, op_level, left_level}
 use Rattle.hume_ast.specs.Depth.{exp_depth}
 use Rattle.hume_ast.proofs.Depths.{fits_depth, refit, parts_wider}
-use Rattle.token_readers.specs.inner.Readers.{Reader, ◌>>=◌, stop, behind}
+use Rattle.token_readers.specs.inner.Readers.{Reader, ◌>>=◌, stop, too_deep, behind}
 use Rattle.token_readers.specs.inner.Expressions.{next_operator, with_operator, one_operand, operands_by, operands, chain}
-use Rattle.token_readers.proofs.Local.{Local, Splits, bind_ok, bind_same, chosen, chosen_ok, local_bind, local_behind, local_as, splits_as, splits_bind, local_stop, local_give, stop_empty, give_empty}
+use Rattle.token_readers.proofs.Local.{Local, Splits, bind_ok, bind_same, chosen, chosen_ok, local_bind, local_behind, local_as, splits_as, splits_bind, local_stop, local_too_deep, local_give, stop_empty, give_empty}
 use Rattle.token_readers.proofs.Forms.{Reads, along}
 use Rattle.token_readers.proofs.Levels.{LayerFit, exp_spell, exp_spelled, spelled_out, EndsAt, stops_above, operator_next, is_next, operator_stops, no_operator}
 
@@ -27,7 +27,7 @@ module _ (bound room l lo : ℕ) (child : Reader Exp) (reads : Reads spelled_exp
       → (b : BinOp) × (right : Exp) × (y.0 ≡ Exp-F.Binary b (roll-Exp x) right) × (ks ≡ operator_token b ∷ (spelled_exp right ++ y.1)) × (op_level b ≡ l) × (exp_depth (roll-Exp x) ≤ room) × ExpFits bound room (suc l) right
   operand_at None x ks y n e = cc
   operand_at (Some b) x ks y n e =
-      let w = chosen_ok (nat_le (exp_depth (roll-Exp x)) room) (child (behind ks) >>= λ right. Ok (Exp-F.Binary b (roll-Exp x) right.0, right.1)) (length ks) y e in
+      let w = chosen_ok (nat_le (exp_depth (roll-Exp x)) room) (child (behind ks) >>= λ right. Ok (Exp-F.Binary b (roll-Exp x) right.0, right.1)) (true, length ks) y e in
       let u = bind_ok (child (behind ks)) (λ right. Ok (Exp-F.Binary b (roll-Exp x) right.0, right.1)) y w.1 in
       let is : (Exp-F.Binary b (roll-Exp x) u.0.0, u.0.1) ≡ y = (let f = u.2 in cc) in
       let next = operator_next l ks b n in
@@ -44,7 +44,7 @@ module _ (bound room l lo : ℕ) (child : Reader Exp) (reads : Reads spelled_exp
   pub operand_shrinks : (x : Exp-F Exp) (ks : List Kind) (y : Exp-F Exp × List Kind) → one_operand l room child x ks ≡ Ok y → length y.1 < length ks
   operand_shrinks x ks y e = let p = operand_at (next_operator l ks) x ks y refl e in omega (arith, ap length p.3, length-append (spelled_exp p.1) y.1)
 
-  operand_fit : (x : Exp-F Exp) (b : BinOp) (right : Exp) → LayerFit bound room lo x → op_level b ≡ l → exp_depth (roll-Exp x) ≤ room → ExpFits bound room (suc l) right → LayerFit bound room l (Exp-F.Binary b (roll-Exp x) right)
+  pub operand_fit : (x : Exp-F Exp) (b : BinOp) (right : Exp) → LayerFit bound room lo x → op_level b ≡ l → exp_depth (roll-Exp x) ≤ room → ExpFits bound room (suc l) right → LayerFit bound room l (Exp-F.Binary b (roll-Exp x) right)
   operand_fit x b right f e d g = (
     omega (arith, e),
     (
@@ -70,7 +70,7 @@ module _ (bound room l lo : ℕ) (child : Reader Exp) (reads : Reads spelled_exp
   local_with : (x : Exp-F Exp) (k : Kind) (ks : List Kind) (o : Option BinOp) → next_operator l (k ∷ []) ≡ o → (b : Bool) → nat_le (exp_depth (roll-Exp x)) room ≡ b → Splits (one_operand l room child x) (k ∷ ks) (one_operand l room child x (k ∷ ks))
   local_with x k ks None e b g = local_as (one_operand l room child x) stop k (λ ls. rw e) local_stop ks
   local_with x k ks (Some o) e true g = local_behind (one_operand l room child x) (Bind l room child o x) k (λ ls. rw (e, g)) (local_bind child (λ right m. Ok (Exp-F.Binary o (roll-Exp x) right, m)) reads.local (λ right. local_give (Exp-F.Binary o (roll-Exp x) right))) ks
-  local_with x k ks (Some o) e false g = local_as (one_operand l room child x) stop k (λ ls. rw (e, g)) local_stop ks
+  local_with x k ks (Some o) e false g = local_as (one_operand l room child x) too_deep k (λ ls. rw (e, g)) local_too_deep ks
 
   operand_split : (x : Exp-F Exp) (ks : List Kind) → Splits (one_operand l room child x) ks (one_operand l room child x ks)
   operand_split x [] = stop_empty (one_operand l room child x) refl
@@ -113,7 +113,7 @@ module _ (room l : ℕ) (child : Reader Exp) (shrinks : (x : Exp-F Exp) (ks : Li
       (λ y is. let less = shrinks x (k ∷ ks) y is in enough (length ks) (length y.1) y.0 y.1 (omega arith) (omega arith))
 
 module _ (bound room l : ℕ) (child : Reader Exp) (reads : Reads spelled_exp (ExpFits bound room (suc l)) (EndsAt (suc l)) child) (groups : (o : BinOp) → op_level o ≡ l → left_level o ≡ l) where
-  shrinks : (x : Exp-F Exp) (ks : List Kind) (y : Exp-F Exp × List Kind) → one_operand l room child x ks ≡ Ok y → length y.1 < length ks
+  pub shrinks : (x : Exp-F Exp) (ks : List Kind) (y : Exp-F Exp × List Kind) → one_operand l room child x ks ≡ Ok y → length y.1 < length ks
   shrinks = operand_shrinks bound room l l child reads groups
 
   abbrev goes : List Kind → Bool
@@ -122,10 +122,10 @@ module _ (bound room l : ℕ) (child : Reader Exp) (reads : Reads spelled_exp (E
   abbrev step : Exp-F Exp → Reader (Exp-F Exp)
   step = one_operand l room child
 
-  operands_stop : (x : Exp-F Exp) (ks : List Kind) → next_operator l ks ≡ None → operands l room child x ks ≡ Ok (x, ks)
+  pub operands_stop : (x : Exp-F Exp) (ks : List Kind) → next_operator l ks ≡ None → operands l room child x ks ≡ Ok (x, ks)
   operands_stop = stop_at room l child shrinks
 
-  operands_turn : (x : Exp-F Exp) (ks : List Kind) (o : BinOp) → next_operator l ks ≡ Some o → operands l room child x ks ≡ (step x ks >>= λ y. operands l room child y.0 y.1)
+  pub operands_turn : (x : Exp-F Exp) (ks : List Kind) (o : BinOp) → next_operator l ks ≡ Some o → operands l room child x ks ≡ (step x ks >>= λ y. operands l room child y.0 y.1)
   operands_turn = turn_at room l child shrinks
 
   -- what each turn keeps, all turns keep
@@ -150,6 +150,9 @@ module _ (bound room l : ℕ) (child : Reader Exp) (reads : Reads spelled_exp (E
         (splits_bind (step x) (λ y m. operands l room child y m) (k ∷ ks) (step x (k ∷ ks)) refl ((local_operand bound room l l child reads groups x).at (k ∷ ks))
         (λ y is. let less = shrinks x (k ∷ ks) y is in below y.0 y.1 (omega arith)))
     split_by below None e = splits_as (operands l room child x) (λ m. Ok (x, m)) k (λ ls. operands_stop x (k ∷ ls) e) ks ((local_give x).at (k ∷ ks))
+
+  pub local_operands : (x : Exp-F Exp) → Local (operands l room child x)
+  local_operands x = record { at = λ ks. operands_split (length ks) x ks (omega arith) }
 
   module _ (first : Reader (Exp-F Exp)) (firsts : Reads exp_spell (LayerFit bound room (suc l)) (EndsAt (suc l)) first) (low : 2 ≤ l) (high : l ≤ 8) (apart : l ≤ 7 → suc l ≤ 7) where
     abbrev chained : Reader (Exp-F Exp)
@@ -220,4 +223,4 @@ module _ (bound room l : ℕ) (child : Reader Exp) (reads : Reads spelled_exp (E
         keep ks (length x.0.1) x.0.0 x.0.1 y (omega (arith, begun.0.0), begun.0.1) begun.1 x.2
 
     pub chain_reads : Reads exp_spell (LayerFit bound room l) (EndsAt l) chained
-    chain_reads = record { sound = chain_sound; complete = chain_complete; local = local_bind first (operands l room child) firsts.local (λ x. record { at = λ ks. operands_split (length ks) x ks (omega arith) }) }
+    chain_reads = record { sound = chain_sound; complete = chain_complete; local = local_bind first (operands l room child) firsts.local local_operands }

@@ -49,7 +49,7 @@ pub in_commas_reads : {A : Type 0} {spell : A → List Kind} {Fit : A → Type 0
 in_commas_reads reads comma close = led_reads (closed_reads (listed_reads reads symbol.Comma comma) (Sign symbol.CloseParen) tt (λ rest. (refl, close rest))) (Sign symbol.OpenParen) tt
 
 -- what a handler takes
-abbrev carried_token : Pat-F Pat → Kind
+abbrev pub carried_token : Pat-F Pat → Kind
 carried_token (Pat-F.Name name) = Lower name
 carried_token _ = Sign symbol.Underscore
 
@@ -83,15 +83,16 @@ token_spelled _ f = absurd f
 abbrev NoneCarried : List Kind → Type 0
 NoneCarried rest = next is_carried rest ≡ false
 
-maybe_carried : Reads spelled_carried CarriedFits NoneCarried (maybe is_carried (pick carried_pat))
-maybe_carried = restated (ending (maybe_reads carried_reads is_carried (λ p rest f. carried_first (out-Pat p) rest)) NoneCarried (λ rest e. (e, tt))) spelled_carried CarriedFits there back where
-  there : (o : Option Pat) → IfThere (λ p. IsCarried (out-Pat p)) o → CarriedFits o × (spelled_carried o ≡ maybe_spell (λ p. carried_token (out-Pat p) ∷ []) o)
-  there None f = (tt, refl)
-  there (Some p) f = (f, ap spelled_pat (sym (roll-out-Pat p)) ∙ pat_spelled (out-Pat p) ∙ token_spelled (out-Pat p) f)
+pub carried_there : (o : Option Pat) → IfThere (λ p. IsCarried (out-Pat p)) o → CarriedFits o × (spelled_carried o ≡ maybe_spell (λ p. carried_token (out-Pat p) ∷ []) o)
+carried_there None f = (tt, refl)
+carried_there (Some p) f = (f, ap spelled_pat (sym (roll-out-Pat p)) ∙ pat_spelled (out-Pat p) ∙ token_spelled (out-Pat p) f)
 
-  back : (o : Option Pat) → CarriedFits o → IfThere (λ p. IsCarried (out-Pat p)) o
-  back None f = tt
-  back (Some p) f = f
+carried_back : (o : Option Pat) → CarriedFits o → IfThere (λ p. IsCarried (out-Pat p)) o
+carried_back None f = tt
+carried_back (Some p) f = f
+
+pub maybe_carried : Reads spelled_carried CarriedFits NoneCarried (maybe is_carried (pick carried_pat))
+maybe_carried = restated (ending (maybe_reads carried_reads is_carried (λ p rest f. carried_first (out-Pat p) rest)) NoneCarried (λ rest e. (e, tt))) spelled_carried CarriedFits carried_there carried_back
 
 -- words that say which of two
 abbrev pub order_spell : Bool → List Kind
@@ -121,25 +122,33 @@ way_reads = record {
   said false rest f e = refl
 
 -- the ends of a wire
-pub wire_end_reads : Reads spelled_end All (λ rest. next (is_sign symbol.Dot) rest ≡ false) wire_end
-wire_end_reads = restated (both_reads lower_reads (ending (maybe_reads (led_reads lower_reads (Sign symbol.Dot) tt) (is_sign symbol.Dot) (λ a rest f. refl)) (λ rest. next (is_sign symbol.Dot) rest ≡ false) (λ rest e. (e, tt))) (λ b rest f e. tt)) spelled_end All there back where
-  there : (a : List ℕ × Option (List ℕ)) → Unit {0} × IfThere All a.1 → Unit {0} × (spelled_end a ≡ Lower a.0 ∷ maybe_spell (λ name. Sign symbol.Dot ∷ Lower name ∷ []) a.1)
-  there (name, None) f = (tt, refl)
-  there (name, Some input) f = (tt, refl)
+pub end_there : (a : List ℕ × Option (List ℕ)) → Unit {0} × IfThere All a.1 → Unit {0} × (spelled_end a ≡ Lower a.0 ∷ maybe_spell (λ name. Sign symbol.Dot ∷ Lower name ∷ []) a.1)
+end_there (name, None) f = (tt, refl)
+end_there (name, Some input) f = (tt, refl)
 
+pub wire_end_reads : Reads spelled_end All (λ rest. next (is_sign symbol.Dot) rest ≡ false) wire_end
+wire_end_reads = restated (both_reads lower_reads (ending (maybe_reads (led_reads lower_reads (Sign symbol.Dot) tt) (is_sign symbol.Dot) (λ a rest f. refl)) (λ rest. next (is_sign symbol.Dot) rest ≡ false) (λ rest e. (e, tt))) (λ b rest f e. tt)) spelled_end All end_there back where
   back : (a : List ℕ × Option (List ℕ)) → Unit {0} → Unit {0} × IfThere All a.1
   back (name, None) f = (tt, tt)
   back (name, Some input) f = (tt, tt)
 
-pub wire_depth_reads : Reads spelled_wire_depth All (λ rest. next (is_sign symbol.At) rest ≡ false) wire_depth
-wire_depth_reads = restated (ending (maybe_reads (led_reads number_reads (Sign symbol.At) tt) (is_sign symbol.At) (λ a rest f. refl)) (λ rest. next (is_sign symbol.At) rest ≡ false) (λ rest e. (e, tt))) spelled_wire_depth All there back where
-  there : (o : Option ℕ) → IfThere All o → Unit {0} × (spelled_wire_depth o ≡ maybe_spell (λ n. Sign symbol.At ∷ Number n ∷ []) o)
-  there None f = (tt, refl)
-  there (Some depth) f = (tt, refl)
+pub depth_there : (o : Option ℕ) → IfThere All o → Unit {0} × (spelled_wire_depth o ≡ maybe_spell (λ n. Sign symbol.At ∷ Number n ∷ []) o)
+depth_there None f = (tt, refl)
+depth_there (Some depth) f = (tt, refl)
 
+pub wire_depth_reads : Reads spelled_wire_depth All (λ rest. next (is_sign symbol.At) rest ≡ false) wire_depth
+wire_depth_reads = restated (ending (maybe_reads (led_reads number_reads (Sign symbol.At) tt) (is_sign symbol.At) (λ a rest f. refl)) (λ rest. next (is_sign symbol.At) rest ≡ false) (λ rest e. (e, tt))) spelled_wire_depth All depth_there back where
   back : (o : Option ℕ) → Unit {0} → IfThere All o
   back None f = tt
   back (Some depth) f = tt
+
+pub carries_same : (o : Option TyExp) → spelled_carries o ≡ maybe_spell spelled_ty o
+carries_same None = refl
+carries_same (Some t) = refl
+
+pub initial_same : (o : Option Exp) → spelled_initial o ≡ maybe_spell (λ e. Word word.Initial ∷ spelled_exp e) o
+initial_same None = refl
+initial_same (Some e) = refl
 
 module _ (bound : ℕ) where
   pub exp_reads : Reads spelled_exp (ExpFits bound bound 1) (EndsAt 1) (expression bound)
@@ -150,10 +159,7 @@ module _ (bound : ℕ) where
       spelled_constructor (λ (c : List ℕ × List TyExp). Each (TypeFits bound) c.1) (λ c f. (f.1, ap (λ m. Upper c.0 ∷ m) (beside_map spelled_ty c.1))) (λ c f. (tt, f))
 
   pub carries_reads : Reads spelled_carries (IfThere (TypeFits bound)) TypesEnd (maybe starts_type (types bound))
-  carries_reads = respelled (ending (maybe_reads (types_read bound) starts_type (λ t rest f. first_type t rest)) TypesEnd (λ rest e. (e, tt))) spelled_carries same where
-    same : (o : Option TyExp) → spelled_carries o ≡ maybe_spell spelled_ty o
-    same None = refl
-    same (Some t) = refl
+  carries_reads = respelled (ending (maybe_reads (types_read bound) starts_type (λ t rest f. first_type t rest)) TypesEnd (λ rest e. (e, tt))) spelled_carries carries_same
 
   pub typed_name_reads : Reads spelled_typed_name (TypedNameFits bound) Anything (typed_name bound)
   typed_name_reads = restated (both_reads (closed_reads lower_reads (Sign symbol.DoubleColon) tt (λ rest. tt)) (types_read bound) (λ b rest f e. tt)) spelled_typed_name (TypedNameFits bound) (λ p f. (f.1, refl)) (λ p f. (tt, f))
@@ -174,13 +180,13 @@ module _ (bound : ℕ) where
   abbrev pub HandlersEnd : List Kind → Type 0
   HandlersEnd rest = (next (is_word word.Handle) rest ≡ false) × (next (is_sign symbol.Bar) rest ≡ false) × EndsAt 1 rest
 
-  abbrev some_handlers : Reader (List (List ℕ × Option Pat × Exp))
+  abbrev pub some_handlers : Reader (List (List ℕ × Option Pat × Exp))
   some_handlers = led (Word word.Handle) (listed symbol.Bar (handler bound))
 
   some_handlers_read : Reads (λ hs. Word word.Handle ∷ separated symbol.Bar (map spelled_handler hs)) (OneOrMore (HandlerFits bound)) (λ rest. (next (is_sign symbol.Bar) rest ≡ false) × EndsAt 1 rest) some_handlers
   some_handlers_read = led_reads (listed_reads handler_reads symbol.Bar (λ rest. omega arith)) (Word word.Handle) tt
 
-  some_fit : (hs : List (List ℕ × Option Pat × Exp)) → OneOrMore (HandlerFits bound) hs → Each (HandlerFits bound) hs × (spelled_handlers hs ≡ Word word.Handle ∷ separated symbol.Bar (map spelled_handler hs))
+  pub some_fit : (hs : List (List ℕ × Option Pat × Exp)) → OneOrMore (HandlerFits bound) hs → Each (HandlerFits bound) hs × (spelled_handlers hs ≡ Word word.Handle ∷ separated symbol.Bar (map spelled_handler hs))
   some_fit [] f = absurd (omega (arith, f.0))
   some_fit (h ∷ hs) f = (f.1, refl)
 
@@ -197,7 +203,4 @@ module _ (bound : ℕ) where
   handlers_reads = record { sound = handlers_sound; complete = handlers_complete; local = local_choice (is_word word.Handle) some_handlers (give []) some_handlers_read.local (local_give []) }
 
   pub first_value_reads : Reads spelled_initial (IfThere (ExpFits bound bound 1)) (λ rest. (next (is_word word.Initial) rest ≡ false) × EndsAt 1 rest) (first_value bound)
-  first_value_reads = respelled (maybe_reads (led_reads exp_reads (Word word.Initial) tt) (is_word word.Initial) (λ a rest f. refl)) spelled_initial same where
-    same : (o : Option Exp) → spelled_initial o ≡ maybe_spell (λ e. Word word.Initial ∷ spelled_exp e) o
-    same None = refl
-    same (Some e) = refl
+  first_value_reads = respelled (maybe_reads (led_reads exp_reads (Word word.Initial) tt) (is_word word.Initial) (λ a rest f. refl)) spelled_initial initial_same

@@ -33,7 +33,7 @@ stream_reads : Reads (λ (a : List ℕ × (Bool × List ℕ)). Word word.Stream 
 stream_reads = led_reads (both_reads lower_reads (both_reads way_reads (closed_reads port_reads (Sign symbol.Semicolon) tt (λ rest. tt)) (λ b rest f e. tt)) (λ b rest f e. tt)) (Word word.Stream) tt
 
 module _ (bound : ℕ) where
-  abbrev ConstructorFits : List ℕ × List TyExp → Type 0
+  abbrev pub ConstructorFits : List ℕ × List TyExp → Type 0
   ConstructorFits c = Each (TypeFits bound) c.1
 
   data_reads : Reads (λ (a : List ℕ × List (List ℕ × List TyExp)). Word word.Data ∷ Upper a.0 ∷ Sign symbol.Equals ∷ ended (separated symbol.Bar (map spelled_constructor a.1))) (λ (a : List ℕ × List (List ℕ × List TyExp)). Unit {0} × OneOrMore ConstructorFits a.1) Anything
@@ -44,10 +44,10 @@ module _ (bound : ℕ) where
       (led (Word word.Exception) (both (pick upper_name) (closed (maybe starts_type (types bound)) (Sign symbol.Semicolon))))
   exception_reads = led_reads (both_reads upper_reads (closed_reads (carries_reads bound) (Sign symbol.Semicolon) tt (λ rest. refl)) (λ b rest f e. tt)) (Word word.Exception) tt
 
-  sides_reads : Reads (λ (a : Sides). (spelled_side a.0 ++ Word word.Out ∷ []) ++ spelled_side a.1) (λ (a : Sides). OneOrMore (TypedNameFits bound) a.0 × OneOrMore (TypedNameFits bound) a.1) Anything (sides bound)
+  pub sides_reads : Reads (λ (a : Sides). (spelled_side a.0 ++ Word word.Out ∷ []) ++ spelled_side a.1) (λ (a : Sides). OneOrMore (TypedNameFits bound) a.0 × OneOrMore (TypedNameFits bound) a.1) Anything (sides bound)
   sides_reads = both_reads (closed_reads (side_reads bound) (Word word.Out) tt (λ rest. tt)) (side_reads bound) (λ b rest f e. tt)
 
-  rules_reads : Reads (λ (a : Bool × Rules). Word (order_word a.0) ∷ (separated symbol.Bar (map spelled_rule a.1.0) ++ ended (spelled_handlers a.1.1))) (λ (a : Bool × Rules). Unit {0} × (OneOrMore (RuleFits bound) a.1.0 × Each (HandlerFits bound) a.1.1)) Anything (rules bound)
+  pub rules_reads : Reads (λ (a : Bool × Rules). Word (order_word a.0) ∷ (separated symbol.Bar (map spelled_rule a.1.0) ++ ended (spelled_handlers a.1.1))) (λ (a : Bool × Rules). Unit {0} × (OneOrMore (RuleFits bound) a.1.0 × Each (HandlerFits bound) a.1.1)) Anything (rules bound)
   rules_reads = both_reads order_reads (both_reads (listed_reads (rule_reads bound) symbol.Bar (λ rest. omega arith)) (closed_reads (handlers_reads bound) (Sign symbol.Semicolon) tt (λ rest. (refl, refl, omega arith))) rules_end) (λ b rest f e. tt) where
     rules_end : (hs : List (List ℕ × Option Pat × Exp)) (rest : List Kind) → Each (HandlerFits bound) hs → Unit {0} → (next (is_sign symbol.Bar) ((spelled_handlers hs ++ Sign symbol.Semicolon ∷ []) ++ rest) ≡ false) × EndsAt 1 ((spelled_handlers hs ++ Sign symbol.Semicolon ∷ []) ++ rest)
     rules_end [] rest f e = (refl, omega arith)
@@ -58,7 +58,7 @@ module _ (bound : ℕ) where
       (led (Word word.Box) (both (closed (pick lower_name) (Word word.In)) (both (sides bound) (rules bound))))
   box_reads = led_reads (both_reads (closed_reads lower_reads (Word word.In) tt (λ rest. tt)) (both_reads sides_reads rules_reads (λ b rest f e. tt)) (λ b rest f e. tt)) (Word word.Box) tt
 
-  box_same : (a : List ℕ × (Sides × (Bool × Rules))) → spelled_decl (box_of a) ≡ Word word.Box ∷ Lower a.0 ∷ Word word.In ∷ (((spelled_side a.1.0.0 ++ Word word.Out ∷ []) ++ spelled_side a.1.0.1) ++ Word (order_word a.1.1.0) ∷ (separated symbol.Bar (map spelled_rule a.1.1.1.0) ++ ended (spelled_handlers a.1.1.1.1)))
+  pub box_same : (a : List ℕ × (Sides × (Bool × Rules))) → spelled_decl (box_of a) ≡ Word word.Box ∷ Lower a.0 ∷ Word word.In ∷ (((spelled_side a.1.0.0 ++ Word word.Out ∷ []) ++ spelled_side a.1.0.1) ++ Word (order_word a.1.1.0) ∷ (separated symbol.Bar (map spelled_rule a.1.1.1.0) ++ ended (spelled_handlers a.1.1.1.1)))
   box_same a =
       let inputs = spelled_side a.1.0.0 in
       let outputs = spelled_side a.1.0.1 in
@@ -68,10 +68,10 @@ module _ (bound : ℕ) where
   abbrev End : Type 0
   End = List ℕ × Option (List ℕ)
 
-  abbrev WireParts : Type 0
+  abbrev pub WireParts : Type 0
   WireParts = End × (End × (Option ℕ × Option Exp))
 
-  abbrev wire_spelled : WireParts → List Kind
+  abbrev pub wire_spelled : WireParts → List Kind
   wire_spelled a = Word word.Wire ∷ ((spelled_end a.0 ++ Word word.To ∷ []) ++ (spelled_end a.1.0 ++ (spelled_wire_depth a.1.1.0 ++ ended (spelled_initial a.1.1.1))))
 
   wire_reads : Reads wire_spelled (λ (a : WireParts). Unit {0} × (Unit {0} × (Unit {0} × IfThere (ExpFits bound bound 1) a.1.1.1))) Anything
@@ -86,7 +86,7 @@ module _ (bound : ℕ) where
     no_dot (None, Some value) rest f e = refl
     no_dot (Some depth, o) rest f e = refl
 
-  wire_same : (a : WireParts) → spelled_decl (wire_of a) ≡ wire_spelled a
+  pub wire_same : (a : WireParts) → spelled_decl (wire_of a) ≡ wire_spelled a
   wire_same a = ap (λ m. Word word.Wire ∷ m) (sym (append_assoc (spelled_end a.0) (Word word.To ∷ []) (spelled_end a.1.0 ++ (spelled_wire_depth a.1.1.0 ++ ended (spelled_initial a.1.1.1)))))
 
   abbrev pub WholeFits : Decl → Type 0
@@ -147,7 +147,7 @@ module _ (bound : ℕ) where
   pub signature_reads : Reads (λ (ts : List TyExp). Sign symbol.DoubleColon ∷ ended (separated symbol.Arrow (map spelled_ty ts))) (λ (ts : List TyExp). (2 ≤ length ts) × Each (TypeFits bound) ts) Anything (signature bound)
   signature_reads = led_reads (closed_reads (several_reads (types_read bound) symbol.Arrow (λ rest. tt)) (Sign symbol.Semicolon) tt (λ rest. (refl, tt))) (Sign symbol.DoubleColon) tt
 
-  beside_reads : Reads (λ (ps : List Pat). beside (map spelled_pat ps)) (OneOrMore (PatFits bound 2)) PatEnds (some_patterns bound)
+  pub beside_reads : Reads (λ (ps : List Pat). beside (map spelled_pat ps)) (OneOrMore (PatFits bound 2)) PatEnds (some_patterns bound)
   beside_reads = made_reads (both_reads atoms (ending (many_reads atoms starts_pat (λ p rest f. first_pat bound p rest f) (λ p rest f. tt)) PatEnds (λ rest e. (e, tt))) (λ b rest f e. tt)) cons (λ (ps : List Pat). beside (map spelled_pat ps)) (OneOrMore (PatFits bound 2))
       (λ a f. (omega arith, f)) (λ a f. beside_map spelled_pat (cons a)) apart where
         atoms : Reads spelled_pat (PatFits bound 2) Anything (patterns bound).atom

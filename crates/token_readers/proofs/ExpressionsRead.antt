@@ -19,17 +19,17 @@ use Rattle.hume_ast.proofs.Depths.{fits_depth, refit}
 use Rattle.token_readers.specs.inner.Readers.{Reader, ◌>>=◌, stop, after, led, give, made, both, closed, choice, listed, maybe, alternatives, pick, next, lower_name, upper_name, number_of}
 use Rattle.token_readers.specs.inner.Types.{types}
 use Rattle.token_readers.specs.inner.Patterns.{patterns}
-use Rattle.token_readers.specs.inner.Expressions.{starts_atom, is_number, minus_ways, unary_ways, next_operator, one_operand, comparison, let_of, let_exp, if_of, if_exp, case_of, case_exp, alternative, raise_of, exp_ways, ExpReaders, atom_layer, app_layer, index_layer, unary_layer, term_layer, sum_layer, comparison_layer, conjunction_layer, disjunction_layer, whole_layer, expressions_with, expressions, at_level}
+use Rattle.token_readers.specs.inner.Expressions.{begins_part, starts_atom, is_number, minus_ways, unary_ways, next_operator, one_operand, comparison, let_of, let_exp, if_of, if_exp, case_of, case_exp, alternative, raise_of, exp_ways, ExpReaders, atom_layer, app_layer, index_layer, unary_layer, term_layer, sum_layer, comparison_layer, conjunction_layer, disjunction_layer, whole_layer, expressions_with, expressions, at_level}
 use Rattle.token_readers.proofs.Local.{Local, Splits, bind_ok, chosen, local_made, local_opens, local_led, local_bind, local_give, local_stop, local_as, give_empty}
 use Rattle.token_readers.proofs.TokensApart.{after_ok}
 use Rattle.token_readers.proofs.TypesRead.{number_reads, upper_reads, lower_reads, types_read}
 use Rattle.token_readers.proofs.PatternsRead.{PatEnds, patterns_read}
-use Rattle.token_readers.proofs.Forms.{Reads, Anything, Sound, along, led_reads, closed_reads, both_reads, listed_reads, maybe_reads, maybe_spell, made_reads, made_sound, made_complete, opens_sound, opened, choice_sound, alternatives_sound, respelled, ending, alternatives_local}
+use Rattle.token_readers.proofs.Forms.{none_read, Reads, Anything, Sound, along, led_reads, closed_reads, both_reads, listed_reads, maybe_reads, maybe_spell, made_reads, made_sound, made_complete, opens_sound, opened, choice_sound, alternatives_sound, respelled, ending, alternatives_local}
 use Rattle.token_readers.proofs.Levels.{LayerFit, exp_spell, exp_spelled, spelled_out, EndsAt, stops_above, all_stop, no_atom_next, opens_at, layer_opens, opening, atom_next, not_next, op_high, is_next, operator_stops, no_operator}
 use Rattle.token_readers.proofs.Atoms.{atom_reads, app_layer_reads, has_room}
 use Rattle.token_readers.proofs.Chains.{rolled_fit, chain_reads, operand_sound, operand_complete, local_operand}
 
-no_number : (ks ls : List Kind) → next is_number (ks ++ ls) ≡ false → NoNumberFirst ks
+pub no_number : (ks ls : List Kind) → next is_number (ks ++ ls) ≡ false → NoNumberFirst ks
 no_number [] ls h = tt
 no_number (Number n ∷ ks) ls h = cc
 no_number (_ ∷ ks) ls h = tt
@@ -72,7 +72,7 @@ module _ (bound room : ℕ) (child : Reader Exp) (index : Reader (Exp-F Exp)) (r
         | inr w ↦ neg_sound ks x w.0 (any_sound ks x w.1)
       ]
 
-  minus_local : Local minuses
+  pub minus_local : Local minuses
   minus_local = alternatives_local (minus_ways child) (local_made (Exp-F.Num true) (pick number_of) number_reads.local, (local_made Exp-F.Neg child reads.local, tt))
 
   minus_led : Sound exp_spell Signed (led (Sign symbol.Minus) minuses)
@@ -147,7 +147,7 @@ module _ (bound room : ℕ) (child : Reader Exp) (index : Reader (Exp-F Exp)) (r
     );
   }
 
-compares : (o : BinOp) → op_level o ≡ 4 → left_level o ≡ 5
+pub compares : (o : BinOp) → op_level o ≡ 4 → left_level o ≡ 5
 compares op.Or e = absurd (omega (arith, e))
 compares op.Eq e = refl
 compares op.Ne e = refl
@@ -158,7 +158,7 @@ compares op.Ge e = refl
 compares _ e = absurd (omega (arith, e))
 
 module _ (bound room : ℕ) (child : Reader Exp) (first : Reader (Exp-F Exp)) (reads : Reads spelled_exp (ExpFits bound room 5) (EndsAt 5) child) (firsts : Reads exp_spell (LayerFit bound room 5) (EndsAt 5) first) where
-  abbrev second : Exp-F Exp → Reader (Exp-F Exp)
+  abbrev pub second : Exp-F Exp → Reader (Exp-F Exp)
   second x ks = cond (is_some (next_operator 4 ks)) (one_operand 4 room child x ks) (Ok (x, ks))
 
   second_sound : (start ks : List Kind) (x : Exp-F Exp) (y : Exp-F Exp × List Kind) → LayerFit bound room 5 x → start ≡ exp_spell x ++ ks → second x ks ≡ Ok y → LayerFit bound room 4 y.0 × (start ≡ exp_spell y.0 ++ y.1)
@@ -226,8 +226,11 @@ module _ (bound room : ℕ) (child : Reader Exp) (first : Reader (Exp-F Exp)) (r
   second_at x [] = give_empty (second x) x refl
   second_at x (k ∷ ks) = second_by x k ks (next_operator 4 (k ∷ [])) refl
 
+  pub second_local : (x : Exp-F Exp) → Local (second x)
+  second_local x = record { at = second_at x }
+
   pub comparison_reads : Reads exp_spell (LayerFit bound room 4) (EndsAt 4) (comparison 4 room child first)
-  comparison_reads = record { sound = compare_sound; complete = compare_complete; local = local_bind first second firsts.local (λ x. record { at = second_at x }) }
+  comparison_reads = record { sound = compare_sound; complete = compare_complete; local = local_bind first second firsts.local second_local }
 
 module _ (bound room : ℕ) (pattern : Reader Pat) (child atom : Reader Exp) (or : Reader (Exp-F Exp)) (pats : Reads spelled_pat (PatFits bound 1) PatEnds pattern) (reads : Reads spelled_exp (ExpFits bound room 1) (EndsAt 1) child) (atoms : Reads spelled_exp (ExpFits bound room 10) (EndsAt 10) atom) (ors : Reads exp_spell (LayerFit bound room 2) (EndsAt 2) or) where
   abbrev Whole : Exp-F Exp → Type 0
@@ -240,20 +243,20 @@ module _ (bound room : ℕ) (pattern : Reader Pat) (child atom : Reader Exp) (or
       (led (Word word.Let) (both (closed (pick lower_name) (Sign symbol.Equals)) (both (closed child (Word word.In)) child)))
   let_reads = led_reads (both_reads (closed_reads lower_reads (Sign symbol.Equals) tt (λ rest. tt)) (both_reads (closed_reads reads (Word word.In) tt (λ rest. omega arith)) reads (λ b rest f e. tt)) (λ b rest f e. tt)) (Word word.Let) tt
 
-  let_same : (a : List ℕ × (Exp × Exp)) → exp_spell (let_of a) ≡ Word word.Let ∷ Lower a.0 ∷ Sign symbol.Equals ∷ ((spelled_exp a.1.0 ++ Word word.In ∷ []) ++ spelled_exp a.1.1)
+  pub let_same : (a : List ℕ × (Exp × Exp)) → exp_spell (let_of a) ≡ Word word.Let ∷ Lower a.0 ∷ Sign symbol.Equals ∷ ((spelled_exp a.1.0 ++ Word word.In ∷ []) ++ spelled_exp a.1.1)
   let_same a = ap (λ m. Word word.Let ∷ Lower a.0 ∷ Sign symbol.Equals ∷ m) (sym (append_assoc (spelled_exp a.1.0) (Word word.In ∷ []) (spelled_exp a.1.1)))
 
   if_reads : Reads (λ (a : Exp × (Exp × Exp)). Word word.If ∷ ((spelled_exp a.0 ++ Word word.Then ∷ []) ++ ((spelled_exp a.1.0 ++ Word word.Else ∷ []) ++ spelled_exp a.1.1))) (λ (a : Exp × (Exp × Exp)). Part a.0 × (Part a.1.0 × Part a.1.1)) (EndsAt 1)
       (led (Word word.If) (both (closed child (Word word.Then)) (both (closed child (Word word.Else)) child)))
   if_reads = led_reads (both_reads (closed_reads reads (Word word.Then) tt (λ rest. omega arith)) (both_reads (closed_reads reads (Word word.Else) tt (λ rest. omega arith)) reads (λ b rest f e. tt)) (λ b rest f e. tt)) (Word word.If) tt
 
-  if_same : (a : Exp × (Exp × Exp)) → exp_spell (if_of a) ≡ Word word.If ∷ ((spelled_exp a.0 ++ Word word.Then ∷ []) ++ ((spelled_exp a.1.0 ++ Word word.Else ∷ []) ++ spelled_exp a.1.1))
+  pub if_same : (a : Exp × (Exp × Exp)) → exp_spell (if_of a) ≡ Word word.If ∷ ((spelled_exp a.0 ++ Word word.Then ∷ []) ++ ((spelled_exp a.1.0 ++ Word word.Else ∷ []) ++ spelled_exp a.1.1))
   if_same a = ap (λ m. Word word.If ∷ m) (simp append_assoc)
 
-  abbrev alternative_spell : Pat × Exp → List Kind
+  abbrev pub alternative_spell : Pat × Exp → List Kind
   alternative_spell a = spelled_pat a.0 ++ Sign symbol.Arrow ∷ spelled_exp a.1
 
-  alternative_reads : Reads alternative_spell (λ (a : Pat × Exp). PatFits bound 1 a.0 × Part a.1) (EndsAt 1) (alternative pattern child)
+  pub alternative_reads : Reads alternative_spell (λ (a : Pat × Exp). PatFits bound 1 a.0 × Part a.1) (EndsAt 1) (alternative pattern child)
   alternative_reads = respelled (both_reads (closed_reads pats (Sign symbol.Arrow) tt (λ rest. refl)) reads (λ b rest f e. tt)) alternative_spell (λ a. sym (append_assoc (spelled_pat a.0) (Sign symbol.Arrow ∷ []) (spelled_exp a.1)))
 
   alternatives_same : (as1 : List (Pat × Exp)) → map spell_alternative (map (λ (a : Pat × Exp). (a.0, spelled_exp a.1)) as1) ≡ map alternative_spell as1
@@ -265,18 +268,18 @@ module _ (bound room : ℕ) (pattern : Reader Pat) (child atom : Reader Exp) (or
       (led (Word word.Case) (both (closed child (Word word.Of)) (closed (listed symbol.Bar (alternative pattern child)) (Word word.End))))
   case_reads = led_reads (both_reads (closed_reads reads (Word word.Of) tt (λ rest. omega arith)) (closed_reads (listed_reads alternative_reads symbol.Bar (λ rest. omega arith)) (Word word.End) tt (λ rest. (refl, omega arith))) (λ b rest f e. tt)) (Word word.Case) tt
 
-  case_same : (a : Exp × List (Pat × Exp)) → exp_spell (case_of a) ≡ Word word.Case ∷ ((spelled_exp a.0 ++ Word word.Of ∷ []) ++ (separated symbol.Bar (map alternative_spell a.1) ++ Word word.End ∷ []))
+  pub case_same : (a : Exp × List (Pat × Exp)) → exp_spell (case_of a) ≡ Word word.Case ∷ ((spelled_exp a.0 ++ Word word.Of ∷ []) ++ (separated symbol.Bar (map alternative_spell a.1) ++ Word word.End ∷ []))
   case_same a = ap (λ l. Word word.Case ∷ (spelled_exp a.0 ++ Word word.Of ∷ (separated symbol.Bar l ++ Word word.End ∷ []))) (alternatives_same a.1)
       ∙ ap (λ m. Word word.Case ∷ m) (sym (append_assoc (spelled_exp a.0) (Word word.Of ∷ []) (separated symbol.Bar (map alternative_spell a.1) ++ Word word.End ∷ [])))
 
   raise_reads : Reads (λ (a : List ℕ × Option Exp). Word word.Raise ∷ Upper a.0 ∷ maybe_spell spelled_exp a.1) (λ (a : List ℕ × Option Exp). Unit {0} × IfThere (ExpFits bound room 10) a.1) (EndsAt 1) (led (Word word.Raise) (both (pick upper_name) (maybe starts_atom atom)))
   raise_reads = led_reads (both_reads upper_reads (ending (maybe_reads atoms starts_atom (λ e rest f. atom_next (spelled_exp e) rest (opens_at bound room 10 e (omega arith) f))) (EndsAt 1) (λ rest s. (no_atom_next 1 rest (omega arith) s, all_stop rest))) (λ b rest f e. tt)) (Word word.Raise) tt
 
-  raise_fit : (a : List ℕ × Option Exp) → Unit {0} × IfThere (ExpFits bound room 10) a.1 → Whole (raise_of a)
+  pub raise_fit : (a : List ℕ × Option Exp) → Unit {0} × IfThere (ExpFits bound room 10) a.1 → Whole (raise_of a)
   raise_fit (x, None) f = (omega arith, tt)
   raise_fit (x, Some e) f = (omega arith, f.1)
 
-  raise_same : (a : List ℕ × Option Exp) → exp_spell (raise_of a) ≡ Word word.Raise ∷ Upper a.0 ∷ maybe_spell spelled_exp a.1
+  pub raise_same : (a : List ℕ × Option Exp) → exp_spell (raise_of a) ≡ Word word.Raise ∷ Upper a.0 ∷ maybe_spell spelled_exp a.1
   raise_same (x, None) = refl
   raise_same (x, Some e) = refl
 
@@ -385,27 +388,27 @@ pub record ExpsRead (bound room : ℕ) (p : ExpReaders) : Type 0 where
   pub app : Reads spelled_exp (ExpFits bound room 9) (EndsAt 9) p.app
   pub atom : Reads spelled_exp (ExpFits bound room 10) (EndsAt 10) p.atom
 
-left_or : (o : BinOp) → op_level o ≡ 2 → left_level o ≡ 2
+pub left_or : (o : BinOp) → op_level o ≡ 2 → left_level o ≡ 2
 left_or op.Or e = refl
 left_or _ e = absurd (omega (arith, e))
 
-left_and : (o : BinOp) → op_level o ≡ 3 → left_level o ≡ 3
+pub left_and : (o : BinOp) → op_level o ≡ 3 → left_level o ≡ 3
 left_and op.And e = refl
 left_and op.Or e = absurd (omega (arith, e))
 left_and _ e = absurd (omega (arith, e))
 
-left_sum : (o : BinOp) → op_level o ≡ 5 → left_level o ≡ 5
+pub left_sum : (o : BinOp) → op_level o ≡ 5 → left_level o ≡ 5
 left_sum op.Add e = refl
 left_sum op.Sub e = refl
 left_sum _ e = absurd (omega (arith, e))
 
-left_term : (o : BinOp) → op_level o ≡ 6 → left_level o ≡ 6
+pub left_term : (o : BinOp) → op_level o ≡ 6 → left_level o ≡ 6
 left_term op.Mul e = refl
 left_term op.Div e = refl
 left_term op.Mod e = refl
 left_term _ e = absurd (omega (arith, e))
 
-left_index : (o : BinOp) → op_level o ≡ 8 → left_level o ≡ 8
+pub left_index : (o : BinOp) → op_level o ≡ 8 → left_level o ≡ 8
 left_index op.At e = refl
 left_index op.Or e = absurd (omega (arith, e))
 left_index _ e = absurd (omega (arith, e))
@@ -444,7 +447,7 @@ module _ (bound room : ℕ) (type : Reader TyExp) (pattern : Reader Pat) (tys : 
 module _ (bound : ℕ) (type : Reader TyExp) (pattern : Reader Pat) (tys : Reads spelled_ty (TypeFits bound) Anything type) (pats : Reads spelled_pat (PatFits bound 1) PatEnds pattern) where
   pub all_read : (room : ℕ) → ExpsRead bound room (expressions_with type pattern room)
   unfolding expressions_with
-  all_read zero = record { whole = nothing bound 1; disjunction = nothing bound 2; conjunction = nothing bound 3; comparison = nothing bound 4; sum = nothing bound 5; term = nothing bound 6; unary = nothing bound 7; index = nothing bound 8; app = nothing bound 9; atom = nothing bound 10 }
+  all_read zero = record { whole = nothing bound 1; disjunction = nothing bound 2; conjunction = nothing bound 3; comparison = nothing bound 4; sum = nothing bound 5; term = nothing bound 6; unary = none_read spelled_exp (ExpFits bound 0 7) (EndsAt 7) begins_part (λ e f. f); index = nothing bound 8; app = nothing bound 9; atom = none_read spelled_exp (ExpFits bound 0 10) (EndsAt 10) starts_atom (λ e f. f) }
   all_read (suc room) = let below = expressions_with type pattern room in let h = all_read room in record {
     whole = rolled bound room 1 (whole_layer room type pattern below) (whole_now bound room type pattern tys pats below h);
     disjunction = rolled bound room 2 (disjunction_layer room type below) (disjunction_now bound room type pattern tys pats below h);
@@ -467,7 +470,7 @@ some_spelled bound room level e h f = longer (spelled_exp e) (omega (arith, h, o
   longer [] g = absurd (omega (arith, g))
   longer (k ∷ ks) g = omega arith
 
-level_shrinks : (bound room level : ℕ) (p : Reader Exp) → 1 ≤ level → Reads spelled_exp (ExpFits bound room level) (EndsAt level) p → (ks : List Kind) (x : Exp × List Kind) → p ks ≡ Ok x → length x.1 < length ks
+pub level_shrinks : (bound room level : ℕ) (p : Reader Exp) → 1 ≤ level → Reads spelled_exp (ExpFits bound room level) (EndsAt level) p → (ks : List Kind) (x : Exp × List Kind) → p ks ≡ Ok x → length x.1 < length ks
 level_shrinks bound room level p h reads ks x e = let s = reads.sound ks x e in omega (arith, some_spelled bound room level x.0 h s.0, ap length s.1, length-append (spelled_exp x.0) x.1)
 
 -- whatever is read at any level takes a token

@@ -9,8 +9,8 @@ use Rattle.hume_base.specs.declared.token.Kind.TheVariants.{Sign}
 use Rattle.hume_base.specs.declared.symbol.Symbol.{Symbol}
 use Rattle.hume_ast.specs.Fits.{Each, OneOrMore, IfThere}
 use Rattle.hume_ast.specs.Spelling.{preceded, separated, beside}
-use Rattle.token_readers.specs.inner.Readers.{Reader, ◌>>=◌, next, after, led, closed, give, both, made, choice, alternatives, picked, pick, opens, many, cons, listed, several, maybe, is_sign}
-use Rattle.token_readers.proofs.Local.{Local, bind_ok, chosen, local_stop, local_led, local_closed, local_give, local_both, local_made, local_choice, local_pick, local_many, many_stop, many_turn}
+use Rattle.token_readers.specs.inner.Readers.{Reader, ◌>>=◌, stop, too_deep, next, after, led, closed, give, both, made, choice, alternatives, picked, pick, opens, many, cons, listed, several, maybe, is_sign}
+use Rattle.token_readers.proofs.Local.{Local, bind_ok, chosen, local_stop, local_too_deep, local_led, local_closed, local_give, local_both, local_made, local_choice, local_pick, local_many, many_stop, many_turn}
 use Rattle.token_readers.proofs.TokensApart.{IsFixed, after_ok, after_is, same_symbol-refl}
 
 -- The reader gives the fit thing that is spelled at the front, wherever what follows ends it.
@@ -186,7 +186,7 @@ give_reads {A = A} a Ends = record {
   local = local_give a;
 }
 
-preceded_map : {A : Type 0} (spell : A → List Kind) (sign : Symbol) (xs : List A) → preceded sign (map spell xs) ≡ flat_map (λ a. Sign sign ∷ spell a) xs
+pub preceded_map : {A : Type 0} (spell : A → List Kind) (sign : Symbol) (xs : List A) → preceded sign (map spell xs) ≡ flat_map (λ a. Sign sign ∷ spell a) xs
 preceded_map spell sign [] = refl
 preceded_map spell sign (x ∷ xs) = ap (λ m. Sign sign ∷ (spell x ++ m)) (preceded_map spell sign xs)
 
@@ -202,7 +202,7 @@ module _ {A : Type 0} {spell : A → List Kind} {Fit : A → Type 0} {Ends : Lis
   follow_first [] rest f e = e.1
   follow_first (a ∷ others) rest f e = stops ((spell a ++ flat_map (λ a. Sign sign ∷ spell a) others) ++ rest)
 
-  others_read : Reads (flat_map (λ a. Sign sign ∷ spell a)) (Each Fit) EndsList (many (is_sign sign) (led (Sign sign) p))
+  pub others_read : Reads (flat_map (λ a. Sign sign ∷ spell a)) (Each Fit) EndsList (many (is_sign sign) (led (Sign sign) p))
   others_read = many_reads (led_reads reads (Sign sign) tt) (is_sign sign) (λ a rest f. same_symbol-refl sign) (λ a rest f. stops (spell a ++ rest))
 
   pub listed_reads : Reads (λ xs. separated sign (map spell xs)) (OneOrMore Fit) EndsList (listed sign p)
@@ -287,4 +287,12 @@ restated {spell = spell} {Fit = Fit} {p = p} r other Fit2 there back = record {
   sound = restated_sound spell Fit p r.sound other Fit2 there;
   complete = λ a rest f e. ap (λ m. p (m ++ rest)) (there a (back a f)).1 ∙ r.complete a rest (back a f) e;
   local = r.local;
+}
+
+-- where there is no room
+pub none_read : {A : Type 0} (spell : A → List Kind) (Fit : A → Type 0) (Ends : List Kind → Type 0) (test : Kind → Bool) → ((a : A) → Fit a → ⊥) → Reads spell Fit Ends (choice test too_deep stop)
+none_read spell Fit Ends test none = record {
+  sound = choice_sound spell Fit test too_deep stop (λ ks x e. (cc)) (λ ks x e. (cc));
+  complete = λ a rest f e. absurd (none a f);
+  local = local_choice test too_deep stop local_too_deep local_stop;
 }

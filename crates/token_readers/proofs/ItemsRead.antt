@@ -65,13 +65,13 @@ no_colon ks h = elim (cases_Bool (next (is_sign symbol.DoubleColon) ks)) [
 
 module _ (bound : ℕ) where
   -- the item begins with this name
-  abbrev Begins : List ℕ → Item → Type 0
-  Begins name item = spelled_item item ≡ Lower name ∷ behind (spelled_item item)
+  abbrev pub Named : List ℕ → Item → Type 0
+  Named name item = spelled_item item ≡ Lower name ∷ behind (spelled_item item)
 
-  abbrev BehindFits : Expecting → List ℕ → Item → Type 0
-  BehindFits expecting name item = ItemFits bound expecting item × Begins name item
+  abbrev pub BehindFits : Expecting → List ℕ → Item → Type 0
+  BehindFits expecting name item = ItemFits bound expecting item × Named name item
 
-  abbrev behind_spell : Item → List Kind
+  abbrev pub behind_spell : Item → List Kind
   behind_spell item = behind (spelled_item item)
 
   signature_sound : (expecting : Expecting) (name : List ℕ) → ((types : List TyExp) → MayStand expecting (Signature name types)) → Sound behind_spell (BehindFits expecting name) (signature_item bound name)
@@ -131,7 +131,7 @@ module _ (bound : ℕ) where
   equation_local : (name : List ℕ) → Local (equation_item bound name)
   equation_local name = local_made (equation_of name) _ (equation_reads bound).local
 
-  behind_local : (expecting : Expecting) (name : List ℕ) → Local (behind_name bound expecting name)
+  pub behind_local : (expecting : Expecting) (name : List ℕ) → Local (behind_name bound expecting name)
   behind_local Outside name = signature_local name
   behind_local Wanting name = equation_local name
   behind_local Within name = local_choice (is_sign symbol.DoubleColon) (signature_item bound name) (equation_item bound name) (signature_local name) (equation_local name)

@@ -3,15 +3,15 @@ use Rattle.std.proofs.Common.{◌≡◌, ℕ, zero, suc, ◌<◌, ◌≤◌, Lis
 use Rattle.std.specs.Prelude.{Result, Ok, Err, Option, Some, None}
 use Rattle.std.proofs.lemmas.Bool.{cases_Bool}
 use Rattle.hume_base.specs.declared.token.Kind.{Kind}
-use Rattle.token_readers.specs.inner.Readers.{Reader, ◌>>=◌, stop, next, is_token, led, closed, give, both, made, choice, pick, opens, turns, many}
+use Rattle.token_readers.specs.inner.Readers.{Wrong, Reader, ◌>>=◌, stop, too_deep, next, is_token, led, closed, give, both, made, choice, pick, opens, turns, many}
 
 -- what a step that gave something gave
-pub bind_ok : {A B : Type 0} (r : Result A ℕ) (f : A → Result B ℕ) (y : B) → (r >>= f) ≡ Ok y → (x : A) × (r ≡ Ok x) × (f x ≡ Ok y)
+pub bind_ok : {A B : Type 0} (r : Result A Wrong) (f : A → Result B Wrong) (y : B) → (r >>= f) ≡ Ok y → (x : A) × (r ≡ Ok x) × (f x ≡ Ok y)
 bind_ok (Ok x) f y e = (x, refl, e)
 bind_ok (Err n) f y e = cc
 
 -- a choice that gave something, where the other side is a stop
-pub chosen_ok : {A : Type 0} (b : Bool) (r : Result A ℕ) (n : ℕ) (y : A) → cond b r (Err n) ≡ Ok y → (b ≡ true) × (r ≡ Ok y)
+pub chosen_ok : {A : Type 0} (b : Bool) (r : Result A Wrong) (n : Wrong) (y : A) → cond b r (Err n) ≡ Ok y → (b ≡ true) × (r ≡ Ok y)
 chosen_ok true r n y e = (refl, e)
 chosen_ok false r n y e = cc
 
@@ -28,9 +28,9 @@ SameNext (k ∷ ks) [] = ⊥
 SameNext (k ∷ ks) (l ∷ ls) = k ≡ l
 
 -- what was taken, and that anything else with the same next token gives the same
-abbrev pub Splits : {A : Type 0} → Reader A → List Kind → Result (A × List Kind) ℕ → Type 0
+abbrev pub Splits : {A : Type 0} → Reader A → List Kind → Result (A × List Kind) Wrong → Type 0
 Splits p ks (Ok x) = (front : List Kind) × (ks ≡ front ++ x.1) × ((ls : List Kind) → SameNext x.1 ls → p (front ++ ls) ≡ Ok (x.0, ls))
-Splits p ks (Err n) = (front : List Kind) × (rest : List Kind) × (ks ≡ front ++ rest) × (n ≡ length rest) × ((ls : List Kind) → SameNext rest ls → p (front ++ ls) ≡ Err (length ls))
+Splits p ks (Err n) = (front : List Kind) × (rest : List Kind) × (ks ≡ front ++ rest) × (n.1 ≡ length rest) × ((ls : List Kind) → SameNext rest ls → p (front ++ ls) ≡ Err (n.0, length ls))
 
 pub record Local {A : Type 0} (p : Reader A) : Type 0 where
   pub at : (ks : List Kind) → Splits p ks (p ks)
@@ -43,7 +43,7 @@ same_along : (ks ms ls : List Kind) → ks ≡ ms → SameNext ms ls → SameNex
 same_along ks ms ls e h = subst (λ l. SameNext l ls) (sym e) h
 
 module _ {A B : Type 0} (p : Reader A) (f : A → Reader B) where
-  splits_after : (ks : List Kind) (x : A × List Kind) (front : List Kind) → ks ≡ front ++ x.1 → ((ls : List Kind) → SameNext x.1 ls → p (front ++ ls) ≡ Ok (x.0, ls)) → (r : Result (B × List Kind) ℕ) → Splits (f x.0) x.1 r → Splits (λ l. p l >>= λ y. f y.0 y.1) ks r
+  splits_after : (ks : List Kind) (x : A × List Kind) (front : List Kind) → ks ≡ front ++ x.1 → ((ls : List Kind) → SameNext x.1 ls → p (front ++ ls) ≡ Ok (x.0, ls)) → (r : Result (B × List Kind) Wrong) → Splits (f x.0) x.1 r → Splits (λ l. p l >>= λ y. f y.0 y.1) ks r
   splits_after ks x front e h (Ok y) s = (
     front ++ s.0,
     e ∙ ap (λ l. front ++ l) s.1 ∙ sym (append_assoc front s.0 y.1),
@@ -59,7 +59,7 @@ module _ {A B : Type 0} (p : Reader A) (f : A → Reader B) where
         ∙ rw (h (s.0 ++ ls) (same_along x.1 (s.0 ++ s.1) (s.0 ++ ls) s.2 (same_after s.0 s.1 ls same))) (s.4 ls same),
   )
 
-  pub splits_bind : (ks : List Kind) (r : Result (A × List Kind) ℕ) → p ks ≡ r → Splits p ks r → ((x : A × List Kind) → p ks ≡ Ok x → Splits (f x.0) x.1 (f x.0 x.1)) → Splits (λ l. p l >>= λ y. f y.0 y.1) ks (r >>= λ y. f y.0 y.1)
+  pub splits_bind : (ks : List Kind) (r : Result (A × List Kind) Wrong) → p ks ≡ r → Splits p ks r → ((x : A × List Kind) → p ks ≡ Ok x → Splits (f x.0) x.1 (f x.0 x.1)) → Splits (λ l. p l >>= λ y. f y.0 y.1) ks (r >>= λ y. f y.0 y.1)
   splits_bind ks (Err n) e s h = (s.0, s.1, s.2, s.3, λ ls same. rw (s.4 ls same))
   splits_bind ks (Ok x) e s h = splits_after ks x s.0 s.1 s.2 (f x.0 x.1) (h x e)
 
@@ -68,7 +68,7 @@ module _ {A B : Type 0} (p : Reader A) (f : A → Reader B) where
 
 -- a reader that goes on as another one behind a token, or at it
 module _ {A : Type 0} (p q : Reader A) (k : Kind) where
-  behind_token : ((ls : List Kind) → p (k ∷ ls) ≡ q ls) → (ks : List Kind) (r : Result (A × List Kind) ℕ) → Splits q ks r → Splits p (k ∷ ks) r
+  behind_token : ((ls : List Kind) → p (k ∷ ls) ≡ q ls) → (ks : List Kind) (r : Result (A × List Kind) Wrong) → Splits q ks r → Splits p (k ∷ ks) r
   behind_token h ks (Ok x) s = (k ∷ s.0, ap (λ l. k ∷ l) s.1, λ ls same. h (s.0 ++ ls) ∙ s.2 ls same)
   behind_token h ks (Err n) s = (k ∷ s.0, s.1, ap (λ l. k ∷ l) s.2, s.3, λ ls same. h (s.0 ++ ls) ∙ s.4 ls same)
 
@@ -81,7 +81,7 @@ module _ {A : Type 0} (p q : Reader A) (k : Kind) where
   agree_at h ks [] (j ∷ rest) [] e same = absurd same
   agree_at h ks [] (j ∷ rest) (i ∷ ls) e same = let is : k ≡ i = cc in subst (λ i. p (i ∷ ls) ≡ q (i ∷ ls)) is (h ls)
 
-  as_other : ((ls : List Kind) → p (k ∷ ls) ≡ q (k ∷ ls)) → (ks : List Kind) (r : Result (A × List Kind) ℕ) → Splits q (k ∷ ks) r → Splits p (k ∷ ks) r
+  as_other : ((ls : List Kind) → p (k ∷ ls) ≡ q (k ∷ ls)) → (ks : List Kind) (r : Result (A × List Kind) Wrong) → Splits q (k ∷ ks) r → Splits p (k ∷ ks) r
   as_other h ks (Ok x) s = (s.0, s.1, λ ls same. agree_at h ks s.0 x.1 ls s.1 same ∙ s.2 ls same)
   as_other h ks (Err n) s = (s.0, s.1, s.2, s.3, λ ls same. agree_at h ks s.0 s.1 ls s.2 same ∙ s.4 ls same)
 
@@ -94,6 +94,9 @@ module _ {A : Type 0} (p q : Reader A) (k : Kind) where
 pub local_stop : {A : Type 0} → Local {A = A} stop
 local_stop = record { at = λ ks. ([], ks, refl, refl, λ ls same. refl) }
 
+pub local_too_deep : {A : Type 0} → Local {A = A} too_deep
+local_too_deep = record { at = λ ks. ([], ks, refl, refl, λ ls same. refl) }
+
 pub local_give : {A : Type 0} (a : A) → Local {A = A} (λ ks. Ok (a, ks))
 local_give a = record { at = λ ks. ([], refl, λ ls same. refl) }
 
@@ -101,8 +104,8 @@ only_empty : (P : List Kind → Type 0) → P [] → (ls : List Kind) → SameNe
 only_empty P h [] same = h
 only_empty P h (l ∷ ls) same = absurd same
 
-pub stop_empty : {A : Type 0} (p : Reader A) → p [] ≡ Err 0 → Splits p [] (p [])
-stop_empty p e = subst (Splits p []) (sym e) ([], [], refl, refl, λ ls same. only_empty (λ l. p l ≡ Err (length l)) e ls same)
+pub stop_empty : {A : Type 0} (p : Reader A) → p [] ≡ Err (false, 0) → Splits p [] (p [])
+stop_empty p e = subst (Splits p []) (sym e) ([], [], refl, refl, λ ls same. only_empty (λ l. p l ≡ Err (false, length l)) e ls same)
 
 pub give_empty : {A : Type 0} (p : Reader A) (a : A) → p [] ≡ Ok (a, []) → Splits p [] (p [])
 give_empty p a e = subst (Splits p []) (sym e) ([], refl, λ ls same. only_empty (λ l. p l ≡ Ok (a, l)) e ls same)
@@ -111,9 +114,9 @@ no_front : (front ks : List Kind) → [] ≡ front ++ ks → (front ≡ []) × (
 no_front [] ks e = (refl, sym e)
 no_front (k ∷ front) ks e = absurd (let f : [] ≡ k ∷ (front ++ ks) = e in cc)
 
-as_empty : {A : Type 0} (p q : Reader A) → p [] ≡ q [] → (r : Result (A × List Kind) ℕ) → q [] ≡ r → Splits q [] r → Splits p [] r
+as_empty : {A : Type 0} (p q : Reader A) → p [] ≡ q [] → (r : Result (A × List Kind) Wrong) → q [] ≡ r → Splits q [] r → Splits p [] r
 as_empty p q e (Ok x) is s = let none = (no_front s.0 x.1 s.1).1 in ([], sym none, λ ls same. only_empty (λ l. p l ≡ Ok (x.0, l)) (e ∙ is ∙ ap (λ l. Ok (x.0, l)) none) ls (subst (λ l. SameNext l ls) none same))
-as_empty p q e (Err n) is s = let none = (no_front s.0 s.1 s.2).1 in ([], [], refl, s.3 ∙ ap length none, λ ls same. only_empty (λ l. p l ≡ Err (length l)) (e ∙ is ∙ ap Err (s.3 ∙ ap length none)) ls same)
+as_empty p q e (Err n) is s = let none = (no_front s.0 s.1 s.2).1 in ([], [], refl, s.3 ∙ ap length none, λ ls same. only_empty (λ l. p l ≡ Err (n.0, length l)) (e ∙ is ∙ ap (λ m. Err (n.0, m)) (s.3 ∙ ap length none)) ls same)
 
 pub local_as_empty : {A : Type 0} (p q : Reader A) → p [] ≡ q [] → Local q → Splits p [] (p [])
 local_as_empty p q e lq = subst (Splits p []) (sym e) (as_empty p q e (q []) refl (lq.at []))
@@ -150,7 +153,7 @@ pub local_made : {A B : Type 0} (f : A → B) (p : Reader A) → Local p → Loc
 local_made f p lp = local_bind p (λ a l. Ok (f a, l)) lp (λ a. local_give (f a))
 
 pub local_opens : {A : Type 0} (room : ℕ) (p : Reader A) → Local p → Local (opens room p)
-local_opens zero p lp = local_stop
+local_opens zero p lp = local_too_deep
 local_opens (suc room) p lp = lp
 
 module _ {A : Type 0} (f : Kind → Option A) where
@@ -165,7 +168,7 @@ module _ {A : Type 0} (f : Kind → Option A) where
   pub local_pick : Local (pick f)
   local_pick = record { at = pick_split }
 
-pub bind_same : {A B : Type 0} (r : Result A ℕ) (f g : A → Result B ℕ) → ((x : A) → r ≡ Ok x → f x ≡ g x) → (r >>= f) ≡ (r >>= g)
+pub bind_same : {A B : Type 0} (r : Result A Wrong) (f g : A → Result B Wrong) → ((x : A) → r ≡ Ok x → f x ≡ g x) → (r >>= f) ≡ (r >>= g)
 bind_same (Ok x) f g h = h x refl
 bind_same (Err n) f g h = refl
 
@@ -175,7 +178,7 @@ module _ {A : Type 0} (test : Kind → Bool) (p : Reader A) (shrinks : (ks : Lis
   at_end zero = refl
   at_end (suc n) = refl
 
-  abbrev one_more : A → List A × List Kind → Result (List A × List Kind) ℕ
+  abbrev one_more : A → List A × List Kind → Result (List A × List Kind) Wrong
   one_more a others = Ok (a ∷ others.0, others.1)
 
   -- a bound over the number of tokens makes no difference

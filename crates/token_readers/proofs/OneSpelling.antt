@@ -13,7 +13,7 @@ use Rattle.hume_ast.specs.Fits.{TypeFits, PatFits, ExpFits, IsProper}
 use Rattle.hume_ast.specs.Places.{unplaced, placed, StandsFor}
 use Rattle.hume_ast.proofs.Depths.{fits_depth, refit}
 use Rattle.hume_ast.proofs.ProgramDepths.{decls_wider}
-use Rattle.token_readers.specs.inner.Readers.{Reader}
+use Rattle.token_readers.specs.inner.Readers.{Wrong, Reader}
 use Rattle.token_readers.proofs.Forms.{Reads}
 use Rattle.token_readers.proofs.TypesRead.{types_read}
 use Rattle.token_readers.proofs.PatternsRead.{patterns_read}
@@ -21,7 +21,7 @@ use Rattle.token_readers.proofs.ExpressionsRead.{expressions_read}
 use Rattle.token_readers.proofs.ProgramsRead.{program_reads}
 use Rattle.token_readers.proofs.StandingFor.{tokens_of, unplaced_fit}
 
-pair_same : {A : Type 0} (a b : A) (rest : List Kind) → ◌≡◌ {A = Result (A × List Kind) ℕ} (Ok (a, rest)) (Ok (b, rest)) → a ≡ b
+pair_same : {A : Type 0} (a b : A) (rest : List Kind) → ◌≡◌ {A = Result (A × List Kind) Wrong} (Ok (a, rest)) (Ok (b, rest)) → a ≡ b
 pair_same {A = A} a b rest e = let pairs : (a, rest) ≡ (b, rest) = cc in ap (λ (y : A × List Kind). y.0) pairs
 
 module _ {A : Type 0} {spell : A → List Kind} {Fit : A → Type 0} {Ends : List Kind → Type 0} {p : Reader A} (reads : Reads spell Fit Ends p) (ends : Ends []) where

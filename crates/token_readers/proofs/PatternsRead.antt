@@ -12,16 +12,16 @@ use Rattle.hume_ast.specs.Spelling.{spell_pat, spelled_pat}
 use Rattle.hume_ast.specs.Fits.{Each, PatFits, PatParts, pat_level}
 use Rattle.token_readers.specs.inner.Readers.{Reader, stop, led, made, both, closed, many, alternatives, pick, next, is_sign, number_of, upper_name}
 use Rattle.token_readers.specs.inner.Patterns.{pat_leaf, starts_pat, is_upper, pat_in_parens, parens_pat, pat_ways, con_of, con_pat, PatReaders, whole_ways, patterns, input_ways, input_pattern}
-use Rattle.token_readers.proofs.Local.{Local, local_made, local_opens, local_stop, local_pick}
+use Rattle.token_readers.proofs.Local.{local_too_deep, Local, local_made, local_opens, local_stop, local_pick}
 use Rattle.token_readers.proofs.TokensApart.{some_same}
 use Rattle.token_readers.proofs.TypesRead.{number_reads, upper_reads}
-use Rattle.token_readers.proofs.Forms.{Reads, Anything, All, Sound, led_reads, closed_reads, both_reads, many_reads, made_reads, made_sound, made_complete, opens_sound, opened, leaf_sound, leaf_local, ending, enclosed, beside_map, alternatives_sound, alternatives_local, choice_sound, shrinks}
+use Rattle.token_readers.proofs.Forms.{none_read, Reads, Anything, All, Sound, led_reads, closed_reads, both_reads, many_reads, made_reads, made_sound, made_complete, opens_sound, opened, leaf_sound, leaf_local, ending, enclosed, beside_map, alternatives_sound, alternatives_local, choice_sound, shrinks}
 
 -- a pattern's tokens, seen at its first level
-abbrev pat_spell : Pat-F Pat → List Kind
+abbrev pub pat_spell : Pat-F Pat → List Kind
 pat_spell x = spell_pat (map-Pat Pat (List Kind) spelled_pat x)
 
-abbrev FitAt : ℕ → ℕ → Pat-F Pat → Type 0
+abbrev pub FitAt : ℕ → ℕ → Pat-F Pat → Type 0
 FitAt room level x = (level ≤ pat_level x) × PatParts (PatFits room) x
 
 -- no pattern beside goes on
@@ -31,7 +31,7 @@ PatEnds rest = next starts_pat rest ≡ false
 pub pat_spelled : (x : Pat-F Pat) → spelled_pat (roll-Pat x) ≡ pat_spell x
 pat_spelled x = fold-roll-Pat (List Kind) spell_pat x
 
-rolled_fit : (room level : ℕ) (x : Pat-F Pat) → FitAt room level x → PatFits (suc room) level (roll-Pat x)
+pub rolled_fit : (room level : ℕ) (x : Pat-F Pat) → FitAt room level x → PatFits (suc room) level (roll-Pat x)
 rolled_fit room level x f = subst (FitAt room level) (sym (out-roll-Pat x)) f
 
 first_by : (x : Pat-F Pat) (rest : List Kind) → 2 ≤ pat_level x → next starts_pat (pat_spell x ++ rest) ≡ true
@@ -64,7 +64,7 @@ leaf_says room (Letter byte) x e = subst (λ y. FitAt room 2 y × (pat_spell y �
 leaf_says room _ x e = cc
 
 module _ (room : ℕ) (child atom : Reader Pat) (reads : Reads spelled_pat (PatFits room 1) PatEnds child) (atoms : Reads spelled_pat (PatFits room 2) Anything atom) where
-  others_read : Reads (flat_map (λ p. Sign symbol.Comma ∷ spelled_pat p)) (Each (PatFits room 1)) (λ rest. (next (is_sign symbol.Comma) rest ≡ false) × PatEnds rest) (many (is_sign symbol.Comma) (led (Sign symbol.Comma) child))
+  pub others_read : Reads (flat_map (λ p. Sign symbol.Comma ∷ spelled_pat p)) (Each (PatFits room 1)) (λ rest. (next (is_sign symbol.Comma) rest ≡ false) × PatEnds rest) (many (is_sign symbol.Comma) (led (Sign symbol.Comma) child))
   others_read = many_reads (led_reads reads (Sign symbol.Comma) tt) (is_sign symbol.Comma) (λ p rest f. refl) (λ p rest f. refl)
 
   after_first : (ps : List Pat) (rest : List Kind) → PatEnds ((flat_map (λ p. Sign symbol.Comma ∷ spelled_pat p) ps ++ Sign symbol.CloseParen ∷ []) ++ rest)
@@ -75,11 +75,11 @@ module _ (room : ℕ) (child atom : Reader Pat) (reads : Reads spelled_pat (PatF
       (led (Sign symbol.OpenParen) (both child (closed (many (is_sign symbol.Comma) (led (Sign symbol.Comma) child)) (Sign symbol.CloseParen))))
   parens_reads = led_reads (both_reads reads (closed_reads others_read (Sign symbol.CloseParen) tt (λ rest. (refl, refl))) (λ b rest f e. after_first b rest)) (Sign symbol.OpenParen) tt
 
-  parens_fit : (a : Pat × List Pat) → PatFits room 1 a.0 × Each (PatFits room 1) a.1 → FitAt room 2 (pat_in_parens a)
+  pub parens_fit : (a : Pat × List Pat) → PatFits room 1 a.0 × Each (PatFits room 1) a.1 → FitAt room 2 (pat_in_parens a)
   parens_fit (p, []) f = (omega arith, f.0)
   parens_fit (p, q ∷ ps) f = (omega arith, (omega arith, f))
 
-  parens_same : (a : Pat × List Pat) → pat_spell (pat_in_parens a) ≡ Sign symbol.OpenParen ∷ (spelled_pat a.0 ++ (flat_map (λ p. Sign symbol.Comma ∷ spelled_pat p) a.1 ++ Sign symbol.CloseParen ∷ []))
+  pub parens_same : (a : Pat × List Pat) → pat_spell (pat_in_parens a) ≡ Sign symbol.OpenParen ∷ (spelled_pat a.0 ++ (flat_map (λ p. Sign symbol.Comma ∷ spelled_pat p) a.1 ++ Sign symbol.CloseParen ∷ []))
   parens_same (p, []) = refl
   parens_same (p, q ∷ ps) = ap (λ m. Sign symbol.OpenParen ∷ m) (enclosed spelled_pat symbol.Comma (Sign symbol.CloseParen) p (q ∷ ps))
 
@@ -87,7 +87,7 @@ module _ (room : ℕ) (child atom : Reader Pat) (reads : Reads spelled_pat (PatF
   minus_reads = led_reads number_reads (Sign symbol.Minus) tt
 
   leaf_sound_by : (o : Option (Pat-F Pat)) (k : Kind) (ks : List Kind) (x : Pat-F Pat × List Kind) → pat_leaf k ≡ o → pick pat_leaf (k ∷ ks) ≡ Ok x → FitAt room 2 x.0 × (k ∷ ks ≡ pat_spell x.0 ++ x.1)
-  leaf_sound_by None k ks x g e = absurd (let f : Err (suc (length ks)) ≡ Ok x = sym (rw g) ∙ e in cc)
+  leaf_sound_by None k ks x g e = absurd (let f : Err (false, suc (length ks)) ≡ Ok x = sym (rw g) ∙ e in cc)
   leaf_sound_by (Some y) k ks x g e =
       let is : (y, ks) ≡ x = (let f : Ok (y, ks) ≡ Ok x = sym (rw g) ∙ e in cc) in
       let w = leaf_says room k y g in
@@ -162,13 +162,13 @@ module _ (room : ℕ) (child atom : Reader Pat) (reads : Reads spelled_pat (PatF
   beside_reads : Reads (flat_map spelled_pat) (Each (PatFits room 2)) (λ rest. (next starts_pat rest ≡ false) × Anything rest) (many starts_pat atom)
   beside_reads = many_reads atoms starts_pat (λ p rest f. first_pat room p rest f) (λ p rest f. tt)
 
-  con_reads : Reads (λ (a : List ℕ × List Pat). Upper a.0 ∷ flat_map spelled_pat a.1) (λ (a : List ℕ × List Pat). Unit {0} × Each (PatFits room 2) a.1) PatEnds (both (pick upper_name) (many starts_pat atom))
+  pub con_reads : Reads (λ (a : List ℕ × List Pat). Upper a.0 ∷ flat_map spelled_pat a.1) (λ (a : List ℕ × List Pat). Unit {0} × Each (PatFits room 2) a.1) PatEnds (both (pick upper_name) (many starts_pat atom))
   con_reads = both_reads upper_reads (ending beside_reads PatEnds (λ rest e. (e, tt))) (λ b rest f e. tt)
 
-  con_same : (a : List ℕ × List Pat) → pat_spell (con_of a) ≡ Upper a.0 ∷ flat_map spelled_pat a.1
+  pub con_same : (a : List ℕ × List Pat) → pat_spell (con_of a) ≡ Upper a.0 ∷ flat_map spelled_pat a.1
   con_same a = ap (λ m. Upper a.0 ∷ m) (beside_map spelled_pat a.1)
 
-  con_level : (a : List ℕ × List Pat) → 1 ≤ pat_level (con_of a)
+  pub con_level : (a : List ℕ × List Pat) → 1 ≤ pat_level (con_of a)
   con_level (x, []) = omega arith
   con_level (x, p ∷ ps) = omega arith
 
@@ -219,7 +219,7 @@ pub record PatsRead (room : ℕ) : Type 0 where
 
 pub patterns_read : (room : ℕ) → PatsRead room
 unfolding patterns
-patterns_read zero = record { whole = nothing 1 PatEnds; atom = nothing 2 Anything }
+patterns_read zero = record { whole = nothing 1 PatEnds; atom = none_read spelled_pat (PatFits 0 2) Anything starts_pat (λ p f. f) }
 patterns_read (suc room) = let below = patterns_read room in record {
   whole = whole_now room (patterns room).whole (patterns room).atom below.whole below.atom;
   atom = atom_now room (patterns room).whole (patterns room).atom below.whole below.atom;
@@ -290,7 +290,7 @@ module _ (room : ℕ) where
   }
 
 pub inputs_read : (room : ℕ) → Reads spelled_pat (PatFits room 0) PatEnds (input_pattern room)
-inputs_read zero = nothing 0 PatEnds
+inputs_read zero = record { sound = λ ks x e. (cc); complete = λ p rest f e. absurd f; local = local_too_deep }
 inputs_read (suc room) = input_now room
 
 pub atoms_shrink : (room : ℕ) (ks : List Kind) (x : Pat × List Kind) → (patterns room).atom ks ≡ Ok x → length x.1 < length ks

@@ -6,6 +6,7 @@ use Rattle.hume_base.specs.declared.token.Kind.{Kind}
 use Rattle.hume_ast.specs.declared.tree.Decl.{Decl}
 use Rattle.hume_ast.specs.Spelling.{beside, spelled_decl}
 use Rattle.hume_ast.specs.Fits.{Each, DeclFits}
+use Rattle.token_readers.specs.inner.Readers.{Wrong}
 use Rattle.token_readers.specs.inner.Items.{Outside, items}
 use Rattle.token_readers.specs.inner.Programs.{grouped, program}
 use Rattle.token_readers.proofs.Local.{Splits, SameNext, bind_ok}
@@ -38,8 +39,8 @@ pub program_complete : (bound : ℕ) (decls : List Decl) → Each (DeclFits boun
 program_complete bound decls f = ap (program bound) (sym (append-nil (all_tokens decls))) ∙ (program_reads bound).complete decls [] f refl
 
 -- a stop stays where it is, whatever stands behind the wrong token
-abbrev pub IsLocalStop : ℕ → List Kind → ℕ → Type 0
-IsLocalStop bound ks n = (front : List Kind) × (rest : List Kind) × (ks ≡ front ++ rest) × (n ≡ length rest) × ((others : List Kind) → SameNext rest others → program bound (front ++ others) ≡ Err (length others))
+abbrev pub IsLocalStop : ℕ → List Kind → Wrong → Type 0
+IsLocalStop bound ks n = (front : List Kind) × (rest : List Kind) × (ks ≡ front ++ rest) × (n.1 ≡ length rest) × ((others : List Kind) → SameNext rest others → program bound (front ++ others) ≡ Err (n.0, length others))
 
-pub program_stop : (bound : ℕ) (ks : List Kind) (n : ℕ) → program bound ks ≡ Err n → IsLocalStop bound ks n
+pub program_stop : (bound : ℕ) (ks : List Kind) (n : Wrong) → program bound ks ≡ Err n → IsLocalStop bound ks n
 program_stop bound ks n e = subst (Splits (program bound) ks) e ((program_reads bound).local.at ks)

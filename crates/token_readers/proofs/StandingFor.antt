@@ -1,5 +1,5 @@
 -- For which programs tokens with their places stand: those that are read.
-use Rattle.std.proofs.Common.{◌≡◌, ℕ, List, [], ◌∷◌, ◌++◌, length, refl, sym, ap, ◌∙◌, subst}
+use Rattle.std.proofs.Common.{◌≡◌, ℕ, Bool, List, [], ◌∷◌, ◌++◌, length, refl, sym, ap, ◌∙◌, subst}
 use Rattle.std.specs.Prelude.{Result, Ok, Err, drop}
 use Rattle.hume_base.specs.declared.limits.TheConstants.{MAX_DEPTH}
 use Rattle.hume_base.specs.declared.token.Kind.{Kind}
@@ -9,6 +9,7 @@ use Rattle.hume_ast.specs.declared.tree.Program.{Program}
 use Rattle.hume_ast.specs.Spelling.{spelled_decl, spelled_decls}
 use Rattle.hume_ast.specs.Fits.{Each, DeclFits, DeclsFit}
 use Rattle.hume_ast.specs.Places.{kinds, unplaced, placed, StandsFor}
+use Rattle.token_readers.specs.inner.Readers.{Wrong}
 use Rattle.token_readers.specs.inner.Programs.{program}
 use Rattle.token_readers.proofs.Local.{SameNext}
 use Rattle.token_readers.proofs.ProgramsRead.{all_tokens, program_sound, program_complete, program_stop}
@@ -21,11 +22,11 @@ pub unplaced_fit : (bound : ℕ) (decls : List (ℕ × Decl)) → DeclsFit bound
 unplaced_fit bound [] f = tt
 unplaced_fit bound (d ∷ decls) f = (f.0, unplaced_fit bound decls f.1)
 
-placed_fit : (bound : ℕ) (decls : List (ℕ × Decl)) → Each (DeclFits bound) (unplaced decls) → DeclsFit bound decls
+pub placed_fit : (bound : ℕ) (decls : List (ℕ × Decl)) → Each (DeclFits bound) (unplaced decls) → DeclsFit bound decls
 placed_fit bound [] f = tt
 placed_fit bound (d ∷ decls) f = (f.0, placed_fit bound decls f.1)
 
-unplaced_placed : (tokens : List Token) (decls : List Decl) → unplaced (placed tokens decls) ≡ decls
+pub unplaced_placed : (tokens : List Token) (decls : List Decl) → unplaced (placed tokens decls) ≡ decls
 unplaced_placed tokens [] = refl
 unplaced_placed tokens (d ∷ decls) = ap (λ ds. d ∷ ds) (unplaced_placed (drop (length (spelled_decl d)) tokens) decls)
 
@@ -47,15 +48,15 @@ standing_read tokens p f = ap (program MAX_DEPTH) (sym f.1 ∙ tokens_of p.decls
 abbrev pub NoneGoesOn : ℕ → List Kind → List Kind → Type 0
 NoneGoesOn bound front rest = (decls : List (ℕ × Decl)) (others : List Kind) → DeclsFit bound decls → SameNext rest others → spelled_decls decls ≡ front ++ others → ⊥
 
-pub no_both : {A : Type 0} (r : Result A ℕ) (a : A) (n : ℕ) → r ≡ Ok a → r ≡ Err n → ⊥
-no_both r a n e f = let clash : ◌≡◌ {A = Result _ ℕ} (Ok a) (Err n) = sym e ∙ f in cc
+pub no_both : {A : Type 0} (r : Result A Wrong) (a : A) (n : Wrong) → r ≡ Ok a → r ≡ Err n → ⊥
+no_both r a n e f = let clash : ◌≡◌ {A = Result _ Wrong} (Ok a) (Err n) = sym e ∙ f in cc
 
-none_goes_on : (bound : ℕ) (front rest : List Kind) → ((others : List Kind) → SameNext rest others → program bound (front ++ others) ≡ Err (length others)) → NoneGoesOn bound front rest
-none_goes_on bound front rest h decls others f same e =
-    no_both (program bound (spelled_decls decls)) (unplaced decls, []) (length others)
+none_goes_on : (bound : ℕ) (deep : Bool) (front rest : List Kind) → ((others : List Kind) → SameNext rest others → program bound (front ++ others) ≡ Err (deep, length others)) → NoneGoesOn bound front rest
+none_goes_on bound deep front rest h decls others f same e =
+    no_both (program bound (spelled_decls decls)) (unplaced decls, []) (deep, length others)
     (ap (program bound) (tokens_of decls) ∙ program_complete bound (unplaced decls) (unplaced_fit bound decls f))
     (ap (program bound) e ∙ h others same)
 
--- where a stop is, no fit program goes on
-pub program_refused : (bound : ℕ) (ks : List Kind) (n : ℕ) → program bound ks ≡ Err n → (front : List Kind) × (rest : List Kind) × (ks ≡ front ++ rest) × (n ≡ length rest) × NoneGoesOn bound front rest
-program_refused bound ks n e = let s = program_stop bound ks n e in (s.0, s.1, s.2, s.3, none_goes_on bound s.0 s.1 s.4)
+-- where it stops, no fit program goes on
+pub program_refused : (bound : ℕ) (ks : List Kind) (n : Wrong) → program bound ks ≡ Err n → (front : List Kind) × (rest : List Kind) × (ks ≡ front ++ rest) × (n.1 ≡ length rest) × NoneGoesOn bound front rest
+program_refused bound ks n e = let s = program_stop bound ks n e in (s.0, s.1, s.2, s.3, none_goes_on bound n.0 s.0 s.1 s.4)

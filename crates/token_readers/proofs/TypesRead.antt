@@ -44,7 +44,7 @@ pub port_reads : Reads (λ x. Quoted x ∷ []) All Anything (pick port_name)
 port_reads = pick_reads port_name Quoted All port_is (λ x f. refl)
 
 -- a type's tokens, seen at its first level
-abbrev ty_spell : TyExp-F TyExp → List Kind
+abbrev pub ty_spell : TyExp-F TyExp → List Kind
 ty_spell x = spell_ty (map-TyExp TyExp (List Kind) spelled_ty x)
 
 module _ (room : ℕ) (child : Reader TyExp) (reads : Reads spelled_ty (TypeFits room) Anything child) where

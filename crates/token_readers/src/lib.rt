@@ -5,6 +5,7 @@
 //!
 //! The readers are in `specs/inner/`: `Readers.antt` says what a reader is and how readers are put together, and
 //! `Programs.antt` has the one of programs, on top of the others.
+//! Where nothing goes on, a reader tells which token is wrong, and whether it is so only for want of depth.
 //! The law `one_spelling` says that trees with one spelling are one tree, and that tokens stand for one program at most.
 //!
 //! This crate knows lists of tokens and trees. It doesn't know memory, slices or errors.

@@ -1,5 +1,5 @@
 -- What the functions that read expressions read, behind the token that decides. The room is that of the parts.
-use Rattle.std.specs.Prelude.{ℕ, ◌==◌, ◌∷◌, [], List, Bool, true, false, if◌then◌else◌, Option, Some, None, Result}
+use Rattle.std.specs.Prelude.{ℕ, ◌==◌, ◌∷◌, [], List, Bool, true, false, if◌then◌else◌, Option, Some, None}
 use Rattle.hume_base.specs.declared.keyword.Keyword.TheVariants as word
 use Rattle.hume_base.specs.declared.symbol.Symbol.{Symbol}
 use Rattle.hume_base.specs.declared.symbol.Symbol.TheVariants as symbol
@@ -11,10 +11,10 @@ use Rattle.hume_ast.specs.declared.tree.Exp.{Exp, roll-Exp}
 use Rattle.hume_ast.specs.declared.tree.Exp.TheOpen.{Exp-F}
 use Rattle.hume_parse.specs.declared.trees.Head.{Head}
 use Rattle.hume_parse.specs.declared.trees.Head.TheVariants.{Function, Constructor}
-use Rattle.token_readers.specs.inner.Readers.{Reader, stop as fault, next, is_word, is_sign, any_token, made, both, closed, led, listed, many, maybe, pick, give, alternatives, lower_name, upper_name}
+use Rattle.token_readers.specs.inner.Readers.{Reader, stop, too_deep as deeper, choice, next, is_word, is_sign, any_token, made, both, closed, led, listed, many, maybe, pick, give, alternatives, lower_name, upper_name}
 use Rattle.token_readers.specs.inner.Types.{types}
-use Rattle.token_readers.specs.inner.Patterns.{patterns}
-use Rattle.token_readers.specs.inner.Expressions.{exps, let_of, if_of, case_of, alternative, raise_of, update_of, exp_in_parens, tail_ways, starts_atom, exp_leaf, minus_ways}
+use Rattle.token_readers.specs.inner.Patterns.{patterns, starts_pat}
+use Rattle.token_readers.specs.inner.Expressions.{exps, let_of, if_of, case_of, alternative, raise_of, update_of, exp_in_parens, tail_ways, starts_atom, begins_part, exp_leaf, minus_ways}
 
 abbrev pub let_parts : ℕ → Reader Exp
 let_parts room =
@@ -93,6 +93,14 @@ plain_atom = made roll-Exp (alternatives (
     ∷ (any_token, pick exp_leaf)
     ∷ []))
 
--- no expression is read
-abbrev pub no_exp : List Kind → Result (Exp × List Kind) ℕ
-no_exp = fault
+-- where nothing may be deeper, no part behind a sign
+abbrev pub no_part : Reader Exp
+no_part = choice begins_part deeper stop
+
+-- no atom
+abbrev pub no_atom : Reader Exp
+no_atom = choice starts_atom deeper stop
+
+-- and no pattern
+abbrev pub no_pattern : Reader Pat
+no_pattern = choice starts_pat deeper stop

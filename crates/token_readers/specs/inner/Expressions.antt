@@ -13,7 +13,7 @@ use Rattle.hume_ast.specs.declared.tree.Exp.{Exp, roll-Exp}
 use Rattle.hume_ast.specs.declared.tree.Exp.TheOpen.{Exp-F}
 use Rattle.hume_ast.specs.Fits.{op_level}
 use Rattle.hume_ast.specs.Depth.{exp_depth}
-use Rattle.token_readers.specs.inner.Readers.{Reader, ◌>>=◌, stop, behind, is_word, is_sign, led, closed, give, both, made, alternatives, any_token, pick, opens, many, listed, maybe, number_of, lower_name, upper_name}
+use Rattle.token_readers.specs.inner.Readers.{Reader, ◌>>=◌, stop, too_deep, choice, behind, is_word, is_sign, led, closed, give, both, made, alternatives, any_token, pick, opens, many, listed, maybe, number_of, lower_name, upper_name}
 use Rattle.token_readers.specs.inner.Types.{types}
 use Rattle.token_readers.specs.inner.Patterns.{is_upper, patterns}
 
@@ -157,7 +157,7 @@ with_operator None room child left ks = stop ks
 with_operator (Some operator) room child left ks =
     if nat_le (exp_depth (roll-Exp left)) room
     then (child (behind ks) >>= λ right. Ok (Exp-F.Binary operator (roll-Exp left) right.0, right.1))
-    else stop ks
+    else too_deep ks
 
 abbrev pub next_operator : ℕ → List Kind → Option BinOp
 next_operator level [] = None
@@ -288,10 +288,10 @@ expressions_with type pattern zero = record {
   comparison = stop;
   sum = stop;
   term = stop;
-  unary = stop;
+  unary = choice begins_part too_deep stop;
   index = stop;
   app = stop;
-  atom = stop;
+  atom = choice starts_atom too_deep stop;
 }
 expressions_with type pattern (suc room) = let below = expressions_with type pattern room in record {
   whole = made roll-Exp (whole_layer room type pattern below);

@@ -6,7 +6,7 @@ use Rattle.hume_base.specs.declared.token.Kind.{Kind}
 use Rattle.hume_base.specs.declared.token.Kind.TheVariants.{Lower, Upper, Number, Letter, Word, Sign}
 use Rattle.hume_ast.specs.declared.tree.Pat.{Pat, roll-Pat}
 use Rattle.hume_ast.specs.declared.tree.Pat.TheOpen.{Pat-F}
-use Rattle.token_readers.specs.inner.Readers.{Reader, stop, is_word, is_sign, led, closed, give, both, made, alternatives, any_token, pick, opens, many, number_of, upper_name}
+use Rattle.token_readers.specs.inner.Readers.{Reader, stop, too_deep, choice, is_word, is_sign, led, closed, give, both, made, alternatives, any_token, pick, opens, many, number_of, upper_name}
 
 -- a pattern of one token, if the token says all of it
 abbrev pub pat_leaf : Kind → Option (Pat-F Pat)
@@ -70,7 +70,7 @@ whole_ways room below = (is_upper, con_pat below.atom) ∷ pat_ways room below.w
 
 -- patterns at most so deep, whole ones and those that stand beside others
 unfoldable pub patterns : ℕ → PatReaders
-patterns zero = record { whole = stop; atom = stop }
+patterns zero = record { whole = stop; atom = choice starts_pat too_deep stop }
 patterns (suc room) = record {
   whole = made roll-Pat (alternatives (whole_ways room (patterns room)));
   atom = made roll-Pat (alternatives (pat_ways room (patterns room).whole));

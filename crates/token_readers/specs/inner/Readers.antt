@@ -1,5 +1,4 @@
--- Reading something from the front of a list of tokens, as functions on lists. An error is the number of tokens that are
--- left, from the wrong one on.
+-- Reading something from the front of a list of tokens, as functions on lists.
 use Rattle.std.specs.Prelude.{ℕ, zero, suc, List, [], ◌∷◌, length, Bool, true, false, if◌then◌else◌, bytes_eq, Option, Some, None, Result, Ok, Err}
 use Rattle.hume_base.specs.Keywords.{keyword_text}
 use Rattle.hume_base.specs.Symbols.{symbol_text}
@@ -8,18 +7,26 @@ use Rattle.hume_base.specs.declared.symbol.Symbol.{Symbol}
 use Rattle.hume_base.specs.declared.token.Kind.{Kind}
 use Rattle.hume_base.specs.declared.token.Kind.TheVariants.{Lower, Upper, Number, Quoted, Word, Sign}
 
+-- Which token is wrong: whether it is so only for want of depth, and how many tokens are left, from it on.
+abbrev pub Wrong : Type 0
+Wrong = Bool × ℕ
+
 -- What is read, and the tokens behind it.
 abbrev pub Reader : Type 0 → Type 0
-Reader A = List Kind → Result (A × List Kind) ℕ
+Reader A = List Kind → Result (A × List Kind) Wrong
 
 infixl 10 ◌>>=◌
-abbrev pub ◌>>=◌ : {A B : Type 0} → Result A ℕ → (A → Result B ℕ) → Result B ℕ
+abbrev pub ◌>>=◌ : {A B : Type 0} → Result A Wrong → (A → Result B Wrong) → Result B Wrong
 (Ok x) >>= f = f x
 (Err e) >>= f = Err e
 
 -- nothing goes on with the next token
-abbrev pub stop : {A : Type 0} → List Kind → Result A ℕ
-stop ks = Err (length ks)
+abbrev pub stop : {A : Type 0} → List Kind → Result A Wrong
+stop ks = Err (false, length ks)
+
+-- something goes on with the next token, but deeper than there is room
+abbrev pub too_deep : {A : Type 0} → List Kind → Result A Wrong
+too_deep ks = Err (true, length ks)
 
 -- whether there is a next token, and it passes the test
 abbrev pub next : (Kind → Bool) → List Kind → Bool
@@ -52,7 +59,7 @@ is_token (Word keyword) k = is_word keyword k
 is_token _ k = false
 
 -- the tokens behind this symbol or keyword
-abbrev pub after : Kind → List Kind → Result (List Kind) ℕ
+abbrev pub after : Kind → List Kind → Result (List Kind) Wrong
 after token ks = if next (is_token token) ks then Ok (behind ks) else stop ks
 
 -- a symbol or keyword, and what is read behind it
@@ -87,7 +94,7 @@ alternatives (way ∷ ways) = choice way.0 way.1 (alternatives ways)
 abbrev pub any_token : Kind → Bool
 any_token k = true
 
-abbrev pub picked : {A : Type 0} → Option A → List Kind → List Kind → Result (A × List Kind) ℕ
+abbrev pub picked : {A : Type 0} → Option A → List Kind → List Kind → Result (A × List Kind) Wrong
 picked None all ks = stop all
 picked (Some a) all ks = Ok (a, ks)
 
@@ -98,7 +105,7 @@ pick f (k ∷ ks) = picked (f k) (k ∷ ks) ks
 
 -- only where room is left
 abbrev pub opens : {A : Type 0} → ℕ → Reader A → Reader A
-opens zero p ks = stop ks
+opens zero p ks = too_deep ks
 opens (suc room) p ks = p ks
 
 -- one more as long as the next token passes the test, with a bound on how many

@@ -4,7 +4,8 @@ use Rattle.token_readers.proofs.OneSpelling.{one_placed}
 use Rattle.token_readers.proofs.StandingFor.{read_stands}
 use Rattle.hume_parse.specs.declared.parser.ParseError.TheVariants.{NoMemory}
 use Rattle.hume_parse.specs.Parsing.{IsWrongPlace}
-use Rattle.hume_parse.proofs.Reports.{reported_right, only_memory}
+use Rattle.hume_parse.proofs.Answered.{only_memory}
+use Rattle.hume_parse.proofs.Reports.{reported_right}
 use Rattle.hume_parse.proofs.parser.parse.Goals as goal
 
 pub returns-in-Ok-clause-program : goal.returns-in-Ok-clause-program
