@@ -1,7 +1,8 @@
-ghost use Rattle.std.specs.Prelude.{◌≡◌, IfOk, OnOk, string_bytes};
+ghost use Rattle.std.specs.Prelude.{◌≡◌, [], None, IfOk, OnOk, IfSome, string_bytes};
 ghost use Rattle.std.specs.Io.{ReadsAtMost};
+ghost use Rattle.std.specs.Io.Buffered.{writer_buffer, writer_contents};
 ghost use Rattle.std.specs.Io.KnownBytes.{Appends, ReadConsumes};
-ghost use Rattle.hume_ports.specs.Port.{IsRead, IsWrite, untold};
+ghost use Rattle.hume_ports.specs.Port.{IsRead, IsWrite, IsFinish, untold};
 ghost use Rattle.hume_ports.specs.Files.{GoesOn};
 
 use crate::port::raise;
@@ -9,16 +10,21 @@ use crate::transfer::{flush, read_once, write_whole};
 use crate::{Failed, Port};
 use std::alloc::{AllocError, Global};
 use std::fs;
+use std::io::BufWriter;
 use std::rt::Files;
 
 /// The file of a name. The first read opens it, and the first write creates or empties it, as does a finish
 /// before which nothing was read or written. It tells neither its bytes nor a room.
+///
+/// What is written waits in a buffer of 8,192 bytes, and is in the file when the buffer is full, at a finish, or when the port
+/// is dropped. So a write that fails may be one of bytes that were handed over before.
 #[derive(Drop)]
 pub struct FilePort<R: Files + Clone + Drop> {
     rt: R,
+    alloc: Global,
     name: String,
     reader: Option<R::File>,
-    writer: Option<R::File>,
+    writer: Option<BufWriter<R::File>>,
     used: bool,
     read_faults: u64,
     write_faults: u64,
@@ -33,6 +39,7 @@ impl<R: Files + Clone + Drop> FilePort<R> {
     {
         Ok(FilePort {
             rt: rt.clone()?,
+            alloc,
             name: String::from_str(alloc, name)?,
             reader: None,
             writer: None,
@@ -70,29 +77,39 @@ impl<R: Files + Clone + Drop> Port for FilePort<R> {
         }
     }
 
-    /// Where the open file tells its bytes, the written ones follow them.
+    /// Where the open file tells its bytes, the written ones follow them and those that waited before.
     fn write(&mut self, bytes: &[u8]) -> Result<(), Failed>
         ensures port { IsWrite (⟦<FilePort<R> as Port>⟧.view self.old) (⟦<FilePort<R> as Port>⟧.view self.new) result bytes.now }
         ensures file { OnOk result
-            (GoesOn (λ earlier later. Appends (R.File.contents earlier) (R.File.contents later) bytes.now) self.old.writer self.new.writer) }
+            (GoesOn (λ earlier later. Appends (writer_contents R.File.contents earlier) (writer_contents R.File.contents later) bytes.now)
+            self.old.writer self.new.writer) }
     {
         self.used = true;
         self.flushed = false;
-        match write_file(&self.rt, self.name.as_str(), &mut self.writer, bytes) {
+        match write_file(
+            &self.rt,
+            self.alloc,
+            self.name.as_str(),
+            &mut self.writer,
+            bytes,
+        ) {
             Ok(()) => Ok(()),
             Err(_) => Err(raise(&mut self.write_faults)),
         }
     }
 
-    fn finish(&mut self) -> Result<(), Failed> {
-        let finished = if self.used {
-            match &mut self.writer {
-                Some(file) => flush(file),
-                None => Ok(()),
-            }
-        } else {
-            create(&self.rt, self.name.as_str(), &mut self.writer)
-        };
+    /// Nothing waits in the buffer any more.
+    fn finish(&mut self) -> Result<(), Failed>
+        ensures port { IsFinish (⟦<FilePort<R> as Port>⟧.view self.old) (⟦<FilePort<R> as Port>⟧.view self.new) result }
+        ensures file { OnOk result (IfSome self.new.writer (λ writer. writer_buffer writer ≡ [])) }
+    {
+        let finished = finish_file(
+            &self.rt,
+            self.alloc,
+            self.name.as_str(),
+            self.used,
+            &mut self.writer,
+        );
         self.flushed = finished.is_ok();
         match finished {
             Ok(()) => Ok(()),
@@ -129,28 +146,61 @@ fn read_file<R: Files>(
 
 fn write_file<R: Files>(
     rt: &R,
+    alloc: Global,
     name: &str,
-    writer: &mut Option<R::File>,
+    writer: &mut Option<BufWriter<R::File>>,
     bytes: &[u8],
 ) -> Result<(), Failed>
     ensures { OnOk result
-        (GoesOn (λ earlier later. Appends (R.File.contents earlier) (R.File.contents later) bytes.now) writer.old writer.new) }
+        (GoesOn (λ earlier later. Appends (writer_contents R.File.contents earlier) (writer_contents R.File.contents later) bytes.now)
+        writer.old writer.new) }
 {
-    create(rt, name, writer)?;
+    create(rt, alloc, name, writer)?;
     match writer {
         Some(file) => write_whole(file, bytes),
         None => Err(Failed),
     }
 }
 
-fn create<R: Files>(rt: &R, name: &str, writer: &mut Option<R::File>) -> Result<(), Failed>
+// A file that wasn't used is created.
+fn finish_file<R: Files>(
+    rt: &R,
+    alloc: Global,
+    name: &str,
+    used: bool,
+    writer: &mut Option<BufWriter<R::File>>,
+) -> Result<(), Failed>
+    ensures { OnOk result (IfSome writer.new (λ writer. writer_buffer writer ≡ [])) }
+{
+    if !used {
+        create(rt, alloc, name, writer)?;
+    }
+    match writer {
+        Some(file) => flush(file),
+        None => Ok(()),
+    }
+}
+
+fn create<R: Files>(
+    rt: &R,
+    alloc: Global,
+    name: &str,
+    writer: &mut Option<BufWriter<R::File>>,
+) -> Result<(), Failed>
     ensures { OnOk result (GoesOn (λ earlier later. later ≡ earlier) writer.old writer.new) }
 {
     if writer.is_none() {
-        match fs::create(rt, name) {
-            Ok(created) => *writer = Some(created),
-            Err(_) => return Err(Failed),
-        }
+        *writer = Some(created(rt, alloc, name)?);
     }
     Ok(())
+}
+
+fn created<R: Files>(rt: &R, alloc: Global, name: &str) -> Result<BufWriter<R::File>, Failed> {
+    match fs::create(rt, name) {
+        Ok(file) => match BufWriter::new(alloc, file) {
+            Ok(writer) => Ok(writer),
+            Err(_) => Err(Failed),
+        },
+        Err(_) => Err(Failed),
+    }
 }

@@ -1,10 +1,11 @@
-ghost use Rattle.std.specs.Prelude.{IfOk, OnErr, take};
+ghost use Rattle.std.specs.Prelude.{◌≡◌, [], IfOk, OnOk, OnErr, take};
 ghost use Rattle.std.specs.Io.{ReadsAtMost, WritesAtMost};
+ghost use Rattle.std.specs.Io.Buffered.{writer_buffer, writer_contents};
 ghost use Rattle.std.specs.Io.KnownBytes.{Appends, Keeps, ReadConsumes};
 ghost use Rattle.hume_ports.specs.Port.{WriteAppends};
 
 use crate::Failed;
-use std::io::{ErrorKind, Read, Write};
+use std::io::{BufWriter, ErrorKind, Read, Write};
 
 /// Reads again where a signal came in between.
 pub fn read_once<F: Read>(file: &mut F, buf: &mut [u8]) -> Result<usize, Failed>
@@ -37,8 +38,10 @@ pub fn write_whole<F: Write>(file: &mut F, bytes: &[u8]) -> Result<(), Failed>
     Ok(())
 }
 
-pub(crate) fn flush<F: Write>(file: &mut F) -> Result<(), Failed>
-    ensures { Keeps (F.contents file.old) (F.contents file.new) }
+/// Nothing waits in the buffer any more.
+pub(crate) fn flush<F: Write + Drop>(file: &mut BufWriter<F>) -> Result<(), Failed>
+    ensures bytes { Keeps (writer_contents F.contents file.old) (writer_contents F.contents file.new) }
+    ensures empty { OnOk result (writer_buffer file.new ≡ []) }
 {
     match file.flush() {
         Ok(()) => Ok(()),

@@ -1,5 +1,8 @@
-use Rattle.hume_ports.proofs.OpenFiles.{stays_open}
+use Rattle.hume_ports.proofs.OpenFiles.{stays_open, opens_now}
 use Rattle.hume_ports.proofs.file.create.Goals as goal
 
 pub returns-else-is_none : goal.returns-else-is_none
 returns-else-is_none g c = stays_open _ c.if-is_none.ensures
+
+pub returns-in_ok-created : goal.returns-in_ok-created
+returns-in_ok-created g c = opens_now _ _ c.if-is_none.ensures
