@@ -27,7 +27,8 @@ by_place o object os at i within later true before at_it is found =
     let place : at + i ≡ i = omega (arith, at_front) in
     ap (slice_get (words_of_object o ++ flat_map words_of_object os)) place
     ∙ ap (λ (x : Object). slice_get (words_of_object x ++ flat_map words_of_object os) i) same
-    ∙ get_front (words_of_object object) (flat_map words_of_object os) i (let long : length (words_of_object object) ≡ 1 + length object.1 = omega arith in omega (arith, within, long))
+    ∙ get_front (words_of_object object) (flat_map words_of_object os) i
+    (let long : length (words_of_object object) ≡ 1 + length object.1 = omega arith in omega (arith, within, long))
 by_place o object os at i within later false true at_it is found = cc
 by_place o object os at i within later false false at_it is found =
     let past = ltb-false at (1 + length o.1) is in
@@ -44,7 +45,8 @@ words_at (o ∷ os) at object found i within =
 -- each object that is found is one of them
 is_of : (P : Object → Type 0) (objects : List Object) (at : ℕ) (object : Object) → All P objects → object_at objects at ≡ Some object → P object
 is_of P [] at object all found = cc
-is_of P (o ∷ os) at object all found = by_first (at == 0) (nat_lt at (1 + length o.1)) found (λ place later. is_of P os place object (λ k d less. all (suc k) d (omega (arith, less))) later)
+is_of P (o ∷ os) at object all found = by_first (at == 0) (nat_lt at (1 + length o.1)) found
+    (λ place later. is_of P os place object (λ k d less. all (suc k) d (omega (arith, less))) later)
   where
     by_first : (first before : Bool) → cond first (Some o) (cond before None (object_at os (at - (1 + length o.1)))) ≡ Some object
         → ((place : ℕ) → object_at os place ≡ Some object → P object) → P object

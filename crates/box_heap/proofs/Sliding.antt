@@ -4,7 +4,7 @@ use Rattle.std.proofs.lemmas.List.{length-take-le}
 use Rattle.box_heap.specs.Stacks.{StackView, at_depth, under}
 
 -- fewer of the first words
-take_fewer : (m n : ℕ) (words : List ℕ) → m ≤ n → take m (take n words) ≡ take m words
+pub take_fewer : (m n : ℕ) (words : List ℕ) → m ≤ n → take m (take n words) ≡ take m words
 take_fewer zero n words less = refl
 take_fewer (suc m) zero words less = absurd (omega (arith, less))
 take_fewer (suc m) (suc n) [] less = refl
@@ -31,12 +31,14 @@ module _ (first popped dropped : StackView) (count : ℕ) (pop : popped ≡ reco
   pub room_left : length first.words ≤ first.room → length dropped.words < dropped.room
   room_left fits =
       let words = ap length words_left in
-      let taken : length (under (1 + count) first.words) ≡ length first.words - (1 + count) = length-take-le (length first.words - (1 + count)) first.words (omega arith) in
+      let taken : length (under (1 + count) first.words) ≡ length first.words - (1 + count) = length-take-le (length first.words - (1 + count)) first.words
+      (omega arith) in
       let room : dropped.room ≡ first.room = ap (λ (v : StackView). v.room) all_left in
       omega (arith, words, taken, room, enough, fits)
 
   -- the top word is put back
-  pub slid : (last : StackView) (top word : ℕ) → last ≡ record dropped { words = dropped.words ++ top ∷ [] } → at_depth 0 first.words ≡ Some top → at_depth 0 first.words ≡ Some word
+  pub slid : (last : StackView) (top word : ℕ) → last ≡ record dropped { words = dropped.words ++ top ∷ [] } → at_depth 0 first.words ≡ Some top
+      → at_depth 0 first.words ≡ Some word
       → last ≡ record first { words = under (1 + count) first.words ++ word ∷ [] }
   slid last top word put is same =
       let one : ◌≡◌ {A = Option ℕ} (Some top) (Some word) = sym is ∙ same in

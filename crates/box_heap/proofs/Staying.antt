@@ -34,13 +34,15 @@ objects_kept old new objects object has small more = record {
 }
 
 -- behind all objects
-behind_all : (objects : List Object) (object : Object) (at : ℕ) → at ≡ length (flat_map words_of_object objects) → object_at (objects ++ object ∷ []) at ≡ Some object
+pub behind_all : (objects : List Object) (object : Object) (at : ℕ) → at ≡ length (flat_map words_of_object objects)
+    → object_at (objects ++ object ∷ []) at ≡ Some object
 behind_all [] object at is = rw is refl
 behind_all (o ∷ os) object at is =
     let long : length (words_of_object o ++ flat_map words_of_object os) ≡ length (words_of_object o) + length (flat_map words_of_object os) =
     length-append (words_of_object o) (flat_map words_of_object os) in
     let own : length (words_of_object o) ≡ 1 + length o.1 = omega arith in
-    by_first (at == 0) (nat_lt at (1 + length o.1)) refl refl (omega (arith, is, long, own)) (behind_all os object (at - (1 + length o.1)) (omega (arith, is, long, own)))
+    by_first (at == 0) (nat_lt at (1 + length o.1)) refl refl (omega (arith, is, long, own))
+    (behind_all os object (at - (1 + length o.1)) (omega (arith, is, long, own)))
   where
     by_first : (first before : Bool) → (at == 0) ≡ first → nat_lt at (1 + length o.1) ≡ before → 1 + length o.1 ≤ at
         → object_at (os ++ object ∷ []) (at - (1 + length o.1)) ≡ Some object
@@ -49,5 +51,6 @@ behind_all (o ∷ os) object at is =
     by_first false true at_it front past later = absurd (let less = ltb-true at (1 + length o.1) front in omega (arith, less, past))
     by_first false false at_it front past later = later
 
-pub object_put : (old : HeapView) (objects : List Object) (object : Object) → HasObjects old objects → object_at (objects ++ object ∷ []) (length old.words) ≡ Some object
+pub object_put : (old : HeapView) (objects : List Object) (object : Object) → HasObjects old objects
+    → object_at (objects ++ object ∷ []) (length old.words) ≡ Some object
 object_put old objects object has = behind_all objects object (length old.words) (ap length has.words)

@@ -1,5 +1,5 @@
 -- What a heap holds.
-use Rattle.std.specs.Prelude.{◌≡◌, ℕ, ◌+◌, ◌-◌, ◌*◌, ◌<◌, ◌==◌, nat_lt, All, List, [], ◌∷◌, length, Option, Some, None, if◌then◌else◌}
+use Rattle.std.specs.Prelude.{◌≡◌, ℕ, ◌+◌, ◌-◌, ◌*◌, ◌<◌, ◌==◌, nat_lt, max, All, List, [], ◌∷◌, ◌++◌, length, Option, Some, None, if◌then◌else◌}
 use Rattle.std.specs.List.{flat_map}
 
 -- its words, those of the first object first; the most that there were; and for how many there is room
@@ -20,6 +20,18 @@ words_of_object object = (object.0 + 4294967296 * length object.1) ∷ object.1
 pub record HasObjects (heap : HeapView) (objects : List Object) : Type 0 where
   pub words : heap.words ≡ flat_map words_of_object objects
   pub tags : All (λ (object : Object). object.0 < 4294967296) objects
+
+-- the heap once the object is put behind the others
+abbrev pub with_object : HeapView → Object → HeapView
+with_object heap object = record heap {
+  words = heap.words ++ words_of_object object;
+  peak = max heap.peak (length heap.words + (1 + length object.1));
+}
+
+-- the heap once these objects are put, one after another
+abbrev pub with_objects : HeapView → List Object → HeapView
+with_objects heap [] = heap
+with_objects heap (object ∷ objects) = with_objects (with_object heap object) objects
 
 -- the object that begins at a place, counted in words from 0
 abbrev pub object_at : List Object → ℕ → Option Object

@@ -1,6 +1,6 @@
-ghost use Rattle.std.specs.Prelude.{◌≡◌, ◌<◌, ◌≤◌, ◌+◌, ◌*◌, ◌++◌, ◌∷◌, [], ℕ, List, length, max, Some, slice_get, IfOk};
+ghost use Rattle.std.specs.Prelude.{◌≡◌, ◌<◌, ◌≤◌, ◌+◌, ◌*◌, ◌++◌, ◌∷◌, [], ℕ, List, length, take, drop, replicate, max, Some, slice_get, slice_set, IfOk};
 ghost use Rattle.hume_base.specs.declared.limits.TheConstants.{MAX_HEAP_WORDS as MOST_WORDS};
-ghost use Rattle.box_heap.specs.Heaps.{HasObjects, Object, object_at, words_of_object};
+ghost use Rattle.box_heap.specs.Heaps.{HasObjects, Object, object_at, with_object};
 
 use std::alloc::{AllocError, Global};
 use std::marker::Model;
@@ -49,16 +49,82 @@ impl BoxHeap {
     pub fn put(&mut self, tag: u32, fields: &[u64]) -> u64
         requires { length self.old.words + (1 + length fields.now) ≤ self.old.room }
         ensures place { result ≡ length self.old.words }
-        ensures heap { self.new ≡ record self.old {
-          words = self.old.words ++ words_of_object (tag, fields.now);
-          peak = max self.old.peak (length self.old.words + (1 + length fields.now));
-        } }
+        ensures heap { self.new ≡ with_object self.old (tag, fields.now) }
     {
         let place = self.used;
         self.push(header(tag, fields.len()));
         self.push_all(fields);
         self.raise_peak();
         place as u64
+    }
+
+    /// Puts the object at the place behind the others once more, with another word in one field if it has that field, and gives
+    /// the new place. The object that was there stays.
+    pub fn put_changed(&mut self, at: u64, i: u32, word: u64) -> u64
+        requires { (objects : List Object) × HasObjects self.old objects × (object : Object) × (object_at objects at ≡ Some object)
+            × (length self.old.words + (1 + length object.1) ≤ self.old.room) }
+        ensures place { result ≡ length self.old.words }
+        ensures heap { (objects : List Object) (object : Object) → HasObjects self.old objects → object_at objects at ≡ Some object
+            → self.new ≡ with_object self.old (object.0, slice_set object.1 i word) }
+    {
+        let place = self.used;
+        let count = self.count(at);
+        self.push_again(at as usize, 1 + count as usize);
+        self.change_field(place as u64, i, word);
+        self.raise_peak();
+        place as u64
+    }
+
+    /// Puts an object behind the others whose fields are all 0, and gives its place.
+    pub fn put_zeros(&mut self, tag: u32, count: usize) -> u64
+        requires { length self.old.words + (1 + count) ≤ self.old.room }
+        ensures place { result ≡ length self.old.words }
+        ensures heap { self.new ≡ with_object self.old (tag, replicate count 0) }
+    {
+        let place = self.used;
+        self.push(header(tag, count));
+        self.push_zeros(count);
+        self.raise_peak();
+        place as u64
+    }
+
+    /// Gives a field of an object another word. It is for who puts an object, before anybody else is told its place.
+    #[inline(always)]
+    pub fn set_field(&mut self, at: u64, i: usize, word: u64)
+        requires { at + 1 + i < length self.old.words }
+        ensures { self.new ≡ record self.old { words = slice_set self.old.words (at + 1 + i) word } }
+    {
+        self.words[at as usize + 1 + i] = word;
+    }
+
+    // Gives a field of the last object another word, if it has that field.
+    fn change_field(&mut self, at: u64, i: u32, word: u64)
+        requires { at ≤ length self.old.words }
+        ensures { self.new ≡ record self.old { words = slice_set self.old.words (at + 1 + i) word } }
+    {
+        self.keeps_room();
+        if at + 1 + u64::from(i) < self.used as u64 {
+            self.set_field(at, i as usize, word);
+        }
+    }
+
+    // Words that are there once more behind the others.
+    fn push_again(&mut self, from: usize, count: usize)
+        requires there { from + count ≤ length self.old.words }
+        requires fits { length self.old.words + count ≤ self.old.room }
+        ensures { self.new ≡ record self.old { words = self.old.words ++ take count (drop from self.old.words) } }
+    {
+        self.words.copy_within(from..from + count, self.used);
+        self.used += count;
+    }
+
+    fn push_zeros(&mut self, count: usize)
+        requires { length self.old.words + count ≤ self.old.room }
+        ensures { self.new ≡ record self.old { words = self.old.words ++ replicate count 0 } }
+    {
+        let end = self.used + count;
+        self.words[self.used..end].fill(0);
+        self.used = end;
     }
 
     #[inline(always)]

@@ -1,6 +1,8 @@
-ghost use Rattle.std.specs.Prelude.{◌≡◌, ◌<◌, ◌≤◌, ◌+◌, ◌++◌, ◌∷◌, [], ℕ, length, max, Some, IfOk};
+ghost use Rattle.std.specs.Prelude.{◌≡◌, ◌<◌, ◌≤◌, ◌+◌, ◌++◌, ◌∷◌, [], ℕ, length, take, max, Some, IfOk};
 ghost use Rattle.hume_base.specs.declared.limits.TheConstants.{MAX_STACK_WORDS as MOST_WORDS};
-ghost use Rattle.box_heap.specs.Stacks.{at_depth, last, under};
+ghost use Rattle.std.specs.Borrow.{sem};
+ghost use Rattle.box_heap.specs.Lending.{LendsRoom};
+ghost use Rattle.box_heap.specs.Stacks.{at_depth, last, under, with_word};
 
 use std::alloc::{AllocError, Global};
 use std::marker::Model;
@@ -48,7 +50,7 @@ impl BoxStack {
     #[inline(always)]
     pub fn push(&mut self, word: u64)
         requires { length self.old.words < self.old.room }
-        ensures { self.new ≡ record self.old { words = self.old.words ++ word ∷ []; peak = max self.old.peak (length self.old.words + 1) } }
+        ensures { self.new ≡ with_word self.old word }
     {
         self.words[self.top] = word;
         self.top += 1;
@@ -121,6 +123,33 @@ impl BoxStack {
     {
         self.words[self.top] = word;
         self.top += 1;
+    }
+
+    /// Lends all words of its room, those on the stack first. Then all of them are on the stack, until `set` is told how many.
+    pub fn lend(&mut self) -> &mut [u64]
+        ensures* writes_back { sem 𝓛 (LendsRoom self.entry result) }
+        ensures front { take (length self.old.words) result.now ≡ self.old.words }
+        ensures whole { length result.now ≡ self.old.room }
+    {
+        self.top = self.words.len();
+        self.words.as_mut_slice()
+    }
+
+    /// Leaves only the first words, and sets the most that there were. It is for who was lent the words.
+    pub fn set(&mut self, count: usize, peak: usize)
+        requires count { count ≤ length self.old.words }
+        requires peak { peak ≤ self.old.room }
+        ensures { self.new ≡ record self.old { words = take count self.old.words; peak = peak } }
+    {
+        self.top = count;
+        self.peak = peak;
+    }
+
+    /// How many words there are.
+    pub fn len(&self) -> u32
+        ensures { result ≡ length self.now.words }
+    {
+        self.top as u32
     }
 
     /// The most words that there were since it was made.

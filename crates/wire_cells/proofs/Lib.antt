@@ -1,1 +1,4 @@
 pub mod Writing
+pub mod Rings
+pub mod Frames
+pub mod Holding

@@ -1,5 +1,13 @@
-//! Laws of the calls: each of the two undoes the other.
-ghost use Rattle.std.specs.Prelude.{◌≡◌, IfOk, OnOk, true, length};
+//! Laws of the calls and of the definitions.
+ghost use Rattle.std.specs.Prelude.{◌≡◌, ◌++◌, ◌∷◌, [], ℕ, List, IfOk, OnOk, Some, true, length, drop, slice_get};
+ghost use Rattle.std.specs.Option.{option_to_list};
+ghost use Rattle.hume_base.specs.declared.types.Ty.{Ty};
+ghost use Rattle.hume_base.specs.declared.types.Types.{Types};
+ghost use Rattle.hume_base.specs.Flat.{flat};
+ghost use Rattle.hume_model.specs.declared.core_tree.WireC.{WireC};
+ghost use Rattle.hume_model.specs.declared.core_tree.Core.{Core};
+ghost use Rattle.hume_model.specs.WellFormed.{HasSoundFrame};
+ghost use Rattle.wire_cells.specs.Cells.{CellView, Holds, first_cell};
 ghost use Rattle.hume_base.specs.declared.types.Value.{Value};
 ghost use Rattle.hume_base.specs.Sizes.{size_of, HaveTheirSizes};
 ghost use Rattle.hume_base.specs.Values.{is_value};
@@ -46,3 +54,22 @@ pub fn flatten_undoes_value_of(
     flatten(types, ty, &value, into);
     Ok(())
 }
+
+/// A cell begins with the initial value of its wire, or with none.
+pub fn first_cells_hold_initial_values()
+    ensures { (core : Core) (number : ℕ) (wire : WireC) → HasSoundFrame core → slice_get core.wires number ≡ Some wire
+        → Holds core.types wire.ty (first_cell core number wire) (option_to_list wire.initial) }
+{}
+
+/// What a cell shows are the flat words of the oldest value that it holds. A cell from which it is taken holds the later ones, and one
+/// in which the words of a value are put holds that value behind the others. Each row has as many words as the wire's type.
+pub fn cells_hold_values()
+    ensures shown { (types : Types) (ty : Ty) (cell : CellView) (oldest : Value) (later : List Value) → Holds types ty cell (oldest ∷ later)
+        → slice_get cell.values 0 ≡ Some (flat types ty oldest) }
+    ensures taken { (types : Types) (ty : Ty) (cell : CellView) (oldest : Value) (later : List Value) → Holds types ty cell (oldest ∷ later)
+        → Holds types ty (record cell { values = drop 1 cell.values }) later }
+    ensures asserted { (types : Types) (ty : Ty) (cell : CellView) (held : List Value) (value : Value) → Holds types ty cell held
+        → is_value types ty value ≡ true → Holds types ty (record cell { values = cell.values ++ flat types ty value ∷ [] }) (held ++ value ∷ []) }
+    ensures whole { (types : Types) (ty : Ty) (cell : CellView) (held : List Value) (i : ℕ) (words : List ℕ) → Holds types ty cell held
+        → slice_get cell.values i ≡ Some words → length words ≡ cell.size }
+{}

@@ -1,0 +1,3 @@
+pub mod TwoObjects
+pub mod TwoOutputs
+pub mod SoundFairCore

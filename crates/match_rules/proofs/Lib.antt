@@ -1,0 +1,10 @@
+pub mod Tests
+pub mod Orders
+pub mod Taking
+pub mod FieldWords
+pub mod Testing
+pub mod Fitting
+pub mod Objects
+pub mod ValuesBuilt
+pub mod InputsBuilt
+pub mod WireInputs

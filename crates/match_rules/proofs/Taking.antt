@@ -1,0 +1,81 @@
+-- What is left in cells once values are taken.
+use Rattle.std.proofs.Common.{◌≡◌, ℕ, zero, suc, ◌<◌, min, Bool, true, false, cond, List, [], ◌∷◌, ◌++◌, length, map, take, drop, get_or, slice_set, refl, ap, sym, ◌∙◌, subst, arith}
+use Rattle.hume_base.specs.declared.types.Ty.{Ty}
+use Rattle.hume_base.specs.declared.types.Value.{Value}
+use Rattle.hume_model.specs.declared.core_tree.Core.{Core}
+use Rattle.hume_model.specs.declared.core_tree.InPat.{InPat}
+use Rattle.hume_model.specs.declared.core_tree.InPat.TheVariants.{Star, AnyStar, Any, Built}
+use Rattle.hume_model.specs.Matching.{taken_by, taken_at}
+use Rattle.hume_net.specs.HalfSteps.{oldest, without_oldest, without_taken}
+use Rattle.wire_cells.specs.Cells.{CellView}
+use Rattle.wire_cells.proofs.Holding.{less_held}
+use Rattle.match_rules.specs.Inputs.{IsCellOf, AreCellsOf, left_in}
+use Rattle.match_rules.specs.inner.Consuming.{consumed_at, consumed}
+
+pub consumed_next : (pats : List InPat) (cells : List CellView) (i : ℕ) (p : InPat) (d : CellView) → i < length pats → i < length cells
+    → slice_set (consumed (take i pats) (take i cells) ++ drop i cells) i
+    (consumed_at (get_or pats i p) (get_or (consumed (take i pats) (take i cells) ++ drop i cells) i d))
+    ≡ consumed (take (suc i) pats) (take (suc i) cells) ++ drop (suc i) cells
+consumed_next [] cells i p d less fits = absurd (omega (arith, less))
+consumed_next (pat ∷ pats) [] i p d less fits = absurd (omega (arith, fits))
+consumed_next (pat ∷ pats) (cell ∷ cells) zero p d less fits = refl
+consumed_next (pat ∷ pats) (cell ∷ cells) (suc i) p d less fits = ap (λ cs. consumed_at pat cell ∷ cs)
+    (consumed_next pats cells i p d (omega (arith, less)) (omega (arith, fits)))
+
+none_consumed : (cells : List CellView) → consumed [] cells ≡ cells
+none_consumed [] = refl
+none_consumed (cell ∷ cells) = refl
+
+pub consumed_all : (pats : List InPat) (cells : List CellView) (n : ℕ) → n ≡ min (length pats) (length cells)
+    → consumed (take n pats) (take n cells) ++ drop n cells ≡ consumed pats cells
+consumed_all [] cells n is = ap (λ k. consumed (take k []) (take k cells) ++ drop k cells) (let e : n ≡ 0 = omega (arith, is) in e) ∙ sym (none_consumed cells)
+consumed_all (pat ∷ pats) [] n is = ap (λ k. consumed (take k (pat ∷ pats)) (take k []) ++ drop k []) (let e : n ≡ 0 = omega (arith, is) in e)
+consumed_all (pat ∷ pats) (cell ∷ cells) zero is = absurd (omega (arith, is))
+consumed_all (pat ∷ pats) (cell ∷ cells) (suc n) is = ap (λ cs. consumed_at pat cell ∷ cs) (consumed_all pats cells n (omega (arith, is)))
+
+-- without a value there is nothing to drop
+none_there : (cell : CellView) → cell.values ≡ [] → record cell { values = drop 1 cell.values } ≡ cell
+none_there cell is = ap (λ vs. record cell { values = drop 1 vs }) is ∙ ap (λ vs. record cell { values = vs }) (sym is)
+
+taken_here : (core : Core) (type : Ty) (pat : InPat) (cell : CellView) (held : List Value) → IsCellOf core type cell held
+    → consumed_at pat cell ≡ cond (taken_by pat (oldest held)) (record cell { values = drop 1 cell.values }) cell
+taken_here core type Star cell held is = refl
+taken_here core type AnyStar cell [] is = none_there cell is.holds.words
+taken_here core type AnyStar cell (v ∷ held) is = refl
+taken_here core type Any cell held is = refl
+taken_here core type (Built p) cell held is = refl
+
+pub consumed_taken : (core : Core) (types : List Ty) (pats : List InPat) (cells : List CellView) (values : List (List Value))
+    → AreCellsOf core types cells values
+    → consumed pats cells ≡ left_in (taken_at pats (map oldest values)) cells
+consumed_taken core types [] [] values cells = refl
+consumed_taken core types [] (cell ∷ others) values cells = refl
+consumed_taken core types (pat ∷ pats) [] values cells = refl
+consumed_taken core [] (pat ∷ pats) (cell ∷ others) values cells = elim cells [ ]
+consumed_taken core (type ∷ types) (pat ∷ pats) (cell ∷ others) [] cells = elim cells [ ]
+consumed_taken core (type ∷ types) (pat ∷ pats) (cell ∷ others) (held ∷ values) (AreCellsOf.more one rest) =
+    ap (λ c. c ∷ consumed pats others) (taken_here core type pat cell held one)
+    ∙ ap (λ cs. cond (taken_by pat (oldest held)) (record cell { values = drop 1 cell.values }) cell ∷ cs) (consumed_taken core types pats others values rest)
+
+less_of : (core : Core) (type : Ty) (cell : CellView) (held : List Value) → IsCellOf core type cell held
+    → IsCellOf core type (record cell { values = drop 1 cell.values }) (without_oldest held)
+less_of core type cell [] is = subst (λ c. IsCellOf core type c []) (sym (none_there cell is.holds.words)) is
+less_of core type cell (v ∷ held) is = record {
+  wire = is.wire;
+  there = is.there;
+  ty = is.ty;
+  holds = less_held core.types type cell v held is.holds;
+}
+
+left_one : (core : Core) (type : Ty) (cell : CellView) (held : List Value) (taken : Bool) → IsCellOf core type cell held
+    → IsCellOf core type (cond taken (record cell { values = drop 1 cell.values }) cell) (cond taken (without_oldest held) held)
+left_one core type cell held true is = less_of core type cell held is
+left_one core type cell held false is = is
+
+pub left_held : (core : Core) {types : List Ty} {cells : List CellView} {values : List (List Value)} (taken : List Bool) → AreCellsOf core types cells values
+    → AreCellsOf core types (left_in taken cells) (without_taken taken values)
+left_held core [] AreCellsOf.none = AreCellsOf.none
+left_held core (t ∷ taken) AreCellsOf.none = AreCellsOf.none
+left_held core [] (AreCellsOf.more one rest) = AreCellsOf.more one rest
+left_held core (t ∷ taken) (AreCellsOf.more {type = type} {cell = cell} {held = held} one rest) = AreCellsOf.more (left_one core type cell held t one)
+    (left_held core taken rest)

@@ -1,0 +1,12 @@
+use Rattle.std.proofs.Common.{◌≡◌, List, map, take, true}
+use Rattle.hume_base.specs.declared.types.Ty.{Ty}
+use Rattle.hume_base.specs.declared.types.Value.{Value}
+use Rattle.hume_model.specs.Matching.{fits}
+use Rattle.hume_net.specs.HalfSteps.{oldest}
+use Rattle.match_rules.specs.Inputs.{AreCellsOf, built_values, AreBuilt}
+use Rattle.match_rules.proofs.inputs.build_inputs.Given as goal
+
+abbrev pub invariant-loop-i : goal.invariant-loop-i
+invariant-loop-i l = (types : List Ty) (values : List (List Value)) → AreCellsOf l.fn.core types l.fn.ins values
+    → fits l.fn.rule.pats (map oldest values) ≡ true
+    → AreBuilt (built_values (take l.i l.fn.rule.pats) (map oldest values)) l.fn.heap l.heap l.fn.stack l.stack

@@ -1,0 +1,4 @@
+pub mod WordTests
+pub mod Builders
+pub mod Consuming
+pub mod Putting
