@@ -5,3 +5,5 @@
 
 #[cfg(test)]
 mod accepted_tests;
+#[cfg(test)]
+mod compiled_tests;

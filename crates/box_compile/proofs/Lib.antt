@@ -1,0 +1,10 @@
+pub mod Appending
+pub mod Patterns
+pub mod Taken
+pub mod PatternCode
+pub mod CountedPlaces
+pub mod Measures
+pub mod Forms
+pub mod FunctionCode
+pub mod ResultForms
+pub mod BoxCode

@@ -1,0 +1,7 @@
+pub mod Emitted
+pub mod Tests
+pub mod Parts
+pub mod Entries
+pub mod Arms
+pub mod ResultArms
+pub mod Boxes

@@ -1,0 +1,14 @@
+pub mod Fronts
+pub mod Held
+pub mod Effects
+pub mod Reaching
+pub mod Following
+pub mod Wrapping
+pub mod Operating
+pub mod Ending
+pub mod Decoded
+pub mod Writing
+pub mod WritingParts
+pub mod Finishing
+pub mod Closing
+pub mod Rules

@@ -1,0 +1,4 @@
+pub mod Stepping
+pub mod Layers
+pub mod Written
+pub mod PutOutputs

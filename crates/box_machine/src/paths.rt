@@ -1,0 +1,116 @@
+//! Words at paths: matched, and pushed.
+ghost use Rattle.std.specs.Prelude.{◌≡◌, ◌≤◌, ◌+◌, ℕ, length, take, Some};
+ghost use Rattle.box_code.specs.Machine.{Setting, at_path};
+ghost use Rattle.box_code.specs.declared.instr.Instr.TheVariants.{MatchWord, MatchTag, Field};
+ghost use Rattle.box_machine.specs.inner.Stepping.{CanDoOn, DoesOn, IsHeap, found_in, objects_in};
+
+use crate::objects::{field_at, keeps_room, tag_at};
+use crate::registers::Registers;
+use crate::stack_words::{push, word_at};
+use box_code::Path;
+use box_heap::BoxHeap;
+
+/// Goes on if the word at the path is this one, and jumps if not.
+#[inline(always)]
+pub(crate) fn match_word(
+    depth: u32,
+    path: Path,
+    word: u64,
+    to: u32,
+    registers: Registers,
+    words: &[u64],
+    heap: &BoxHeap,
+    code: &[u64],
+) -> Registers
+    requires top { registers.top ≤ length words.now }
+    requires held { IsHeap heap.now }
+    requires within { path.at + path.length ≤ length code.now }
+    requires can { (setting : Setting) × (setting.code ≡ code.now) × CanDoOn setting (MatchWord depth path word to) registers words.now heap.now }
+    ensures { (setting : Setting) → setting.code ≡ code.now
+        → DoesOn setting (MatchWord depth path word to) registers words.now heap.now result words.now heap.now }
+{
+    let found = found_at(depth, path, registers.top, words, heap, code);
+    Registers {
+        at: if found == word { registers.at } else { to },
+        ..registers
+    }
+}
+
+/// Goes on if the object at the path has this tag, and jumps if not.
+#[inline(always)]
+pub(crate) fn match_tag(
+    depth: u32,
+    path: Path,
+    tag: u32,
+    to: u32,
+    registers: Registers,
+    words: &[u64],
+    heap: &BoxHeap,
+    code: &[u64],
+) -> Registers
+    requires top { registers.top ≤ length words.now }
+    requires held { IsHeap heap.now }
+    requires within { path.at + path.length ≤ length code.now }
+    requires can { (setting : Setting) × (setting.code ≡ code.now) × CanDoOn setting (MatchTag depth path tag to) registers words.now heap.now }
+    ensures { (setting : Setting) → setting.code ≡ code.now
+        → DoesOn setting (MatchTag depth path tag to) registers words.now heap.now result words.now heap.now }
+{
+    let found = found_at(depth, path, registers.top, words, heap, code);
+    Registers {
+        at: if tag_at(heap, found) == tag {
+            registers.at
+        } else {
+            to
+        },
+        ..registers
+    }
+}
+
+/// Pushes the word at the path.
+#[inline(always)]
+pub(crate) fn field(
+    depth: u32,
+    path: Path,
+    registers: Registers,
+    words: &mut [u64],
+    heap: &BoxHeap,
+    code: &[u64],
+) -> Registers
+    requires top { registers.top ≤ length words.old }
+    requires held { IsHeap heap.now }
+    requires within { path.at + path.length ≤ length code.now }
+    requires can { (setting : Setting) × (setting.code ≡ code.now) × CanDoOn setting (Field depth path) registers words.old heap.now }
+    ensures { (setting : Setting) → setting.code ≡ code.now → DoesOn setting (Field depth path) registers words.old heap.now result words.new heap.now }
+{
+    let found = found_at(depth, path, registers.top, words, heap, code);
+    push(registers, words, found)
+}
+
+// The word at the path from the word at the depth on.
+#[inline(always)]
+fn found_at(depth: u32, path: Path, top: usize, words: &[u64], heap: &BoxHeap, code: &[u64]) -> u64
+    requires top { top ≤ length words.now }
+    requires held { IsHeap heap.now }
+    requires within { path.at + path.length ≤ length code.now }
+    requires there { (word : ℕ) × (found_in code.now (objects_in heap.now) depth path (take top words.now) ≡ Some word) }
+    ensures { found_in code.now (objects_in heap.now) depth path (take top words.now) ≡ Some result }
+{
+    let start = word_at(words, top, depth as usize);
+    let from = path.at as usize;
+    follow(&code[from..from + path.length as usize], heap, start)
+}
+
+// The word to which field numbers lead from a word on.
+#[inline(always)]
+fn follow(numbers: &[u64], heap: &BoxHeap, start: u64) -> u64
+    requires held { IsHeap heap.now }
+    requires there { (word : ℕ) × (at_path (objects_in heap.now) numbers.now start ≡ Some word) }
+    ensures { at_path (objects_in heap.now) numbers.now start ≡ Some result }
+{
+    keeps_room(heap);
+    let mut word = start;
+    for number in numbers {
+        word = field_at(heap, word, *number as u32);
+    }
+    word
+}

@@ -1,0 +1,4 @@
+pub mod Running
+pub mod Variables
+pub mod Ending
+pub mod RuleEnding

@@ -1,0 +1,4 @@
+pub mod OutputRoom
+pub mod HeapPeaks
+pub mod Ends
+pub mod HaveRun

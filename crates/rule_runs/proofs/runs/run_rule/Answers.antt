@@ -1,0 +1,11 @@
+use Rattle.rule_runs.proofs.Ends.{ends_in_room}
+use Rattle.rule_runs.proofs.HaveRun.{has_run}
+use Rattle.rule_runs.proofs.runs.run_rule.Goals as goal
+
+pub run_rule-requires-clause-ends : goal.run_rule-requires-clause-ends
+run_rule-requires-clause-ends c = ends_in_room c.requires.4
+
+pub returns : goal.returns
+returns c core b fired ins ready =
+    let e = c.run_rule.ensures in
+    has_run ready _ _ _ _ _ e.heap e.stack e.outputs e.work e.answer
