@@ -1,6 +1,5 @@
 -- The bare form of a core.
 use Rattle.std.specs.Prelude.{[], map}
-use Rattle.hume_model.specs.declared.core_tree.Res.{Res}
 use Rattle.hume_model.specs.declared.core_tree.Res.TheVariants.{Outs}
 use Rattle.hume_model.specs.declared.core_tree.RuleC.{RuleC}
 use Rattle.hume_model.specs.declared.core_tree.HandC.{HandC}
