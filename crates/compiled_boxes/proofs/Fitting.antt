@@ -1,0 +1,66 @@
+-- From what matching finds to a rule that fires.
+use Rattle.std.proofs.Common.{◌≡◌, ◌<◌, ◌^◌, ℕ, false, List, map, Option, Some, None, slice_get, refl, ap, sym, ◌∙◌, arith}
+use Rattle.std.specs.List.{find}
+use Rattle.std.specs.Option.{is_some, option_and_then}
+use Rattle.std.proofs.lemmas.Option.{slice_get_within}
+use Rattle.hume_model.specs.declared.core_tree.RuleC.{RuleC}
+use Rattle.hume_model.specs.declared.core_tree.BoxC.{BoxC}
+use Rattle.hume_model.specs.declared.core_tree.Core.{Core}
+use Rattle.hume_model.specs.Firing.{rule_fits}
+use Rattle.hume_net.specs.declared.state.HalfStep.{HalfStep}
+use Rattle.hume_net.specs.HalfSteps.{oldest}
+use Rattle.wire_cells.specs.Cells.{CellView}
+use Rattle.compiled_boxes.specs.declared.compiled.CompiledBox.{CompiledBox}
+use Rattle.compiled_boxes.specs.Boxes.{AreBareForms, IsAt}
+use Rattle.compiled_boxes.specs.Steps.{first_fitting}
+use Rattle.compiled_boxes.specs.inner.Firing.{Fires}
+use Rattle.compiled_boxes.proofs.BareForms.{few_bare_rules, few_rules, first_same, no_rule, whole_rule}
+use Rattle.compiled_boxes.proofs.Idling.{idle_at}
+
+is_none : {X : Type 0} (o : Option X) → is_some o ≡ false → o ≡ None
+is_none None is = refl
+is_none (Some x) is = cc
+
+module _ {core : Core} {b : BoxC} {before : HalfStep} {box : CompiledBox} {cells : List CellView} {bare : Core} {bare_b : BoxC}
+    (forms : AreBareForms core b bare bare_b) (at : IsAt core b before box cells) where
+  abbrev found_bare : Option ℕ
+  found_bare = find (λ number. rule_fits (map oldest before.side) (slice_get bare_b.rules number)) box.order
+
+  -- what the bare box finds is what the whole one finds
+  pub same_found : (result : Option ℕ) → result ≡ found_bare → first_fitting b before.part.order (map oldest before.side) ≡ result
+  same_found result is =
+      sym (is ∙ ap (λ order. first_fitting bare_b order (map oldest before.side)) at.box_at.order
+      ∙ ap (λ x. first_fitting x before.part.order (map oldest before.side)) forms.box_is ∙ first_same b before.part.order (map oldest before.side))
+
+  pub free : box.pending ≡ false → before.part.pending ≡ None
+  free is = is_none before.part.pending (sym at.box_at.pending.blocked ∙ is)
+
+  pub small_number : (number : ℕ) (rule : RuleC) → slice_get bare_b.rules number ≡ Some rule → number < 2 ^ 32
+  small_number number rule there =
+      let inside = slice_get_within bare_b.rules number rule there in
+      let many = few_bare_rules forms in
+      let few = few_rules forms.sound in
+      omega (arith, inside, many, few)
+
+  pub fires_so : (number : ℕ) (rule : RuleC) → first_fitting b before.part.order (map oldest before.side) ≡ Some number
+      → slice_get bare_b.rules number ≡ Some rule → before.part.pending ≡ None
+      → Fires core b before (record box { work = 0 }) cells bare bare_b.fair number rule
+  fires_so number rule found there unblocked =
+      let whole = whole_rule b number rule (sym (ap (λ (x : BoxC). slice_get x.rules number) forms.box_is) ∙ there) in
+      record {
+        sound = forms.sound;
+        core_is = forms.core_is;
+        fair_is = ap (λ (x : BoxC). x.fair) forms.box_is;
+        at = idle_at at;
+        unblocked = unblocked;
+        found = found;
+        rule = whole.0;
+        there = whole.1;
+        rule_is = whole.2;
+      }
+
+  -- no rule is found, or there is none of the number
+  pub none_there : (number : ℕ) → first_fitting b before.part.order (map oldest before.side) ≡ Some number → slice_get bare_b.rules number ≡ None
+      → option_and_then (slice_get b.rules) (first_fitting b before.part.order (map oldest before.side)) ≡ None
+  none_there number found missing =
+      ap (option_and_then (slice_get b.rules)) found ∙ no_rule b number (sym (ap (λ (x : BoxC). slice_get x.rules number) forms.box_is) ∙ missing)

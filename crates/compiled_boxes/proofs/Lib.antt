@@ -1,0 +1,10 @@
+pub mod BareForms
+pub mod InputValues
+pub mod Orders
+pub mod Rooms
+pub mod Ready
+pub mod Idling
+pub mod Fitting
+pub mod Firing
+pub mod Built
+pub mod Making

@@ -1,0 +1,51 @@
+use Rattle.std.proofs.Common.{◌≤◌, length, map, sym, subst}
+use Rattle.hume_model.specs.BoxTyping.{port_types}
+use Rattle.hume_net.specs.HalfSteps.{oldest}
+use Rattle.box_costs.specs.Bounds.{built_patterns}
+use Rattle.box_costs.specs.ResultSpending.{inputs_built}
+use Rattle.compiled_boxes.proofs.BareForms.{cells_of, frame_of}
+use Rattle.compiled_boxes.proofs.Built.{bare_fits, it_has_fired, its_ready, stands_there}
+use Rattle.compiled_boxes.proofs.Ready.{heap_fits, same_patterns, stack_fits}
+use Rattle.compiled_boxes.proofs.compiled.CompiledBox.fire.Goals as goal
+
+pub build-requires-clause-core : goal.build-requires-clause-core
+build-requires-clause-core c = let fires = c.requires.3 in frame_of fires.sound fires.core_is
+
+pub build-requires-clause-fitting : goal.build-requires-clause-fitting
+build-requires-clause-fitting c =
+    let before = c.requires.2 in
+    let fires = c.requires.3 in
+    let ins = map oldest before.side in
+    let same = sym (same_patterns fires) in (
+      port_types c.requires.1.ins,
+      before.side,
+      cells_of fires.core_is fires.at.inputs,
+      bare_fits fires,
+      subst (λ pats. inputs_built pats ins ≤ c.args.self.now.heap.room) same (heap_fits fires),
+      subst (λ pats. length (built_patterns pats) ≤ c.args.self.now.stack.room) same (stack_fits fires),
+    )
+
+pub run_rule-ran-requires : goal.run_rule-ran-requires
+run_rule-ran-requires c =
+    let its = c.requires.1 in
+    let before = c.requires.2 in
+    let fires = c.requires.3 in
+    let built = c.build.ensures.built (port_types its.ins) before.side (cells_of fires.core_is fires.at.inputs) (bare_fits fires) in
+    (c.requires.0, its, fires.rule, map oldest before.side, its_ready fires c.build.new.self c.build.ensures.others built)
+
+pub put_last-requires : goal.put_last-requires
+put_last-requires c =
+    let its = c.requires.1 in
+    let before = c.requires.2 in
+    let fires = c.requires.3 in
+    let built = c.build.ensures.built (port_types its.ins) before.side (cells_of fires.core_is fires.at.inputs) (bare_fits fires) in
+    stands_there fires c.build.new.self c.build.ensures.others built
+
+pub returns : goal.returns
+returns c = λ whole its before fires.
+    let ins = map oldest before.side in
+    let built = c.build.ensures.built (port_types its.ins) before.side (cells_of fires.core_is fires.at.inputs) (bare_fits fires) in
+    let ready = its_ready fires c.build.new.self c.build.ensures.others built in
+    it_has_fired fires c.build.new.self c.build.ensures.others built c.run_rule-ran.new.heap c.run_rule-ran.new.stack c.run_rule-ran.new.out
+    c.run_rule-ran.new.work c.run_rule-ran.result (c.run_rule-ran.ensures whole its fires.rule ins ready) c.put_last.new.order c.put_last.ensures
+    c.consume.new.ins (c.consume.ensures whole (port_types its.ins) before.side fires.at.inputs)

@@ -1,0 +1,116 @@
+//! A box as code, with all that it works on.
+ghost use Rattle.std.specs.Prelude.{◌≡◌, ◌<◌, length, map, Some, None, slice_get, IfOk, MatchOption};
+ghost use Rattle.hume_base.specs.Sizes.{HaveTheirSizes, written_size, size_of};
+ghost use Rattle.hume_model.specs.declared.core_tree.BoxC.{BoxC as AnyBox};
+ghost use Rattle.hume_model.specs.declared.core_tree.Core.{Core as AnyCore};
+ghost use Rattle.hume_model.specs.BoxTyping.{port_types};
+ghost use Rattle.hume_net.specs.declared.state.Part.{Part};
+ghost use Rattle.box_heap.specs.Outputs.{OutputView};
+ghost use Rattle.box_code.specs.RepresentsBox.{RepresentsBox};
+ghost use Rattle.compiled_boxes.specs.Boxes.{AreBareForms, IsBoxAt, IsUnused, TakesLittle, first_part};
+
+use box_code::BoxProgram;
+use box_heap::{BoxHeap, BoxStack, OutBuf};
+use hume_base::{Types, size};
+use hume_model::{BoxC, Core, PortC};
+use match_rules::RuleOrder;
+use std::alloc::{AllocError, Global};
+
+/// A box as code: its program, the order of its rules, its heap and stack, and its outputs, which may be pending.
+#[derive(Drop)]
+pub struct CompiledBox {
+    pub(crate) program: BoxProgram,
+    pub(crate) order: RuleOrder,
+    pub(crate) heap: BoxHeap,
+    pub(crate) stack: BoxStack,
+    pub(crate) outputs: OutBuf,
+    pub(crate) pending: bool,
+    pub(crate) work: u32,
+}
+
+impl CompiledBox {
+    /// A box before its first step, by the bare forms of its core and of itself.
+    pub fn make(
+        alloc: Global,
+        core: &Core,
+        b: &BoxC,
+        program: BoxProgram,
+    ) -> Result<CompiledBox, AllocError>
+        requires forms { (whole : AnyCore) × (its : AnyBox) × AreBareForms whole its core.now b.now }
+        requires room { TakesLittle program }
+        ensures at { IfOk result (λ box. (whole : AnyCore) (its : AnyBox) → AreBareForms whole its core.now b.now → RepresentsBox whole its program
+            → IsBoxAt whole its (first_part its) box) }
+        ensures unused { IfOk result IsUnused }
+    {
+        let sizes = output_sizes(alloc, &core.types, b.outs.as_slice())?;
+        let outputs = OutBuf::make(alloc, &sizes)?;
+        let heap = BoxHeap::make(alloc, program.heap)?;
+        let stack = BoxStack::make(alloc, program.stack)?;
+        let order = RuleOrder::make(b.rules.len() as u32);
+        Ok(CompiledBox {
+            program,
+            order,
+            heap,
+            stack,
+            outputs,
+            pending: false,
+            work: 0,
+        })
+    }
+
+    /// The words of an output that is pending; none where there is none. It is the output of the number, counted from 0.
+    pub fn output(&self, i: u32) -> Option<&[u64]>
+        requires { i < length self.now.outputs }
+        ensures { (output : OutputView) → slice_get self.now.outputs i ≡ Some output
+            → MatchOption result (output.words ≡ None) (λ words. output.words ≡ Some words.now) }
+    {
+        self.outputs.get(i)
+    }
+
+    /// Forgets the outputs that are pending.
+    pub fn forget_outputs(&mut self)
+        ensures at { (core : AnyCore) (b : AnyBox) (part : Part) → IsBoxAt core b part self.old → IsBoxAt core b (record part { pending = None }) self.new }
+    {
+        self.pending = false;
+    }
+
+    /// The most words of heap that there were.
+    pub fn heap_peak(&self) -> u32
+        ensures { result ≡ self.now.heap.peak }
+    {
+        self.heap.peak()
+    }
+
+    /// The most words of stack that there were.
+    pub fn stack_peak(&self) -> u32
+        ensures { result ≡ self.now.stack.peak }
+    {
+        self.stack.peak()
+    }
+
+    /// How many words of heap are used.
+    pub fn heap_used(&self) -> u32
+        ensures { result ≡ length self.now.heap.words }
+    {
+        self.heap.used()
+    }
+
+    /// How many instructions the last execute step ran.
+    pub fn work(&self) -> u32
+        ensures { result ≡ self.now.work }
+    {
+        self.work
+    }
+}
+
+// How many words a value of each output has.
+fn output_sizes(alloc: Global, types: &Types, outs: &[PortC]) -> Result<Vec<u32>, AllocError>
+    requires { HaveTheirSizes types.now }
+    ensures { IfOk result (λ sizes. sizes.items ≡ map (λ ty. written_size (size_of types.now ty)) (port_types outs.now)) }
+{
+    let mut sizes = Vec::new(alloc);
+    for port in outs {
+        sizes.push(size(types, &port.ty))?;
+    }
+    Ok(sizes)
+}

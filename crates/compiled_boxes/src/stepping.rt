@@ -1,0 +1,102 @@
+//! The execute step of a compiled box.
+ghost use Rattle.std.specs.Prelude.{◌≡◌, ◌≤◌, ℕ, List, length, map, true, if◌then◌else◌, Some, slice_get};
+ghost use Rattle.hume_base.specs.declared.types.Ty.{Ty};
+ghost use Rattle.hume_base.specs.declared.types.Value.{Value};
+ghost use Rattle.hume_model.specs.declared.core_tree.BoxC.{BoxC as AnyBox};
+ghost use Rattle.hume_model.specs.declared.core_tree.Core.{Core as AnyCore};
+ghost use Rattle.hume_model.specs.Matching.{fits};
+ghost use Rattle.hume_model.specs.WellFormed.{HasSoundFrame};
+ghost use Rattle.hume_net.specs.declared.state.HalfStep.{HalfStep};
+ghost use Rattle.hume_net.specs.HalfSteps.{moved_last, oldest};
+ghost use Rattle.box_costs.specs.Bounds.{built_patterns};
+ghost use Rattle.box_costs.specs.ResultSpending.{inputs_built};
+ghost use Rattle.match_rules.specs.Inputs.{AreBuilt, AreCellsOf, built_values};
+ghost use Rattle.compiled_boxes.specs.Boxes.{AreBareForms, HasExecuted, IsAt};
+ghost use Rattle.compiled_boxes.specs.inner.Firing.{Fires, HasFired, emptied};
+
+use crate::compiled::CompiledBox;
+use box_machine::Ran;
+use hume_model::{BoxC, Core, RuleC};
+use match_rules::{RuleOrder, build_inputs, consume, first_match, orders_have_each_rule_once};
+use rule_runs::run_rule;
+use wire_cells::WireCell;
+
+impl CompiledBox {
+    /// Makes the execute step over the cells of the box's inputs, by the bare forms of core and box. The answer is how the rule
+    /// ran that fired, and none exactly where none did. It takes no memory.
+    pub fn execute(&mut self, core: &Core, b: &BoxC, ins: &mut [WireCell]) -> Option<Ran>
+        requires { (whole : AnyCore) × (its : AnyBox) × (before : HalfStep) × AreBareForms whole its core.now b.now × IsAt whole its before self.old ins.old }
+        ensures { (whole : AnyCore) (its : AnyBox) (before : HalfStep) → AreBareForms whole its core.now b.now → IsAt whole its before self.old ins.old
+            → HasExecuted whole its before self.old self.new ins.new result }
+    {
+        self.work = 0;
+        if self.pending {
+            return None;
+        }
+        let Some(number) = first_match(core, b, &self.order, ins) else {
+            return None;
+        };
+        match b.rules.get(number) {
+            None => None,
+            Some(rule) => Some(self.fire(core, b.fair, number as u32, rule, ins)),
+        }
+    }
+
+    // Fires the rule, of that number, which fits.
+    fn fire(
+        &mut self,
+        core: &Core,
+        fair: bool,
+        number: u32,
+        rule: &RuleC,
+        ins: &mut [WireCell],
+    ) -> Ran
+        requires { (whole : AnyCore) × (its : AnyBox) × (before : HalfStep) × Fires whole its before self.old ins.old core.now fair number rule.now }
+        ensures { (whole : AnyCore) (its : AnyBox) (before : HalfStep) → Fires whole its before self.old ins.old core.now fair number rule.now
+            → HasFired whole its before number self.old self.new ins.new result }
+    {
+        self.build(core, rule, ins);
+        let ran = run_rule(
+            &core.types,
+            &self.program,
+            number,
+            &mut self.heap,
+            &mut self.stack,
+            &mut self.outputs,
+            &mut self.work,
+        );
+        consume(rule, ins);
+        put_last(&mut self.order, fair, number);
+        self.pending = true;
+        ran
+    }
+
+    // Builds the inputs of a rule that fits, in an empty heap and on an empty stack, and takes the outputs away.
+    fn build(&mut self, core: &Core, rule: &RuleC, ins: &[WireCell])
+        requires core { HasSoundFrame core.now }
+        requires fitting { (types : List Ty) × (values : List (List Value)) × AreCellsOf core.now types ins.now values
+            × (fits rule.now.pats (map oldest values) ≡ true)
+            × (inputs_built rule.now.pats (map oldest values) ≤ self.old.heap.room)
+            × (length (built_patterns rule.now.pats) ≤ self.old.stack.room) }
+        ensures built { (types : List Ty) (values : List (List Value)) → AreCellsOf core.now types ins.now values
+            → fits rule.now.pats (map oldest values) ≡ true
+            → AreBuilt (built_values rule.now.pats (map oldest values)) (emptied self.old).heap self.new.heap (emptied self.old).stack self.new.stack }
+        ensures others { self.new ≡ record (emptied self.old) { heap = self.new.heap; stack = self.new.stack } }
+    {
+        self.heap.empty();
+        self.stack.empty();
+        self.outputs.clear();
+        build_inputs(core, rule, ins, &mut self.heap, &mut self.stack);
+    }
+}
+
+// The rule, which stands in the order, goes last in that of a fair box.
+fn put_last(order: &mut RuleOrder, fair: bool, number: u32)
+    requires { (place : ℕ) × (slice_get order.old place ≡ Some number) }
+    ensures { order.new ≡ (if fair then moved_last number order.old else order.old) }
+{
+    orders_have_each_rule_once(order);
+    if fair {
+        order.fired(number);
+    }
+}
