@@ -1,8 +1,9 @@
 -- A machine that goes on to its end.
-use Rattle.std.proofs.Common.{◌≡◌, ℕ, zero, suc, ◌+◌, ◌-◌, ◌≤◌, ◌==◌, nat_le, Bool, true, false, if◌then◌else◌, List, [], ◌∷◌, ◌++◌, length, map, take, Option, Some, None, slice_set, refl, ap, sym, ◌∙◌, subst, arith, length-append}
+use Rattle.std.proofs.Common.{◌≡◌, ℕ, zero, suc, ◌+◌, ◌-◌, ◌<◌, ◌≤◌, ◌==◌, nat_le, Bool, true, false, if◌then◌else◌, List, [], ◌∷◌, ◌++◌, length, map, take, Option, Some, None, slice_get, slice_set, refl, ap, sym, ◌∙◌, subst, arith, length-append}
 use Rattle.std.specs.List.{flat_map}
 use Rattle.std.specs.Option.{IsSome, is_some}
 use Rattle.std.proofs.lemmas.Grind.{flat_map-append}
+use Rattle.std.proofs.lemmas.Option.{slice_get_within}
 use Rattle.hume_base.specs.declared.types.Value.{Word}
 use Rattle.hume_base.specs.Flat.{word_of_value}
 use Rattle.hume_model.specs.declared.core_tree.Op.{Op}
@@ -17,7 +18,7 @@ use Rattle.box_code.specs.declared.instr.Scalar.{Scalar}
 use Rattle.box_code.specs.declared.instr.Scalar.TheVariants as scalar
 use Rattle.box_code.specs.declared.instr.Instr.{Instr}
 use Rattle.box_code.specs.declared.instr.Instr.TheVariants as instr
-use Rattle.box_code.specs.Reading.{Read, instr_at}
+use Rattle.box_code.specs.Reading.{Read, at_head, instr_at}
 use Rattle.box_code.specs.Machine.{Setting, Machine, Next, Goes, Ends, Broken, act, act_on, step, with_word, with_object, with_last, word_at, come_to, operated, indexed, updated, to_handler, put, pushed, lowered, ended as ended_with, flat_outs, outs_in, found_at, tag_found_at, field_of, op_of, type_of, used}
 use Rattle.box_machine.specs.declared.registers.Registers.{Registers}
 use Rattle.box_machine.specs.inner.Stepping.{CanDoOn, DoesOn, EndsIn, Fits, HasRoom, by_next, ended, finished, machine_in, objects_in}
@@ -222,6 +223,21 @@ module _ (s : Setting) where
   pub code_there : (left row room : ℕ) (m : Machine) → EndsIn (ended s left m) row room → is_some (instr_at s.code m.at) ≡ true
   code_there left row room m h = is_code (instr_at s.code m.at) m row room (has_room left row room m h)
 
+  -- where it goes on is a place of the code
+
+  instr_within : (at : ℕ) (head : Option ℕ) → slice_get s.code at ≡ head
+      → is_some (at_head head (slice_get s.code (at + 1)) (slice_get s.code (at + 2)) (length s.code) at) ≡ true → at < length s.code
+  instr_within at None found some = cc
+  instr_within at (Some word) found some = slice_get_within s.code at word found
+
+  pub goes_within : (left row room : ℕ) (m new : Machine) → EndsIn (ended s left m) row room → step s m ≡ Goes new → new.at ≤ length s.code
+  goes_within zero row room m new h is = absurd (subst (λ o. EndsIn o row room) (ended-zero m) h)
+  goes_within (suc left) row room m new h is =
+      let next : EndsIn (ended s left new) row room = subst (λ o. EndsIn o row room) (ended-more left m ∙ ap (λ n. by_next left n (ended s left)) is) h in
+      let some = code_there left row room new next in
+      let inside = instr_within new.at (slice_get s.code new.at) refl some in
+      omega (arith, inside)
+
   -- where one instruction goes on, the end is the same
 
   pub goes_to_end : (left : ℕ) (m : Machine) (next : Next) → step s m ≡ next → 1 ≤ left → ended s left m ≡ by_next (left - 1) next (ended s (left - 1))
@@ -248,6 +264,8 @@ module _ (s : Setting) (left : ℕ) (r : Registers) (words : List ℕ) (heap : H
       record {
         fits = subst (λ n. HasRoom (act s i next (machine_in behind words heap)) n heap.room) long (subst (λ n. HasRoom (act s i next
             (machine_in behind words heap)) row n) wide there);
+        lands = λ new is. goes_within s left row room (machine_in r words heap) new ends
+            (step_is ∙ goes_there s next next r.at (take r.top words) r.peak (objects_in heap) r.raised i new is);
         short = short;
       }
 

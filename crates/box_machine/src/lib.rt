@@ -12,6 +12,7 @@ mod arithmetic;
 mod calls;
 mod code_run;
 mod flat_words;
+mod jumps;
 mod objects;
 mod operations;
 mod outputs;

@@ -2,10 +2,11 @@
 ghost use Rattle.std.specs.Prelude.{◌≡◌, ◌≤◌, ◌+◌, ℕ, length, take, Some};
 ghost use Rattle.box_code.specs.Machine.{Setting, at_path};
 ghost use Rattle.box_code.specs.declared.instr.Instr.TheVariants.{MatchWord, MatchTag, Field};
-ghost use Rattle.box_machine.specs.inner.Stepping.{CanDoOn, DoesOn, IsHeap, found_in, objects_in};
+ghost use Rattle.box_machine.specs.inner.Stepping.{CanDoOn, DoesOn, IsHeap, IsTurn, found_in, objects_in};
 
+use crate::jumps::jump;
 use crate::objects::{field_at, keeps_room, tag_at};
-use crate::registers::Registers;
+use crate::registers::{Registers, Turn};
 use crate::stack_words::{push, word_at};
 use box_code::Path;
 use box_heap::BoxHeap;
@@ -21,19 +22,19 @@ pub(crate) fn match_word(
     words: &[u64],
     heap: &BoxHeap,
     code: &[u64],
-) -> Registers
+) -> Turn
     requires top { registers.top ≤ length words.now }
     requires held { IsHeap heap.now }
     requires within { path.at + path.length ≤ length code.now }
     requires can { (setting : Setting) × (setting.code ≡ code.now) × CanDoOn setting (MatchWord depth path word to) registers words.now heap.now }
     ensures { (setting : Setting) → setting.code ≡ code.now
-        → DoesOn setting (MatchWord depth path word to) registers words.now heap.now result words.now heap.now }
+        → IsTurn setting (MatchWord depth path word to) registers words.now heap.now result words.now heap.now }
 {
     let found = found_at(depth, path, registers.top, words, heap, code);
-    Registers {
-        at: if found == word { registers.at } else { to },
-        ..registers
+    if found == word {
+        return Turn::Goes(registers);
     }
+    jump(to, registers, code)
 }
 
 /// Goes on if the object at the path has this tag, and jumps if not.
@@ -47,23 +48,19 @@ pub(crate) fn match_tag(
     words: &[u64],
     heap: &BoxHeap,
     code: &[u64],
-) -> Registers
+) -> Turn
     requires top { registers.top ≤ length words.now }
     requires held { IsHeap heap.now }
     requires within { path.at + path.length ≤ length code.now }
     requires can { (setting : Setting) × (setting.code ≡ code.now) × CanDoOn setting (MatchTag depth path tag to) registers words.now heap.now }
     ensures { (setting : Setting) → setting.code ≡ code.now
-        → DoesOn setting (MatchTag depth path tag to) registers words.now heap.now result words.now heap.now }
+        → IsTurn setting (MatchTag depth path tag to) registers words.now heap.now result words.now heap.now }
 {
     let found = found_at(depth, path, registers.top, words, heap, code);
-    Registers {
-        at: if tag_at(heap, found) == tag {
-            registers.at
-        } else {
-            to
-        },
-        ..registers
+    if tag_at(heap, found) == tag {
+        return Turn::Goes(registers);
     }
+    jump(to, registers, code)
 }
 
 /// Pushes the word at the path.

@@ -16,6 +16,7 @@ use box_heap::{BoxHeap, BoxStack, OutBuf};
 use hume_base::Types;
 
 /// Runs the code of a rule of a box, on a heap and a stack that hold the built inputs, and writes the outputs. It takes no memory.
+#[inline(never)]
 pub fn run_rule(
     types: &Types,
     program: &BoxProgram,

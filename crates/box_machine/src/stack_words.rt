@@ -2,7 +2,7 @@
 ghost use Rattle.std.specs.Prelude.{◌≡◌, ◌≤◌, ◌<◌, ◌++◌, ◌∷◌, [], ◌+◌, max, length, take, Some};
 ghost use Rattle.box_heap.specs.Stacks.{at_depth};
 ghost use Rattle.box_code.specs.Machine.{Setting};
-ghost use Rattle.box_code.specs.declared.instr.Instr.TheVariants.{Push, Load, JumpFalse, Slide};
+ghost use Rattle.box_code.specs.declared.instr.Instr.TheVariants.{Push, Load, Slide};
 ghost use Rattle.box_machine.specs.inner.Stepping.{CanDo, Does, Stacked};
 
 use crate::registers::Registers;
@@ -64,21 +64,6 @@ pub(crate) fn load(depth: u32, registers: Registers, words: &mut [u64]) -> Regis
 {
     let word = word_at(words, registers.top, depth as usize);
     push(registers, words, word)
-}
-
-/// Takes the top word, and goes on at the place if it is 0.
-#[inline(always)]
-pub(crate) fn jump_false(to: u32, registers: Registers, words: &[u64]) -> Registers
-    requires top { registers.top ≤ length words.now }
-    requires can { (setting : Setting) × CanDo setting (JumpFalse to) registers words.now }
-    ensures { (setting : Setting) → Does setting (JumpFalse to) registers words.now result words.now }
-{
-    let word = word_at(words, registers.top, 0);
-    Registers {
-        at: if word == 0 { to } else { registers.at },
-        top: registers.top - 1,
-        ..registers
-    }
 }
 
 /// Drops so many words under the top one.

@@ -4,13 +4,14 @@ ghost use Rattle.box_code.specs.Machine.{Setting};
 ghost use Rattle.box_machine.specs.inner.Stepping.{CanDoOn, IsHeap, IsOf, IsTurn, PathWithin};
 
 use crate::calls::{call, raise, return_with};
+use crate::jumps::jump_false;
 use crate::objects::{index, make, update};
 use crate::operations::{
     add, compare, convert, divide, invert, modulo, multiply, negate, subtract,
 };
 use crate::paths::{field, match_tag, match_word};
 use crate::registers::{Registers, Turn};
-use crate::stack_words::{jump_false, load, push_word, slide};
+use crate::stack_words::{load, push_word, slide};
 use box_code::{BoxProgram, Instr};
 use box_heap::BoxHeap;
 
@@ -50,19 +51,19 @@ pub(crate) fn turn(
             at: to,
             ..registers
         }),
-        Instr::JumpFalse { to } => Turn::Goes(jump_false(to, registers, words)),
+        Instr::JumpFalse { to } => jump_false(to, registers, words, heap, code),
         Instr::MatchWord {
             depth,
             path,
             word,
             to,
-        } => Turn::Goes(match_word(depth, path, word, to, registers, words, heap, code)),
+        } => match_word(depth, path, word, to, registers, words, heap, code),
         Instr::MatchTag {
             depth,
             path,
             tag,
             to,
-        } => Turn::Goes(match_tag(depth, path, tag, to, registers, words, heap, code)),
+        } => match_tag(depth, path, tag, to, registers, words, heap, code),
         Instr::Field { depth, path } => Turn::Goes(field(
             depth, path, registers, words, heap, code,
         )),

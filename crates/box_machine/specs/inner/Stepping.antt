@@ -57,9 +57,10 @@ pub record Does (setting : Setting) (instr : Instr) (old : Registers) (from : Li
   pub step : (objects : List Object) → act setting instr old.at (machine_of old from objects) ≡ Goes (machine_of new to objects)
   pub top : new.top ≤ length to
 
--- there is room for what the instruction does with this heap
+-- There is room for what the instruction does with this heap, and where it goes on is in the code or at its end.
 pub record CanDoOn (setting : Setting) (instr : Instr) (r : Registers) (words : List ℕ) (heap : HeapView) : Type 0 where
   pub fits : HasRoom (act setting instr r.at (machine_in r words heap)) (length words) heap.room
+  pub lands : (new : Machine) → act setting instr r.at (machine_in r words heap) ≡ Goes new → new.at ≤ length setting.code
   pub short : length setting.code ≤ 4294967295
 
 -- the heap has objects still, once some are put behind those that it had

@@ -1,6 +1,6 @@
 use Rattle.std.proofs.Common.{◌∙◌, sym, subst}
 use Rattle.box_code.specs.declared.instr.Instr.{Instr}
-use Rattle.box_machine.specs.inner.Stepping.{CanDoOn, DoesOn}
+use Rattle.box_machine.specs.inner.Stepping.{CanDoOn, DoesOn, IsTurn}
 use Rattle.box_machine.proofs.Effects.{does_on, return_can}
 use Rattle.box_machine.proofs.turn.turn.Goals as goal
 
@@ -81,19 +81,19 @@ returns-in-Update c = λ setting of code.
 
 pub returns-in-JumpFalse : goal.returns-in-JumpFalse
 returns-in-JumpFalse c = λ setting of code.
-    subst (λ (instr : Instr). DoesOn setting instr c.args.registers c.args.words.now c.args.heap.now c.jump_false.result c.args.words.now c.args.heap.now)
+    subst (λ (instr : Instr). IsTurn setting instr c.args.registers c.args.words.now c.args.heap.now c.jump_false.result c.args.words.now c.args.heap.now)
     (sym c.in-JumpFalse.is)
-    (does_on setting _ c.args.registers c.jump_false.result c.args.words.now c.args.words.now c.args.heap.now c.requires.held (c.jump_false.ensures setting))
+    (c.jump_false.ensures setting code)
 
 pub returns-in-MatchWord : goal.returns-in-MatchWord
 returns-in-MatchWord c = λ setting of code.
-    subst (λ (instr : Instr). DoesOn setting instr c.args.registers c.args.words.now c.args.heap.now c.match_word.result c.args.words.now c.args.heap.now)
+    subst (λ (instr : Instr). IsTurn setting instr c.args.registers c.args.words.now c.args.heap.now c.match_word.result c.args.words.now c.args.heap.now)
     (sym c.in-MatchWord.is)
     (c.match_word.ensures setting code)
 
 pub returns-in-MatchTag : goal.returns-in-MatchTag
 returns-in-MatchTag c = λ setting of code.
-    subst (λ (instr : Instr). DoesOn setting instr c.args.registers c.args.words.now c.args.heap.now c.match_tag.result c.args.words.now c.args.heap.now)
+    subst (λ (instr : Instr). IsTurn setting instr c.args.registers c.args.words.now c.args.heap.now c.match_tag.result c.args.words.now c.args.heap.now)
     (sym c.in-MatchTag.is)
     (c.match_tag.ensures setting code)
 
