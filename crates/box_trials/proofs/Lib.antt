@@ -1,0 +1,4 @@
+pub mod Sources
+pub mod Benches
+pub mod PlacesFound
+pub mod PlainOutputs
