@@ -10,9 +10,9 @@ use Rattle.hume_ast.specs.Places.{StandsFor}
 use Rattle.hume_lex.specs.declared.lexer.LexError.{LexError}
 use Rattle.hume_lex.specs.BadPlaces.{IsRead, IsBadPlace, bad_place}
 use Rattle.hume_lex.proofs.Unique.{one_reading, one_bad_place, read_no_bad_place}
-use Rattle.hume_parse.specs.declared.parser.ParseError.{ParseError}
-use Rattle.hume_parse.specs.Parsing.{IsWrongPlace}
-use Rattle.hume_parse.proofs.Answered.{one_place, none_stands}
+use Rattle.syntax_errors.specs.declared.parse_error.ParseError.{ParseError}
+use Rattle.syntax_errors.specs.WrongTokens.{IsWrongPlace}
+use Rattle.syntax_errors.proofs.Answered.{one_place, none_stands}
 use Rattle.hume_check.proofs.OneFinding.{one_least}
 use Rattle.program_check.specs.Refused.{IsRefusedFor, refusal_of}
 use Rattle.hume_front.specs.declared.acceptance.Accepted.{Accepted}

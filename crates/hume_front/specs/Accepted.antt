@@ -13,9 +13,9 @@ use Rattle.hume_ast.specs.Places.{StandsFor}
 use Rattle.hume_lex.specs.declared.lexer.LexError.{LexError}
 use Rattle.hume_lex.specs.declared.lexer.LexError.TheVariants as lexical
 use Rattle.hume_lex.specs.BadPlaces.{IsRead, IsBadPlace, bad_place}
-use Rattle.hume_parse.specs.declared.parser.ParseError.{ParseError}
-use Rattle.hume_parse.specs.declared.parser.ParseError.TheVariants as syntactic
-use Rattle.hume_parse.specs.Parsing.{IsWrongPlace}
+use Rattle.syntax_errors.specs.declared.parse_error.ParseError.{ParseError}
+use Rattle.syntax_errors.specs.declared.parse_error.ParseError.TheVariants as syntactic
+use Rattle.syntax_errors.specs.WrongTokens.{IsWrongPlace}
 use Rattle.hume_model.specs.declared.core_tree.Core.{Core}
 use Rattle.hume_model.specs.WireRules.{BreaksWires}
 use Rattle.hume_model.specs.HandlerRules.{BreaksHandlers}

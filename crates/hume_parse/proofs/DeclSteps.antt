@@ -15,7 +15,7 @@ use Rattle.token_readers.specs.inner.Declarations.{whole_decl, sum_of, construct
 use Rattle.token_readers.proofs.TypesRead.{types_read}
 use Rattle.token_readers.proofs.DeclarationParts.{first_type}
 use Rattle.token_readers.proofs.Forms.{shrinks}
-use Rattle.hume_parse.proofs.Loops.{kinds_length}
+use Rattle.syntax_errors.proofs.ReportedPlaces.{kinds_length}
 
 pub types_shrink : (room : ℕ) (ks : List Kind) (x : TyExp × List Kind) → types room ks ≡ Ok x → length x.1 < length ks
 types_shrink room ks x e = shrinks (types_read room) starts_type (λ t rest f. first_type t rest) (λ t rest f. tt) ks x e

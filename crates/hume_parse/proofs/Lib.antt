@@ -10,5 +10,3 @@ pub mod DeclSteps
 pub mod BoxSteps
 pub mod ItemSteps
 pub mod Running
-pub mod Reports
-pub mod Answered

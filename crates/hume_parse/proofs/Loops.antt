@@ -1,21 +1,15 @@
 -- What one more turn of a loop keeps.
-use Rattle.std.proofs.Common.{◌≡◌, suc, ◌<◌, List, [], ◌∷◌, ◌++◌, length, Bool, true, false, refl, sym, ap, ◌∙◌, arith, length-append, append_assoc, append-nil}
+use Rattle.std.proofs.Common.{◌≡◌, ◌<◌, List, [], ◌∷◌, ◌++◌, length, Bool, true, false, refl, sym, ap, ◌∙◌, arith, length-append, append_assoc, append-nil}
 use Rattle.std.specs.Prelude.{Result, Ok, Err}
 use Rattle.hume_base.specs.declared.symbol.Symbol.{Symbol}
 use Rattle.hume_base.specs.declared.token.Kind.{Kind}
 use Rattle.hume_base.specs.declared.token.Kind.TheVariants.{Sign}
-use Rattle.hume_base.specs.declared.token.Token.{Token}
-use Rattle.hume_ast.specs.Places.{kinds}
-use Rattle.hume_parse.specs.inner.Gives.{Fails}
-use Rattle.hume_parse.specs.declared.stop.Stop.{Stop}
-use Rattle.hume_parse.specs.declared.stop.Stop.TheVariants.{Memory, Syntax, Deep}
+use Rattle.syntax_errors.specs.inner.Gives.{Fails}
+use Rattle.syntax_errors.specs.declared.stop.Stop.{Stop}
+use Rattle.syntax_errors.specs.declared.stop.Stop.TheVariants.{Memory, Syntax, Deep}
 use Rattle.token_readers.specs.inner.Readers.{Reader, Wrong, ◌>>=◌, next, behind, is_sign, made, many, led}
 use Rattle.token_readers.proofs.Local.{many_stop, many_turn}
 use Rattle.token_readers.proofs.Forms.{Reads, led_reads}
-
-pub kinds_length : (tokens : List Token) → length (kinds tokens) ≡ length tokens
-kinds_length [] = refl
-kinds_length (token ∷ tokens) = ap suc (kinds_length tokens)
 
 -- made twice is made once
 made_by : {A B C : Type 0} (r : Result (A × List Kind) Wrong) (f : A → B) (g : B → C) (h : A → C) → ((a : A) → g (f a) ≡ h a) → made g (made f (λ ks. r)) [] ≡ made h (λ ks. r) []

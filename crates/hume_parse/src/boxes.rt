@@ -3,7 +3,7 @@ ghost use Rattle.hume_base.specs.declared.symbol.Symbol.TheVariants.{Comma, Bar}
 ghost use Rattle.hume_base.specs.declared.keyword.Keyword.TheVariants.{In};
 ghost use Rattle.hume_base.specs.declared.token.Kind.TheVariants.{Word, Sign};
 ghost use Rattle.hume_ast.specs.Places.{kinds};
-ghost use Rattle.hume_parse.specs.inner.Gives.{Gives};
+ghost use Rattle.syntax_errors.specs.inner.Gives.{Gives};
 ghost use Rattle.token_readers.specs.inner.Readers.{made, both, closed, listed, maybe, pick, lower_name};
 ghost use Rattle.token_readers.specs.inner.Patterns.{input_pattern as input};
 ghost use Rattle.token_readers.specs.inner.Declarations.{box_of, sides as sides_read, side as ports_read, typed_name as port_read};
@@ -13,13 +13,13 @@ ghost use Rattle.token_readers.specs.inner.Declarations.{is_carried, carried_pat
 
 use crate::expressions::expression;
 use crate::patterns::input_pattern;
-use crate::stop::Stop;
 use crate::tokens::{after_sign, after_word, behind, lower, next_is_sign, next_is_word, upper};
 use crate::types::ty;
 use hume_ast::{Decl, Exp, Pat, TyExp};
 use hume_base::limits::MAX_DEPTH;
 use hume_base::{Keyword, Kind, List, Symbol, Text, Token};
 use std::alloc::Global;
+use syntax_errors::Stop;
 
 /// The inputs and the outputs of a box.
 #[derive(Drop)]

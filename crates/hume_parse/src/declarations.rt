@@ -3,7 +3,7 @@ ghost use Rattle.hume_base.specs.declared.symbol.Symbol.TheVariants.{Equals, Bar
 ghost use Rattle.hume_base.specs.declared.keyword.Keyword.TheVariants.{To};
 ghost use Rattle.hume_base.specs.declared.token.Kind.TheVariants.{Word, Sign};
 ghost use Rattle.hume_ast.specs.Places.{kinds};
-ghost use Rattle.hume_parse.specs.inner.Gives.{Gives};
+ghost use Rattle.syntax_errors.specs.inner.Gives.{Gives};
 ghost use Rattle.token_readers.specs.inner.Readers.{made, both, closed, listed, many, maybe, next};
 ghost use Rattle.token_readers.specs.inner.Readers.{pick, lower_name, upper_name, port_name};
 ghost use Rattle.token_readers.specs.inner.Types.{types};
@@ -14,7 +14,6 @@ ghost use Rattle.token_readers.specs.inner.Declarations.{first_value as first_re
 
 use crate::boxes::box_decl;
 use crate::expressions::expression;
-use crate::stop::Stop;
 use crate::tokens::{
     after_sign, after_word, behind, lower, next_is_sign, next_is_word, number, port, upper,
 };
@@ -23,6 +22,7 @@ use hume_ast::{Decl, Exp, TyExp};
 use hume_base::limits::MAX_DEPTH;
 use hume_base::{Keyword, Kind, List, Symbol, Text, Token};
 use std::alloc::Global;
+use syntax_errors::Stop;
 
 /// A declaration of anything but a function from the front of the tokens.
 #[tactic(auto, using(crate::proofs::DeclSteps::whole_steps))]

@@ -5,7 +5,7 @@ ghost use Rattle.hume_ast.specs.declared.tree.Exp.{roll-Exp, out-Exp};
 ghost use Rattle.hume_ast.specs.Fits.{op_level as level_of};
 ghost use Rattle.hume_ast.specs.Places.{kinds};
 ghost use Rattle.hume_parse.specs.inner.Climbing.{operand_level};
-ghost use Rattle.hume_parse.specs.inner.Gives.{Gives};
+ghost use Rattle.syntax_errors.specs.inner.Gives.{Gives};
 ghost use Rattle.hume_parse.specs.inner.Parts.{let_parts, if_parts, case_parts, case_alternatives, raise_parts, update_parts, other_parts, minus_parts, parens_parts, vect_parts};
 ghost use Rattle.token_readers.specs.inner.Readers.{made, closed, many};
 ghost use Rattle.token_readers.specs.inner.Patterns.{patterns};
@@ -19,7 +19,6 @@ use crate::operators::{
     are_parts_too_deep, first_limit, is_form_too_deep, limit_behind, next_operator, right_level,
     starts_atom,
 };
-use crate::stop::Stop;
 use crate::tokens::{
     after_sign, after_word, behind, next_is_name, next_is_number, next_is_sign, next_is_word, upper,
 };
@@ -31,6 +30,7 @@ use hume_ast::{BinOp, Exp, Pat};
 use hume_base::limits::MAX_DEPTH;
 use hume_base::{Keyword, Symbol, Token};
 use std::alloc::Global;
+use syntax_errors::Stop;
 
 /// An expression from the front of the tokens.
 pub fn expression(alloc: Global, rest: &[Token]) -> Result<(Exp, &[Token]), Stop>

@@ -1,33 +1,18 @@
 ghost use Rattle.std.specs.Prelude.{◌≡◌, ◌-◌, ◌<◌, drop, length, IfOk};
 ghost use Rattle.hume_ast.specs.Places.{kinds};
-ghost use Rattle.hume_parse.specs.inner.Gives.{Gives};
-ghost use Rattle.hume_parse.specs.inner.Items.{seen_item, seen_expecting, named, signed};
+ghost use Rattle.syntax_errors.specs.inner.Gives.{Gives};
+ghost use Rattle.gathered_declarations.specs.inner.Items.{seen_item, seen_expecting};
+ghost use Rattle.hume_parse.specs.inner.Items.{named, signed};
 ghost use Rattle.token_readers.specs.inner.Items.{item as line, named_item as named_read};
 
 use crate::declarations::whole_decl;
 use crate::functions::{equation, signature};
-use crate::stop::Stop;
 use crate::tokens::{lower, next_is_lower, next_is_sign};
-use hume_ast::{Decl, Exp, Pat, TyExp};
+use gathered_declarations::{Expecting, Item};
 use hume_base::limits::MAX_DEPTH;
-use hume_base::{List, Symbol, Text, Token};
+use hume_base::{Symbol, Token};
 use std::alloc::Global;
-
-/// What may come next: a declaration, behind a signature an equation alone, or behind an equation either.
-#[derive(Clone, Copy)]
-pub enum Expecting {
-    Declaration,
-    Equation,
-    Either,
-}
-
-/// What a source is a row of: declarations of anything but a function, the name and types of a function, and equations.
-#[derive(Drop)]
-pub enum Item {
-    Declared(Decl),
-    Signature(Text, List<TyExp>),
-    Equation(Text, List<Pat>, Exp),
-}
+use syntax_errors::Stop;
 
 /// The item that stands here, and the end of the tokens behind it.
 pub fn cut_item(

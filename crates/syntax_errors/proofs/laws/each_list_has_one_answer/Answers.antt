@@ -1,5 +1,5 @@
-use Rattle.hume_parse.proofs.Answered.{answered, one_place, none_stands}
-use Rattle.hume_parse.proofs.laws.each_list_has_one_answer.Goals as goal
+use Rattle.syntax_errors.proofs.Answered.{answered, one_place, none_stands}
+use Rattle.syntax_errors.proofs.laws.each_list_has_one_answer.Goals as goal
 
 pub returns-clause-some : goal.returns-clause-some
 returns-clause-some c = answered

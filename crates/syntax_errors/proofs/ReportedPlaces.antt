@@ -9,17 +9,20 @@ use Rattle.hume_ast.specs.declared.tree.Program.{Program}
 use Rattle.hume_ast.specs.Fits.{IsProper, IsFit}
 use Rattle.hume_ast.specs.Spelling.{spelled}
 use Rattle.hume_ast.specs.Places.{kinds}
-use Rattle.hume_parse.specs.declared.parser.ParseError.{ParseError}
-use Rattle.hume_parse.specs.declared.parser.ParseError.TheVariants.{Syntax, Deep, NoMemory}
-use Rattle.hume_parse.specs.declared.stop.Stop.{Stop}
-use Rattle.hume_parse.specs.declared.stop.Stop.TheVariants as stop
-use Rattle.hume_parse.specs.Parsing.{BeginsSome, BeginsNone, IsWrongToken, IsWrongPlace}
-use Rattle.hume_parse.specs.inner.Gives.{Fails}
-use Rattle.hume_parse.specs.inner.Reported.{place_of, place_left, reported_syntax, reported_deep, reported}
+use Rattle.syntax_errors.specs.declared.parse_error.ParseError.{ParseError}
+use Rattle.syntax_errors.specs.declared.parse_error.ParseError.TheVariants.{Syntax, Deep}
+use Rattle.syntax_errors.specs.declared.stop.Stop.{Stop}
+use Rattle.syntax_errors.specs.declared.stop.Stop.TheVariants as stop
+use Rattle.syntax_errors.specs.WrongTokens.{BeginsSome, BeginsNone, IsWrongToken, IsWrongPlace}
+use Rattle.syntax_errors.specs.inner.Gives.{Fails}
+use Rattle.syntax_errors.specs.inner.Reported.{place_of, place_left, reported_syntax, reported_deep, reported}
 use Rattle.token_readers.specs.inner.Programs.{program}
 use Rattle.token_readers.proofs.StandingFor.{NoneGoesOn}
 use Rattle.token_readers.proofs.ExactPlace.{IsByDepth, IsExact, program_exact}
-use Rattle.hume_parse.proofs.Loops.{kinds_length}
+
+pub kinds_length : (tokens : List Token) → length (kinds tokens) ≡ length tokens
+kinds_length [] = refl
+kinds_length (token ∷ tokens) = ap suc (kinds_length tokens)
 
 -- the token behind those of the kinds in front
 pub record CutAt (tokens : List Token) (before behind : List Kind) (kind : Kind) : Type 0 where
@@ -127,7 +130,8 @@ module _ (tokens : List Token) (end : ℕ) where
   pub exact_reported : (deep : Bool) (left : ℕ) → IsExact (kinds tokens) (deep, left) → IsWrongPlace tokens end (reported (stop_by deep left) tokens end)
   exact_reported deep left x = right_by deep left x.front x.rest x.cut x.left x.begun x.none x.depth
 
-pub reported_right : (why : Stop) (tokens : List Token) (end : ℕ) → Fails why (program MAX_DEPTH (kinds tokens)) → (reported why tokens end ≡ NoMemory) ⊎ IsWrongPlace tokens end (reported why tokens end)
+-- of tokens that stand for no program the one wrong place is reported, unless memory ran out
+pub reported_right : (why : Stop) (tokens : List Token) (end : ℕ) → Fails why (program MAX_DEPTH (kinds tokens)) → (why ≡ stop.Memory) ⊎ IsWrongPlace tokens end (reported why tokens end)
 reported_right stop.Memory tokens end f = inl refl
 reported_right (stop.Syntax left) tokens end f = inr (exact_reported tokens end false left (program_exact (kinds tokens) (false, left) f))
 reported_right (stop.Deep left) tokens end f = inr (exact_reported tokens end true left (program_exact (kinds tokens) (true, left) f))

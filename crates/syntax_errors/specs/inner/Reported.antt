@@ -1,10 +1,10 @@
 -- What is reported of a stop.
 use Rattle.std.specs.Prelude.{ℕ, ◌-◌, List, [], ◌∷◌, length, drop, Option, Some, None}
 use Rattle.hume_base.specs.declared.token.Token.{Token}
-use Rattle.hume_parse.specs.declared.stop.Stop.{Stop}
-use Rattle.hume_parse.specs.declared.stop.Stop.TheVariants as stop
-use Rattle.hume_parse.specs.declared.parser.ParseError.{ParseError}
-use Rattle.hume_parse.specs.declared.parser.ParseError.TheVariants.{Syntax, Deep, NoMemory}
+use Rattle.syntax_errors.specs.declared.stop.Stop.{Stop}
+use Rattle.syntax_errors.specs.declared.stop.Stop.TheVariants as stop
+use Rattle.syntax_errors.specs.declared.parse_error.ParseError.{ParseError}
+use Rattle.syntax_errors.specs.declared.parse_error.ParseError.TheVariants.{Syntax, Deep, NoMemory}
 
 abbrev pub place_of : List Token → Option ℕ
 place_of [] = None

@@ -4,8 +4,8 @@ use Rattle.hume_ast.specs.declared.tree.Pat.{Pat}
 use Rattle.hume_ast.specs.declared.tree.Exp.{Exp}
 use Rattle.hume_ast.specs.declared.tree.Decl.{Decl}
 use Rattle.hume_ast.specs.declared.tree.Decl.TheVariants.{Fun}
-use Rattle.hume_parse.specs.declared.program.OpenFunction.{OpenFunction}
-use Rattle.hume_parse.specs.declared.program.Progress.{Progress}
+use Rattle.gathered_declarations.specs.declared.progress.OpenFunction.{OpenFunction}
+use Rattle.gathered_declarations.specs.declared.progress.Progress.{Progress}
 use Rattle.token_readers.specs.inner.Items.{Item as Line, Whole, Signature, Equation, Expecting as Place, Outside, Wanting, Within}
 
 abbrev pub place_with : List (List ℕ × List Pat × Exp) → Place

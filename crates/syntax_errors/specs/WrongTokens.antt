@@ -6,8 +6,8 @@ use Rattle.hume_ast.specs.declared.tree.Program.{Program}
 use Rattle.hume_ast.specs.Spelling.{spelled}
 use Rattle.hume_ast.specs.Fits.{IsProper, IsFit}
 use Rattle.hume_ast.specs.Places.{kinds}
-use Rattle.hume_parse.specs.declared.parser.ParseError.{ParseError}
-use Rattle.hume_parse.specs.declared.parser.ParseError.TheVariants.{Syntax, Deep, NoMemory}
+use Rattle.syntax_errors.specs.declared.parse_error.ParseError.{ParseError}
+use Rattle.syntax_errors.specs.declared.parse_error.ParseError.TheVariants.{Syntax, Deep, NoMemory}
 
 -- the spelling of one of these programs begins so
 abbrev pub BeginsSome : (Program → Type 0) → List Kind → Type 0

@@ -1,8 +1,8 @@
 -- What a function gives, beside what a reader gives.
 use Rattle.std.specs.Prelude.{◌≡◌, true, false, Result, Ok, Err}
 use Rattle.token_readers.specs.inner.Readers.{Wrong}
-use Rattle.hume_parse.specs.declared.stop.Stop.{Stop}
-use Rattle.hume_parse.specs.declared.stop.Stop.TheVariants.{Memory, Syntax, Deep}
+use Rattle.syntax_errors.specs.declared.stop.Stop.{Stop}
+use Rattle.syntax_errors.specs.declared.stop.Stop.TheVariants.{Memory, Syntax, Deep}
 
 -- the stop is the reader's
 abbrev pub Fails : {Y : Type 0} → Stop → Result Y Wrong → Type 0

@@ -1,5 +1,6 @@
+//! Why reading stops.
 ghost use Rattle.std.specs.Prelude.{◌≡◌};
-ghost use Rattle.hume_parse.specs.declared.stop.Stop.TheVariants.{Memory};
+ghost use Rattle.syntax_errors.specs.declared.stop.Stop.TheVariants.{Memory};
 
 use std::alloc::{AllocError, AllocFailed};
 

@@ -2,8 +2,8 @@ ghost use Rattle.std.specs.Prelude.{◌≡◌, ◌⊎◌, ℕ, List};
 ghost use Rattle.hume_base.specs.declared.token.Token.{Token};
 ghost use Rattle.hume_ast.specs.declared.tree.Program.{Program};
 ghost use Rattle.hume_ast.specs.Places.{StandsFor};
-ghost use Rattle.hume_parse.specs.Parsing.{IsWrongPlace};
-ghost use Rattle.hume_parse.specs.declared.parser.ParseError.{ParseError};
+ghost use Rattle.syntax_errors.specs.WrongTokens.{IsWrongPlace};
+ghost use Rattle.syntax_errors.specs.declared.parse_error.ParseError.{ParseError};
 
 /// The law of answers: tokens stand for a program, or one place of them is wrong; never both, and never two places.
 pub fn each_list_has_one_answer()

@@ -8,17 +8,17 @@ use Rattle.hume_ast.specs.Fits.{IsProper}
 use Rattle.hume_ast.specs.Spelling.{spelled, spelled_decls}
 use Rattle.hume_ast.specs.Places.{kinds, StandsFor}
 use Rattle.hume_base.specs.declared.limits.TheConstants.{MAX_DEPTH}
-use Rattle.hume_parse.specs.declared.parser.ParseError.{ParseError}
-use Rattle.hume_parse.specs.declared.parser.ParseError.TheVariants.{Syntax, Deep, NoMemory}
-use Rattle.hume_parse.specs.Parsing.{BeginsSome, BeginsNone, IsWrongToken, IsCutShort, IsWrongPlace}
-use Rattle.hume_parse.specs.inner.Reported.{place_left, reported}
+use Rattle.syntax_errors.specs.declared.parse_error.ParseError.{ParseError}
+use Rattle.syntax_errors.specs.declared.parse_error.ParseError.TheVariants.{Syntax, Deep, NoMemory}
+use Rattle.syntax_errors.specs.WrongTokens.{BeginsSome, BeginsNone, IsWrongToken, IsCutShort, IsWrongPlace}
+use Rattle.syntax_errors.specs.inner.Reported.{place_left, reported}
 use Rattle.token_readers.specs.inner.Readers.{Wrong}
 use Rattle.token_readers.proofs.Local.{SameNext}
 use Rattle.token_readers.proofs.StandingFor.{NoneGoesOn}
 use Rattle.token_readers.proofs.ExactPlace.{IsByDepth, IsExact}
 use Rattle.token_readers.proofs.OneExactPlace.{one_exact, exact_no_program, exact_or_program}
-use Rattle.hume_parse.proofs.Loops.{kinds_length}
-use Rattle.hume_parse.proofs.Reports.{through, place_there, none_left, stop_by, by_depth, reported_none, reported_some, exact_reported}
+use Rattle.syntax_errors.proofs.ReportedPlaces.{kinds_length}
+use Rattle.syntax_errors.proofs.ReportedPlaces.{through, place_there, none_left, stop_by, by_depth, reported_none, reported_some, exact_reported}
 
 -- it is what is reported of the readers' wrong token
 record IsReport (tokens : List Token) (end : ℕ) (error : ParseError) : Type 0 where

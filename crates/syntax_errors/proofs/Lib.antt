@@ -1,0 +1,2 @@
+pub mod ReportedPlaces
+pub mod Answered

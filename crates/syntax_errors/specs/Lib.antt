@@ -1,0 +1,2 @@
+pub mod WrongTokens
+pub mod inner
