@@ -299,6 +299,10 @@ for cut in '1 20 2' '2 50 1' '4 50 1' '5 52 1'; do
 done
 put cut-lines-0 "${whole[0]}"
 echo 'cut-lines-0 20 1'
+# Where no token starts, in line 2: the first such place is reported, whatever comes behind it.
+words no-token 10 2 'data D = A;' '$' 'a / b' ':::::' "'ab'" "x '" "'''" "'\\'" "'\\r'" $'\'\t\'' '""' 'a "b' $'"a\nb"' $'a\vb' \
+    $'ab\200 99999999999999999999' $'$\n$'
+words wide-number 11 2 'data D = A;' $'99999999999999999999 \200'
 # A byte beyond those of the language may stand in a comment.
 grammatical byte-in-comment $'-- \310\n'
 refused byte-outside 10 '' $'\310' ''
