@@ -128,17 +128,10 @@ fn a_call_reads_then_writes_line_by_line_then_finishes_each_port_once(
 #[test]
 fn no_call_is_made_after_a_failing_read(rt: HostRuntime) -> Result<(), Stop> {
     let two = b"1\n2\n";
-    let first = "p read fails\n";
     let second = "p read\np read fails\n";
     let rows = [
-        Row(run(two, ("p", 1)), Status::Fault, [first, "", "", ""]),
         Row(run(two, ("p", 2)), Status::Fault, [second, "", "", ""]),
         Row(check(("p", 2)), Status::Fault, [second, "", "", ""]),
-        Row(
-            run(two, ("i", 1)),
-            Status::Fault,
-            [SOURCE, "i read fails\n", "", ""],
-        ),
         Row(
             run(two, ("i", 2)),
             Status::Fault,
@@ -151,7 +144,6 @@ fn no_call_is_made_after_a_failing_read(rt: HostRuntime) -> Result<(), Stop> {
 #[test]
 fn no_call_is_made_after_a_failing_write_or_finish(rt: HostRuntime) -> Result<(), Stop> {
     let two = b"1\n2\n";
-    let first = "o write fails\n";
     let second = "o write\no write fails\n";
     let output = "o finish fails\n";
     let report = "o finish\nstd_out finish fails\n";
@@ -159,11 +151,6 @@ fn no_call_is_made_after_a_failing_write_or_finish(rt: HostRuntime) -> Result<()
     let refusal = "std_out write fails\n";
     let finish = "std_out write\nstd_out finish fails\n";
     let rows = [
-        Row(
-            run(two, ("o", 1)),
-            Status::Fault,
-            [SOURCE, INPUT, TABLE, first],
-        ),
         Row(
             run(two, ("o", 2)),
             Status::Fault,

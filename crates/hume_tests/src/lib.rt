@@ -1,4 +1,4 @@
-//! Tests of the crates below: what no clause of a contract says, and what their definitions make of worked examples.
+//! Tests of the crates below: what no clause of a contract says and no program shows.
 //!
 //! They stand at the top of all that they cross, so that no crate is proved a second time for its tests.
 //! Knows: the public calls of each crate. Doesn't know: files; what the program does from outside, `.ci/run` tries.
@@ -11,22 +11,10 @@ mod last_call_tests;
 #[cfg(test)]
 mod lexing_tests;
 #[cfg(test)]
-mod meaning_tests;
-#[cfg(test)]
-mod net_tests;
-#[cfg(test)]
 mod noting_port;
 #[cfg(test)]
-mod parsing_tests;
-#[cfg(test)]
 mod port_tests;
-#[cfg(test)]
-mod sample_cores;
-#[cfg(test)]
-mod sample_runs;
 #[cfg(test)]
 mod spelling_tests;
 #[cfg(test)]
 mod stream_tests;
-#[cfg(test)]
-mod word_tests;

@@ -1,4 +1,4 @@
-//! The texts of tokens: those of each operator, and those of wires with and without a depth.
+//! The tokens of a declaration, and their texts. What each operator is spelled as, programs show.
 use hume_ast::{BinOp, Decl, Exp, Program, spell};
 use hume_base::{Box, Kind, List, Text};
 use std::alloc::{AllocError, Global};
@@ -44,45 +44,19 @@ fn is_spelled(
     Ok(has_texts(&kinds, wanted))
 }
 
-fn operation(alloc: Global, operator: BinOp) -> Result<Exp, AllocError> {
+fn difference(alloc: Global) -> Result<Exp, AllocError> {
     let left = Box::new(alloc, Exp::Num(false, 3))?;
     let right = Box::new(alloc, Exp::Num(false, 3))?;
-    Ok(Exp::Binary(operator, left, right))
+    Ok(Exp::Binary(BinOp::Sub, left, right))
 }
 
 #[test]
-fn each_operator_has_its_text(rt: HostRuntime) -> Result<(), Fail> {
-    let cases: [(BinOp, &[u8]); 14] = [
-        (BinOp::Or, b"or"),
-        (BinOp::And, b"and"),
-        (BinOp::Eq, b"=="),
-        (BinOp::Ne, b"/="),
-        (BinOp::Lt, b"<"),
-        (BinOp::Le, b"<="),
-        (BinOp::Gt, b">"),
-        (BinOp::Ge, b">="),
-        (BinOp::Add, b"+"),
-        (BinOp::Sub, b"-"),
-        (BinOp::Mul, b"*"),
-        (BinOp::Div, b"div"),
-        (BinOp::Mod, b"mod"),
-        (BinOp::At, b"@"),
+fn a_wire_is_spelled_with_and_without_depth_and_first_value(rt: HostRuntime) -> Result<(), Fail> {
+    let alloc = rt.alloc();
+    let deep: [&[u8]; 11] = [
+        b"wire", b"s", b"to", b"t", b"@", b"3", b"initial", b"3", b"-", b"3", b";",
     ];
-    let alloc = rt.alloc();
-    for (operator, wanted) in &cases {
-        let texts: [&[u8]; 9] = [
-            b"wire", b"s", b"to", b"t", b"initial", b"3", *wanted, b"3", b";",
-        ];
-        assert!(rt; is_spelled(alloc, None, Some(operation(alloc, *operator)?), &texts)?);
-    }
-    Ok(())
-}
-
-#[test]
-fn a_wire_is_spelled_with_and_without_a_depth(rt: HostRuntime) -> Result<(), Fail> {
-    let alloc = rt.alloc();
-    let deep: [&[u8]; 7] = [b"wire", b"s", b"to", b"t", b"@", b"3", b";"];
-    assert!(rt; is_spelled(alloc, Some(3), None, &deep)?);
+    assert!(rt; is_spelled(alloc, Some(3), Some(difference(alloc)?), &deep)?);
     let plain: [&[u8]; 5] = [b"wire", b"s", b"to", b"t", b";"];
     assert!(rt; is_spelled(alloc, None, None, &plain)?);
     Ok(())
