@@ -3,8 +3,10 @@
  * kind. What the meaning asks for is there: wrapping, exceptions, places of vectors.
  *
  * `machine CODEFILE COUNT` reads what `box_trials code` printed and runs rule 0 so many times, each time with the inputs' words on the
- * stack and an empty heap. It prints the instructions of all runs together and the outputs of the last one, each of which has to be one
- * scalar word: objects aren't made flat here.
+ * stack and an empty heap. It prints the instructions of all runs together, the most words that were on the stack, and the outputs of the
+ * last run, each of which has to be one scalar word: objects aren't made flat here.
+ *
+ * The most words on the stack are an answer of the machine, so the loop keeps them. With -DWITHOUT_PEAK it doesn't, and prints none.
  */
 #include <stdint.h>
 #include <stdio.h>
@@ -23,6 +25,14 @@ enum { MOST_CODE = 1 << 22, MOST_HEAP = 1 << 16, MOST_STACK = 1 << 14, MOST_PLAC
 static uint64_t code[MOST_CODE], rules[MOST_PLACES], handlers[MOST_PLACES], inputs[MOST_INPUTS];
 static uint64_t heap[MOST_HEAP], stack[1 + MOST_STACK]; /* the first word of the stack's room isn't on the stack */
 static uint64_t input_count, work;
+static uint64_t *peak = stack; /* the highest top word there was */
+
+/* Keeps the top word as the highest one, if it is. */
+#ifdef WITHOUT_PEAK
+#define RAISE_PEAK(highest, top) ((void)0)
+#else
+#define RAISE_PEAK(highest, top) ((void)((highest) = (top) > (highest) ? (top) : (highest)))
+#endif
 
 /* The parts of an instruction's first word. */
 static inline uint64_t kind_of(uint64_t head) { return head & 0xff; }
@@ -73,24 +83,29 @@ static inline uint64_t follow(const uint64_t *path, uint64_t length, uint64_t wo
 static const uint64_t *run(uint64_t place, uint64_t height) {
     const uint64_t *at = code + place;
     uint64_t *top = stack + height; /* the top word */
-    uint64_t *end = heap;           /* behind the objects */
+    uint64_t *highest = peak;
+    uint64_t *end = heap; /* behind the objects */
     uint64_t ran = 0;
+    RAISE_PEAK(highest, top);
     for (;;) {
         uint64_t head = *at++, high = high_of(head), low = low_of(head), word;
         ran++;
         switch (kind_of(head)) {
         case PUSH:
             *++top = *at++;
+            RAISE_PEAK(highest, top);
             break;
         case LOAD:
             word = *(top - high);
             *++top = word;
+            RAISE_PEAK(highest, top);
             break;
         case MAKE:
             top -= low;
             end[0] = high | low << 32;
             memcpy(end + 1, top + 1, low * sizeof *end);
             *++top = end - heap;
+            RAISE_PEAK(highest, top);
             end += 1 + low;
             break;
         case ADD:
@@ -158,6 +173,7 @@ static const uint64_t *run(uint64_t place, uint64_t height) {
         case FIELD:
             word = follow(at, high, *(top - low));
             *++top = word;
+            RAISE_PEAK(highest, top);
             at += high;
             break;
         case SLIDE:
@@ -169,6 +185,7 @@ static const uint64_t *run(uint64_t place, uint64_t height) {
             top[1] = at - code;
             top[2] = top - low - stack;
             top += 2;
+            RAISE_PEAK(highest, top);
             at = code + high;
             break;
         case RETURN:
@@ -184,6 +201,7 @@ static const uint64_t *run(uint64_t place, uint64_t height) {
             break;
         case FINISH:
             work += ran;
+            peak = highest;
             top -= __builtin_popcountl(high);
             *top = __builtin_popcountl(high);
             return top;
@@ -247,6 +265,9 @@ int main(int count, char **names) {
         outputs = run(rules[0], input_count);
     }
     printf("work %lu\n", work);
+#ifndef WITHOUT_PEAK
+    printf("peak %td\n", peak - stack);
+#endif
     for (uint64_t i = 1; i <= outputs[0]; i++) printf("%lu\n", outputs[i]);
     return 0;
 }
