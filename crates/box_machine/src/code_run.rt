@@ -43,9 +43,12 @@ pub(crate) fn run_code(
             heap,
         ) {
             Turn::Goes(new) => registers = new,
-            Turn::Ends(mask) => {
+            Turn::Ends(last, mask) => {
                 return Halted {
-                    registers,
+                    registers: Registers {
+                        at: registers.at,
+                        ..last
+                    },
                     mask,
                     left,
                 };

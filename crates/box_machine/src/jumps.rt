@@ -17,7 +17,7 @@ pub(crate) fn jump(to: u32, registers: Registers, code: &[u64]) -> Turn
     ensures { result ≡ Goes (record registers { at = to }) }
 {
     if to as usize > code.len() {
-        return Turn::Ends(0);
+        return Turn::Ends(registers, 0);
     }
     Turn::Goes(Registers {
         at: to,

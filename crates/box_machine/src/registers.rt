@@ -11,8 +11,9 @@ pub(crate) struct Registers {
 #[derive(Clone, Copy)]
 pub(crate) enum Turn {
     Goes(Registers),
-    /// The words on top are the outputs of the mask.
-    Ends(u32),
+    /// The words on top are the outputs of the mask. It hands back the registers too, since the loop would otherwise hold both those
+    /// before and those after each instruction.
+    Ends(Registers, u32),
 }
 
 /// A machine whose next instruction ends with the outputs of the mask, with how many instructions are left then.

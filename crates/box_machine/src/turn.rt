@@ -73,6 +73,6 @@ pub(crate) fn turn(
             count, variables, registers, words,
         )),
         Instr::Raise { exn, carried } => Turn::Goes(raise(exn, carried, program, registers, words)),
-        Instr::Finish { mask } => Turn::Ends(mask),
+        Instr::Finish { mask } => Turn::Ends(registers, mask),
     }
 }

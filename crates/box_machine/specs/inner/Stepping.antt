@@ -103,15 +103,16 @@ abbrev pub found_in : List ℕ → List Object → ℕ → Path → List ℕ →
 found_in code objects depth path stack = option_and_then (at_path objects (fields_in code path)) (word_at depth stack)
 
 -- the instruction is the one that ends with the outputs of the mask, and nothing changed
-pub record IsFinish (instr : Instr) (mask : ℕ) (from : List ℕ) (before : HeapView) (to : List ℕ) (after : HeapView) : Type 0 where
+pub record IsFinish (instr : Instr) (mask : ℕ) (r last : Registers) (from : List ℕ) (before : HeapView) (to : List ℕ) (after : HeapView) : Type 0 where
   pub finish : instr ≡ Finish mask
+  pub registers : last ≡ r
   pub words : to ≡ from
   pub heap : after ≡ before
 
 -- the turn is what the instruction leads to
 abbrev pub IsTurn : Setting → Instr → Registers → List ℕ → HeapView → Turn → List ℕ → HeapView → Type 0
 IsTurn setting instr r from before (turn.Goes new) to after = DoesOn setting instr r from before new to after
-IsTurn setting instr r from before (turn.Ends mask) to after = IsFinish instr mask from before to after
+IsTurn setting instr r from before (turn.Ends last mask) to after = IsFinish instr mask r last from before to after
 
 -- by what an instruction leads to, where so many are left
 abbrev pub by_next : ℕ → Next → (Machine → Option (ℕ × Machine)) → Option (ℕ × Machine)

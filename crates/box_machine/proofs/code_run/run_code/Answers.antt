@@ -88,4 +88,5 @@ returns-in-Ends-clause-end c = λ setting of.
     sym (c.loop-new.invariant.same setting of)
     ∙ turn_ends setting c.loop-new.left c.loop-new.registers c.loop-new.words c.loop-new.heap c.decode_words-instr.result.0 c.decode_words-instr.result.1 read
     c.in-Ends.mask some stays.finish
-    ∙ (λ i. finished setting (c.loop-new.left - 1) c.in-Ends.mask (machine_in c.loop-new.registers (sym stays.words i) (sym stays.heap i)))
+    ∙ (λ i. finished setting (c.loop-new.left - 1) c.in-Ends.mask (machine_in (record (sym stays.registers i) { at = c.loop-new.registers.at })
+      (sym stays.words i) (sym stays.heap i)))
