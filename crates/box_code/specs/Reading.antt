@@ -32,7 +32,7 @@ abbrev pub with_word : Option ℕ → (ℕ → Read) → Read
 with_word None go = None
 with_word (Some word) go = go word
 
--- by the kind, the operands, the two words after the first one, and the length of the code: the kinds from 12 on
+-- by the kind, the operands, the two words after the first one, and the length of the code: the kinds from 12 on; there is none from 24 on
 abbrev pub other_instr : ℕ → ℕ → ℕ → Option ℕ → Option ℕ → ℕ → ℕ → Read
 other_instr kind low high second third room at =
     if kind == 12 then Some (Index high, at + 1)
@@ -48,7 +48,8 @@ other_instr kind low high second third room at =
     else (if kind == 20 then Some (Call high low, at + 1)
     else (if kind == 21 then Some (Return low high, at + 1)
     else (if kind == 22 then Some (Raise high (low == 1), at + 1)
-    else Some (Finish high, at + 1)))))))))))
+    else (if kind == 23 then Some (Finish high, at + 1)
+    else None)))))))))))
 
 -- the same for all kinds
 abbrev pub instr_of : ℕ → ℕ → ℕ → Option ℕ → Option ℕ → ℕ → ℕ → Read
@@ -67,9 +68,16 @@ instr_of kind low high second third room at =
     else (if kind == 11 then Some (Compare (comparison_of (low / 4)) (scalar_of (low % 4) high), at + 1)
     else other_instr kind low high second third room at)))))))))))
 
+-- the operands of an instruction's first word
+abbrev pub low_operand : ℕ → ℕ
+low_operand head = head / 256 % 16777216
+
+abbrev pub high_operand : ℕ → ℕ
+high_operand head = head / 4294967296
+
 abbrev pub at_head : Option ℕ → Option ℕ → Option ℕ → ℕ → ℕ → Read
 at_head None second third room at = None
-at_head (Some word) second third room at = instr_of (word % 256) (word / 256 % 16777216) (word / 4294967296) second third room at
+at_head (Some word) second third room at = instr_of (word % 256) (low_operand word) (high_operand word) second third room at
 
 -- the instruction that begins at a place
 abbrev pub instr_at : List ℕ → ℕ → Read

@@ -3,159 +3,203 @@ ghost use Rattle.std.specs.Prelude.{◌≡◌, ◌<◌, ◌≤◌, ◌+◌, ℕ,
 ghost use Rattle.std.specs.Option.{is_some};
 ghost use Rattle.box_code.specs.declared.instr.Instr.{Instr as AnyInstr};
 ghost use Rattle.box_code.specs.Words.{StandsAt};
-ghost use Rattle.box_code.specs.Reading.{comparison_of, instr_at, instr_of, other_instr, scalar_of};
+ghost use Rattle.box_code.specs.Reading.{comparison_of, high_operand, instr_at, instr_of, low_operand, other_instr, scalar_of};
 
 use crate::code::Code;
 use crate::instr::{Comparison, Instr, Path, Scalar};
 
 /// The instruction that begins at the place, and the place after it.
 #[inline(always)]
-pub fn decode(code: &Code, at: u32) -> (Instr, u32)
+pub fn decode(code: &Code, at: u32) -> (Instr, usize)
     requires { (instr : AnyInstr) × (next : ℕ) × StandsAt code.now.words at instr next }
     ensures { (instr : AnyInstr) (next : ℕ) → StandsAt code.now.words at instr next → (result.0 ≡ instr) × (result.1 ≡ next) }
 {
-    decode_words(code.words(), at)
+    decode_words(code.words(), at as usize)
 }
 
 /// The same over the words of a code, by what the words there make up.
 #[inline(always)]
-pub fn decode_words(words: &[u64], at: u32) -> (Instr, u32)
+pub fn decode_words(words: &[u64], at: usize) -> (Instr, usize)
     requires there { IsTrue (is_some (instr_at words.now at)) }
     requires short { length words.now ≤ 4294967295 }
     ensures { instr_at words.now at ≡ Some (result.0, result.1) }
 {
-    let head = words[at as usize];
-    let low = (head / 0x100 % 0x100_0000) as u32;
-    let high = (head / 0x1_0000_0000) as u32;
-    decode_kind(words, at, head % 0x100, low, high)
+    let head = words[at];
+    decode_kind(words, at, head % 0x100, head)
 }
 
 // By the kind and the operands of the first word.
 #[inline(always)]
-fn decode_kind(words: &[u64], at: u32, kind: u64, low: u32, high: u32) -> (Instr, u32)
-    requires there { IsTrue (is_some (instr_of kind low high (slice_get words.now (at + 1)) (slice_get words.now (at + 2)) (length words.now) at)) }
+fn decode_kind(words: &[u64], at: usize, kind: u64, head: u64) -> (Instr, usize)
+    requires there { IsTrue (is_some
+        (instr_of kind (low_operand head) (high_operand head) (slice_get words.now (at + 1)) (slice_get words.now (at + 2)) (length words.now) at)) }
     requires short { length words.now ≤ 4294967295 }
     requires within { at < length words.now }
-    ensures { instr_of kind low high (slice_get words.now (at + 1)) (slice_get words.now (at + 2)) (length words.now) at ≡ Some (result.0, result.1) }
+    ensures { instr_of kind (low_operand head) (high_operand head) (slice_get words.now (at + 1)) (slice_get words.now (at + 2)) (length words.now) at
+        ≡ Some (result.0, result.1) }
 {
     match kind {
         0 => (
             Instr::Push {
-                word: words[at as usize + 1],
+                word: words[at + 1],
             },
             at + 2,
         ),
-        1 => (Instr::Load { depth: high }, at + 1),
+        1 => (
+            Instr::Load {
+                depth: high_of(head),
+            },
+            at + 1,
+        ),
         2 => (
             Instr::Make {
-                tag: high,
-                count: low,
+                tag: high_of(head),
+                count: low_of(head),
             },
             at + 1,
         ),
         3 => (
             Instr::Add {
-                ty: scalar(low, high),
+                ty: scalar(low_of(head), high_of(head)),
             },
             at + 1,
         ),
         4 => (
             Instr::Sub {
-                ty: scalar(low, high),
+                ty: scalar(low_of(head), high_of(head)),
             },
             at + 1,
         ),
         5 => (
             Instr::Mul {
-                ty: scalar(low, high),
+                ty: scalar(low_of(head), high_of(head)),
             },
             at + 1,
         ),
         6 => (
             Instr::Div {
-                ty: scalar(low, high),
+                ty: scalar(low_of(head), high_of(head)),
             },
             at + 1,
         ),
         7 => (
             Instr::Mod {
-                ty: scalar(low, high),
+                ty: scalar(low_of(head), high_of(head)),
             },
             at + 1,
         ),
         8 => (
             Instr::Neg {
-                ty: scalar(low, high),
+                ty: scalar(low_of(head), high_of(head)),
             },
             at + 1,
         ),
         9 => (Instr::Not, at + 1),
         10 => (
             Instr::Convert {
-                ty: scalar(low, high),
+                ty: scalar(low_of(head), high_of(head)),
             },
             at + 1,
         ),
         11 => (
             Instr::Compare {
-                comparison: comparison(low / 4),
-                ty: scalar(low % 4, high),
+                comparison: comparison(low_of(head) / 4),
+                ty: scalar(low_of(head) % 4, high_of(head)),
             },
             at + 1,
         ),
-        kind => decode_other(words, at, kind, low, high),
+        kind => decode_other(words, at, kind, head),
     }
 }
 
 // The same for the kinds from 12 on.
 #[inline(always)]
-fn decode_other(words: &[u64], at: u32, kind: u64, low: u32, high: u32) -> (Instr, u32)
-    requires there { IsTrue (is_some (other_instr kind low high (slice_get words.now (at + 1)) (slice_get words.now (at + 2)) (length words.now) at)) }
+fn decode_other(words: &[u64], at: usize, kind: u64, head: u64) -> (Instr, usize)
+    requires there { IsTrue (is_some
+        (other_instr kind (low_operand head) (high_operand head) (slice_get words.now (at + 1)) (slice_get words.now (at + 2)) (length words.now) at)) }
     requires short { length words.now ≤ 4294967295 }
     requires within { at < length words.now }
-    ensures { other_instr kind low high (slice_get words.now (at + 1)) (slice_get words.now (at + 2)) (length words.now) at ≡ Some (result.0, result.1) }
+    ensures { other_instr kind (low_operand head) (high_operand head) (slice_get words.now (at + 1)) (slice_get words.now (at + 2)) (length words.now) at
+        ≡ Some (result.0, result.1) }
 {
     match kind {
-        12 => (Instr::Index { count: high }, at + 1),
-        13 => (Instr::Update { count: high }, at + 1),
-        14 => (Instr::Jump { to: high }, at + 1),
-        15 => (Instr::JumpFalse { to: high }, at + 1),
-        16 => match_word(words, at, low, high),
-        17 => match_tag(words, at, low, high),
+        12 => (
+            Instr::Index {
+                count: high_of(head),
+            },
+            at + 1,
+        ),
+        13 => (
+            Instr::Update {
+                count: high_of(head),
+            },
+            at + 1,
+        ),
+        14 => (Instr::Jump { to: high_of(head) }, at + 1),
+        15 => (Instr::JumpFalse { to: high_of(head) }, at + 1),
+        16 => match_word(words, at, low_of(head), high_of(head)),
+        17 => match_tag(words, at, low_of(head), high_of(head)),
         18 => (
             Instr::Field {
-                depth: low,
+                depth: low_of(head),
                 path: Path {
-                    at: at + 1,
-                    length: high,
+                    at: (at + 1) as u32,
+                    length: high_of(head),
                 },
             },
-            at + 1 + high,
+            at + 1 + high_of(head) as usize,
         ),
-        19 => (Instr::Slide { count: high }, at + 1),
+        19 => (
+            Instr::Slide {
+                count: high_of(head),
+            },
+            at + 1,
+        ),
         20 => (
             Instr::Call {
-                to: high,
-                count: low,
+                to: high_of(head),
+                count: low_of(head),
             },
             at + 1,
         ),
         21 => (
             Instr::Return {
-                count: low,
-                variables: high,
+                count: low_of(head),
+                variables: high_of(head),
             },
             at + 1,
         ),
         22 => (
             Instr::Raise {
-                exn: high,
-                carried: low == 1,
+                exn: high_of(head),
+                carried: low_of(head) == 1,
             },
             at + 1,
         ),
-        _ => (Instr::Finish { mask: high }, at + 1),
+        23 => (
+            Instr::Finish {
+                mask: high_of(head),
+            },
+            at + 1,
+        ),
+        // So the machine's loop needs no test of the kind's range.
+        _ => unreachable!(),
     }
+}
+
+// The operands of an instruction's first word. Each is cut out where it is used alone.
+#[inline(always)]
+fn low_of(head: u64) -> u32
+    ensures { result ≡ low_operand head }
+{
+    (head / 0x100 % 0x100_0000) as u32
+}
+
+#[inline(always)]
+fn high_of(head: u64) -> u32
+    ensures { result ≡ high_operand head }
+{
+    (head / 0x1_0000_0000) as u32
 }
 
 #[inline(always)]
@@ -185,39 +229,45 @@ fn comparison(number: u32) -> Comparison
 }
 
 #[inline(always)]
-fn match_word(words: &[u64], at: u32, depth: u32, to: u32) -> (Instr, u32)
+fn match_word(words: &[u64], at: usize, depth: u32, to: u32) -> (Instr, usize)
     requires there { IsTrue (is_some (other_instr 16 depth to (slice_get words.now (at + 1)) (slice_get words.now (at + 2)) (length words.now) at)) }
     requires short { length words.now ≤ 4294967295 }
     ensures { other_instr 16 depth to (slice_get words.now (at + 1)) (slice_get words.now (at + 2)) (length words.now) at ≡ Some (result.0, result.1) }
 {
-    let length = (words[at as usize + 1] % 0x1_0000_0000) as u32;
-    let word = words[at as usize + 2];
+    let length = (words[at + 1] % 0x1_0000_0000) as u32;
+    let word = words[at + 2];
     (
         Instr::MatchWord {
             depth,
-            path: Path { at: at + 3, length },
+            path: Path {
+                at: (at + 3) as u32,
+                length,
+            },
             word,
             to,
         },
-        at + 3 + length,
+        at + 3 + length as usize,
     )
 }
 
 #[inline(always)]
-fn match_tag(words: &[u64], at: u32, depth: u32, to: u32) -> (Instr, u32)
+fn match_tag(words: &[u64], at: usize, depth: u32, to: u32) -> (Instr, usize)
     requires there { IsTrue (is_some (other_instr 17 depth to (slice_get words.now (at + 1)) (slice_get words.now (at + 2)) (length words.now) at)) }
     requires short { length words.now ≤ 4294967295 }
     ensures { other_instr 17 depth to (slice_get words.now (at + 1)) (slice_get words.now (at + 2)) (length words.now) at ≡ Some (result.0, result.1) }
 {
-    let length = (words[at as usize + 1] % 0x1_0000_0000) as u32;
-    let tag = (words[at as usize + 2] % 0x1_0000_0000) as u32;
+    let length = (words[at + 1] % 0x1_0000_0000) as u32;
+    let tag = (words[at + 2] % 0x1_0000_0000) as u32;
     (
         Instr::MatchTag {
             depth,
-            path: Path { at: at + 3, length },
+            path: Path {
+                at: (at + 3) as u32,
+                length,
+            },
             tag,
             to,
         },
-        at + 3 + length,
+        at + 3 + length as usize,
     )
 }

@@ -51,7 +51,8 @@ other_fits kind low high second third room at =
     (either (kind == 19) (plain (instr.Slide high) tt)
     (either (kind == 20) (plain (instr.Call high low) tt)
     (either (kind == 21) (plain (instr.Return low high) tt)
-    (either (kind == 22) (plain (instr.Raise high (low == 1)) tt) (plain (instr.Finish high) tt)))))))))))
+    (either (kind == 22) (plain (instr.Raise high (low == 1)) tt)
+    (either (kind == 23) (plain (instr.Finish high) tt) (record { fits = tt }))))))))))))
 
 instr_fits : (kind low high : ℕ) (second third : Option ℕ) (room at : ℕ) → ReadFits room (instr_of kind low high second third room at)
 instr_fits kind low high second third room at =

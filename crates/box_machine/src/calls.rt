@@ -16,8 +16,12 @@ pub(crate) fn call(to: u32, count: u32, registers: Registers, words: &mut [u64])
     ensures { (setting : Setting) → Does setting (Call to count) registers words.old result words.new }
 {
     let base = registers.top - count as usize;
-    let framed = push(registers, words, u64::from(registers.at));
-    push(Registers { at: to, ..framed }, words, base as u64)
+    let framed = push(registers, words, registers.at as u64);
+    let pushed = push(framed, words, base as u64);
+    Registers {
+        at: to as usize,
+        ..pushed
+    }
 }
 
 /// The top word takes the place of the frame, and goes on where the call was.
@@ -38,7 +42,7 @@ pub(crate) fn return_with(
     let base = registers.top - 3 - variables as usize - count as usize;
     put_at(
         Registers {
-            at: back as u32,
+            at: back as usize,
             ..registers
         },
         words,
@@ -61,7 +65,7 @@ pub(crate) fn hand_over(
 {
     words[0] = word;
     Registers {
-        at: handler_place(program, exn),
+        at: handler_place(program, exn) as usize,
         top: 1,
         peak: registers.peak,
         raised: Some(exn),

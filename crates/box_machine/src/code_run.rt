@@ -30,7 +30,6 @@ pub(crate) fn run_code(
     let mut left = most;
     loop {
         let (instr, next) = decode_words(code, registers.at);
-        left -= 1;
         match turn(
             instr,
             program,
@@ -42,7 +41,12 @@ pub(crate) fn run_code(
             words,
             heap,
         ) {
-            Turn::Goes(new) => registers = new,
+            // Counting here gives all ways back one end. Without it, those that leave the stack as it is may become a loop within the
+            // loop, and what holds there is computed again by each of the others.
+            Turn::Goes(new) => {
+                registers = new;
+                left -= 1;
+            }
             Turn::Ends(last, mask) => {
                 return Halted {
                     registers: Registers {
@@ -50,7 +54,7 @@ pub(crate) fn run_code(
                         ..last
                     },
                     mask,
-                    left,
+                    left: left - 1,
                 };
             }
         }

@@ -20,7 +20,7 @@ pub(crate) fn jump(to: u32, registers: Registers, code: &[u64]) -> Turn
         return Turn::Ends(registers, 0);
     }
     Turn::Goes(Registers {
-        at: to,
+        at: to as usize,
         ..registers
     })
 }

@@ -1,7 +1,7 @@
 /// Where the code goes on, how many words are on the stack, the most that there were, and the exception that was raised.
 #[derive(Clone, Copy)]
 pub(crate) struct Registers {
-    pub at: u32,
+    pub at: usize,
     pub top: usize,
     pub peak: usize,
     pub raised: Option<u32>,

@@ -42,7 +42,7 @@ pub fn run_rule(
         return Ran::Outputs;
     };
     let start = Registers {
-        at: *place,
+        at: *place as usize,
         top: stack.len() as usize,
         peak: stack.peak() as usize,
         raised: None,

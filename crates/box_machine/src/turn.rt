@@ -48,7 +48,7 @@ pub(crate) fn turn(
         Instr::Index { count } => Turn::Goes(index(count, program, registers, words, heap)),
         Instr::Update { count } => Turn::Goes(update(count, program, registers, words, heap)),
         Instr::Jump { to } => Turn::Goes(Registers {
-            at: to,
+            at: to as usize,
             ..registers
         }),
         Instr::JumpFalse { to } => jump_false(to, registers, words, heap, code),

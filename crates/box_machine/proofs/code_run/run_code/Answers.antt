@@ -26,6 +26,14 @@ overflow_sub-left c =
     let ends = subst (λ o. EndsIn o row room) (sym (c.loop-new.invariant.same given.0 given.1)) given.2 in
     some_left given.0 c.loop-new.left row room (machine_in c.loop-new.registers c.loop-new.words c.loop-new.heap) ends
 
+pub overflow_sub-result : goal.overflow_sub-result
+overflow_sub-result c =
+    let given = c.requires.ends in
+    let row = length c.args.words.now in
+    let room = c.args.heap.now.room in
+    let ends = subst (λ o. EndsIn o row room) (sym (c.loop-new.invariant.same given.0 given.1)) given.2 in
+    some_left given.0 c.loop-new.left row room (machine_in c.loop-new.registers c.loop-new.words c.loop-new.heap) ends
+
 pub turn-requires-clause-within : goal.turn-requires-clause-within
 turn-requires-clause-within c = path_within c.words-code.result.now c.loop-new.registers.at c.decode_words-instr.result.0 c.decode_words-instr.result.1
     c.decode_words-instr.ensures
@@ -89,4 +97,4 @@ returns-in-Ends-clause-end c = λ setting of.
     ∙ turn_ends setting c.loop-new.left c.loop-new.registers c.loop-new.words c.loop-new.heap c.decode_words-instr.result.0 c.decode_words-instr.result.1 read
     c.in-Ends.mask some stays.finish
     ∙ (λ i. finished setting (c.loop-new.left - 1) c.in-Ends.mask (machine_in (record (sym stays.registers i) { at = c.loop-new.registers.at })
-      (sym stays.words i) (sym stays.heap i)))
+    (sym stays.words i) (sym stays.heap i)))
