@@ -1,5 +1,6 @@
 -- Cells of the inputs of a box: as they begin, emptied and filled.
-use Rattle.std.proofs.Common.{◌≡◌, ℕ, zero, suc, ◌+◌, ◌==◌, ◌<◌, ◌≤◌, List, [], ◌∷◌, ◌++◌, map, length, drop, Option, Some, None, slice_get, get_or, refl, ap, sym, ◌∙◌, subst, arith}
+use Rattle.std.proofs.Common.{◌≡◌, ℕ, zero, suc, ◌==◌, ◌<◌, List, [], ◌∷◌, ◌++◌, length, drop, Option, Some, None}
+use Rattle.std.proofs.Common.{slice_get, get_or, refl, ap, sym, ◌∙◌, subst, arith}
 use Rattle.std.proofs.Math.ListN.{set}
 use Rattle.std.specs.Option.{IfSome, option_to_list}
 use Rattle.std.proofs.lemmas.Bool.{and_parts, eqb-true}
@@ -7,12 +8,9 @@ use Rattle.std.proofs.lemmas.List.{length-set}
 use Rattle.std.proofs.lemmas.Option.{slice_get-get_or, slice_get_read}
 use Rattle.hume_base.specs.declared.types.Ty.{Ty}
 use Rattle.hume_base.specs.declared.types.Value.{Value}
-use Rattle.hume_base.specs.Sizes.{size_of}
 use Rattle.hume_base.specs.Flat.{flat}
 use Rattle.hume_text.proofs.FlatLengths.{flat_long}
 use Rattle.hume_model.specs.declared.core_tree.BoxC.{BoxC}
-use Rattle.hume_model.specs.declared.core_tree.PortC.{PortC}
-use Rattle.hume_model.specs.declared.core_tree.NodeC.TheVariants.{Rules}
 use Rattle.hume_model.specs.declared.core_tree.WireC.{WireC}
 use Rattle.hume_model.specs.declared.core_tree.Core.{Core}
 use Rattle.hume_model.specs.BoxTyping.{port_types}
@@ -20,7 +18,7 @@ use Rattle.hume_model.specs.Wiring.{IsTheWire, leads_to}
 use Rattle.wiring_check.specs.Wires.{Wires}
 use Rattle.wire_cells.specs.Cells.{CellView, Holds, first_cell}
 use Rattle.wire_cells.proofs.Holding.{first_holds, less_held, more_held}
-use Rattle.match_rules.specs.Inputs.{IsCellOf, AreCellsOf}
+use Rattle.match_rules.specs.Inputs.{AreCellsOf}
 use Rattle.box_inputs.specs.InputCells.{AreInputCells, IsInputCell, IsWiredBox}
 use Rattle.box_inputs.specs.Inputs.{AreInputs, IsFlat}
 use Rattle.box_inputs.proofs.Places.{each_set, port_of}
@@ -109,7 +107,8 @@ pub record AreBegun (core : Core) (tys : List Ty) (count : ℕ) (cells : List Ce
   pub each : (i : ℕ) (cell : CellView) → slice_get cells i ≡ Some cell → (ty : Ty) → slice_get tys i ≡ Some ty → IsInputCell core ty cell
 
 -- the cells hold some values
-pub cells_of : (core : Core) (tys : List Ty) (cells : List CellView) → AreInputCells core tys cells → (values : List (List Value)) × AreCellsOf core tys cells values
+pub cells_of : (core : Core) (tys : List Ty) (cells : List CellView) → AreInputCells core tys cells
+    → (values : List (List Value)) × AreCellsOf core tys cells values
 cells_of core [] [] are = ([], AreCellsOf.none)
 cells_of core [] (cell ∷ cells) are = absurd (omega (arith, are.count))
 cells_of core (ty ∷ tys) [] are = absurd (omega (arith, are.count))
@@ -119,13 +118,15 @@ cells_of core (ty ∷ tys) (cell ∷ cells) are =
     (first.held ∷ rest.0, AreCellsOf.more first.is rest.1)
 
 -- cells that hold these values are cells of inputs
-pub cells_from : (core : Core) {tys : List Ty} {cells : List CellView} {values : List (List Value)} → AreCellsOf core tys cells values → AreInputCells core tys cells
+pub cells_from : (core : Core) {tys : List Ty} {cells : List CellView} {values : List (List Value)} → AreCellsOf core tys cells values
+    → AreInputCells core tys cells
 cells_from core AreCellsOf.none = record { count = refl; each = λ i ty cell t found. cc }
 cells_from core (AreCellsOf.more {type = type} {types = tys} {cell = cell} {cells = cells} {held = held} one others) =
     let rest = cells_from core others in
     record { count = ap (λ n. suc n) rest.count; each = here rest }
   where
-    here : AreInputCells core tys cells → (i : ℕ) (ty : Ty) (c : CellView) → slice_get (type ∷ tys) i ≡ Some ty → slice_get (cell ∷ cells) i ≡ Some c → IsInputCell core ty c
+    here : AreInputCells core tys cells → (i : ℕ) (ty : Ty) (c : CellView) → slice_get (type ∷ tys) i ≡ Some ty → slice_get (cell ∷ cells) i ≡ Some c
+        → IsInputCell core ty c
     here rest zero ty c t found =
         let same_ty : type ≡ ty = cc in
         let same_cell : cell ≡ c = cc in

@@ -1,5 +1,5 @@
 -- Facts of each element of a list by its place, and the types of ports.
-use Rattle.std.proofs.Common.{◌≡◌, ℕ, zero, suc, ◌+◌, ◌<◌, List, [], ◌∷◌, ◌++◌, map, length, Some, slice_get, get_or, refl, ap, sym, ◌∙◌, subst, length-append, arith}
+use Rattle.std.proofs.Common.{◌≡◌, ℕ, zero, suc, ◌+◌, ◌<◌, List, [], ◌∷◌, ◌++◌, length, Some, slice_get, get_or, refl, ap, ◌∙◌, subst, length-append, arith}
 use Rattle.std.proofs.Math.ListN.{set}
 use Rattle.std.specs.List.{All}
 use Rattle.std.specs.Option.{option_map}
@@ -42,7 +42,8 @@ pub one_longer : {X : Type 0} (xs : List X) (y : X) → length (xs ++ y ∷ []) 
 one_longer xs y = omega (arith, length-append xs (y ∷ []))
 
 -- the port whose type stands at a place
-pub port_of : (ports : List PortC) (i : ℕ) (ty : Ty) → slice_get (port_types ports) i ≡ Some ty → (port : PortC) × (slice_get ports i ≡ Some port) × (port.ty ≡ ty)
+pub port_of : (ports : List PortC) (i : ℕ) (ty : Ty) → slice_get (port_types ports) i ≡ Some ty
+    → (port : PortC) × (slice_get ports i ≡ Some port) × (port.ty ≡ ty)
 port_of [] i ty t = cc
 port_of (port ∷ ports) zero ty t = (port, refl, cc)
 port_of (port ∷ ports) (suc i) ty t = port_of ports i ty t

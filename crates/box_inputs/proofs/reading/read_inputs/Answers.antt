@@ -10,4 +10,5 @@ input_of-requires c = c.requires c.loop-i.i _ (port_at c.args.ports.now c.loop-i
 pub loop-i-preserved : goal.loop-i-preserved
 loop-i-preserved c =
     subst (AreRead c.args.types.now (port_types c.args.ports.now) (c.loop-i.i + 1)) (sym c.in_ok-push.ensures.ok)
-    (one_more c.args.types.now c.args.ports.now c.loop-i.i c.index-ports-i.result c.loop-i.inputs c.in_ok-input.input (omega arith) c.loop-i.invariant c.in_ok-input.ensures)
+    (one_more c.args.types.now c.args.ports.now c.loop-i.i c.index-ports-i.result c.loop-i.inputs c.in_ok-input.input (omega arith) c.loop-i.invariant
+    c.in_ok-input.ensures)
