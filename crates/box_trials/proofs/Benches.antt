@@ -16,12 +16,11 @@ use Rattle.hume_net.specs.declared.state.Part.{Part}
 use Rattle.hume_net.specs.declared.state.HalfStep.{HalfStep}
 use Rattle.hume_net.specs.HalfSteps.{execute}
 use Rattle.bare_cores.specs.Bare.{bare_box, bare_node, bare_of}
-use Rattle.box_heap.specs.Outputs.{OutputView}
 use Rattle.box_code.specs.RepresentsBox.{RepresentsBox}
 use Rattle.box_machine.specs.declared.ran.Ran.{Ran}
 use Rattle.wire_cells.specs.Cells.{CellView}
-use Rattle.compiled_boxes.specs.declared.compiled.CompiledBox.{CompiledBox}
 use Rattle.compiled_boxes.specs.Boxes.{AreBareForms, HasExecuted, IsAt, IsBoxAt, IsSoundBox, first_part}
+use Rattle.compiled_boxes.specs.Views.{CompiledView}
 use Rattle.box_inputs.specs.InputCells.{AreInputCells}
 use Rattle.box_inputs.proofs.Places.{all_at}
 use Rattle.box_inputs.proofs.InputCells.{cells_from, cells_of}
@@ -52,22 +51,21 @@ bare_forms core bare node b found sound is there found_there =
 
 pub has_outputs : (core : Core) (b : BoxC) (bench : Bench) → IsReady core b bench → HasOutputs b.outs bench.compiled
 has_outputs core b bench ready = record {
-  count = sym (length-map bench.compiled.outputs (λ (output : OutputView). output.size))
-      ∙ ap length ready.can.at.pending.sizes
+  count = ap length ready.can.at.sizes
       ∙ length-map (port_types b.outs) (size_of core.types)
       ∙ length-map b.outs (λ (port : PortC). port.ty);
   few = (all_at (IsSmallNode core.types) core.nodes bench.node (Rules b) ready.sound.formed.frame.limits.each_node ready.there).outputs;
 }
 
 -- a box with cells of its inputs is where an execute step may begin
-pub beginning : (core : Core) (b : BoxC) (part : Part) (compiled : CompiledBox) (cells : List CellView) → IsBoxAt core b part compiled
+pub beginning : (core : Core) (b : BoxC) (part : Part) (compiled : CompiledView) (cells : List CellView) → IsBoxAt core b part compiled
     → AreInputCells core (port_types b.ins) cells → (before : HalfStep) × IsAt core b before compiled cells
 beginning core b part compiled cells at are =
     let held = cells_of core (port_types b.ins) cells are in
     (record { part = part; side = held.0 }, record { box_at = at; inputs = held.1 })
 
 -- and it ends where the next one may begin
-pub ending : (core : Core) (b : BoxC) (before : HalfStep) (old new : CompiledBox) (cells : List CellView) (answer : Option Ran)
+pub ending : (core : Core) (b : BoxC) (before : HalfStep) (old new : CompiledView) (cells : List CellView) (answer : Option Ran)
     → HasExecuted core b before old new cells answer → CanStep core b new cells
 ending core b before old new cells answer has = record {
   part = (execute core (Rules b) before.part before.side).part;

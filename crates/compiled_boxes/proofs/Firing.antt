@@ -1,5 +1,5 @@
 -- What a box leaves that fires.
-use Rattle.std.proofs.Common.{◌≡◌, ℕ, Bool, true, false, List, map, length, Option, Some, None, refl, ap, sym, ◌∙◌, subst, slice_get, arith, if◌then◌else◌}
+use Rattle.std.proofs.Common.{◌≡◌, ℕ, Bool, false, List, map, length, Option, Some, None, ap, sym, ◌∙◌, subst, slice_get, arith, if◌then◌else◌}
 use Rattle.std.specs.Option.{is_some, option_map, option_and_then}
 use Rattle.std.proofs.lemmas.List.{length-map}
 use Rattle.hume_base.specs.declared.types.Value.{Value}
@@ -23,19 +23,20 @@ use Rattle.box_machine.specs.declared.ran.Ran.{Ran}
 use Rattle.box_machine.specs.Running.{with_outputs}
 use Rattle.code_meaning.specs.Ending.{flat_outputs}
 use Rattle.wire_cells.specs.Cells.{CellView}
-use Rattle.match_rules.specs.Inputs.{AreBuilt, built_values, left_in}
+use Rattle.match_rules.specs.Inputs.{built_values, left_in}
 use Rattle.match_rules.proofs.Taking.{left_held}
 use Rattle.rule_runs.specs.Runs.{HasRun, cost_with, memory, result_with}
 use Rattle.rule_runs.proofs.Ends.{outputs_many}
 use Rattle.rule_runs.proofs.OutputRoom.{no_outputs}
-use Rattle.compiled_boxes.specs.declared.compiled.CompiledBox.{CompiledBox}
-use Rattle.compiled_boxes.specs.Boxes.{HasExecuted, HasSpent, HoldsPending, IsAt}
+use Rattle.compiled_boxes.specs.Boxes.{HasExecuted, HasSpent, IsAt}
 use Rattle.compiled_boxes.specs.Steps.{execute_answer, execute_spent, first_fitting, rule_answer}
-use Rattle.compiled_boxes.specs.inner.Firing.{Fires, HasFired, emptied}
+use Rattle.compiled_boxes.specs.Views.{CompiledView}
+use Rattle.compiled_boxes.specs.inner.Buffers.{cleared, sizes_in, words_in}
+use Rattle.compiled_boxes.specs.inner.Firing.{AreBuiltAnew, Fires, HasFired}
 use Rattle.compiled_boxes.proofs.Ready.{can_fire, heap_peak, heap_room, least_heap, least_stack, stack_peak, stack_room}
 use Rattle.compiled_boxes.proofs.Rooms.{absent_by_sizes, given_sizes, given_words}
 
-module _ {core : Core} {b : BoxC} {before : HalfStep} {box : CompiledBox} {cells : List CellView} {bare : Core} {fair : Bool} {number : ℕ} {pats_of : RuleC}
+module _ {core : Core} {b : BoxC} {before : HalfStep} {box : CompiledView} {cells : List CellView} {bare : Core} {fair : Bool} {number : ℕ} {pats_of : RuleC}
     (fires : Fires core b before box cells bare fair number pats_of) where
   abbrev ins : List (Option Value)
   ins = map oldest before.side
@@ -76,27 +77,18 @@ module _ {core : Core} {b : BoxC} {before : HalfStep} {box : CompiledBox} {cells
   many_outs = outputs_many (can_fire fires) ∙ sym (length-map b.outs (λ (port : PortC). port.ty))
 
   module _ (built_heap : HeapView) (built_stack : StackView)
-      (built : AreBuilt (built_values fires.rule.pats ins) (emptied box).heap built_heap (emptied box).stack built_stack)
+      (built : AreBuiltAnew (built_values fires.rule.pats ins) box.heap built_heap box.stack built_stack)
+      (buffer : List OutputView) (sized : sizes_in buffer ≡ box.sizes)
       (heap : HeapView) (stack : StackView) (outputs : List OutputView) (work : ℕ) (answer : Ran)
-      (run : HasRun core b fires.rule ins (memory built_heap built_stack (emptied box).outputs) (memory heap stack outputs) work answer)
+      (run : HasRun core b fires.rule ins (memory built_heap built_stack (cleared buffer)) (memory heap stack outputs) work answer)
       (order : List ℕ) (order_is : order ≡ (if fair then moved_last number box.order else box.order)) where
-    abbrev new : CompiledBox
-    new = record box { heap = heap; stack = stack; outputs = outputs; order = order; pending = true; work = work }
+    abbrev new : CompiledView
+    new = record box { order = order; heap = heap; stack = stack; sizes = sizes_in outputs; pending = Some (words_in outputs); work = work }
 
     given : outputs ≡ with_outputs (no_outputs core.types (port_types b.outs)) (flat_outputs core.types (port_types b.outs) outs)
     given = run.gives
         ∙ ap (λ os. with_outputs os (flat_outputs core.types (port_types b.outs) outs))
-        (absent_by_sizes core.types box.outputs (port_types b.outs) fires.at.box_at.pending.sizes)
-
-    holds : HoldsPending core.types (port_types b.outs) (Some outs) true outputs
-    holds = record {
-      blocked = refl;
-      sizes = ap (map (λ (o : OutputView). o.size)) given ∙ given_sizes core.types (port_types b.outs) outs many_outs;
-      words = λ others is.
-          let same : outs ≡ others = cc in
-          ap (map (λ (o : OutputView). o.words)) given ∙ given_words core.types (port_types b.outs) outs many_outs
-          ∙ ap (flat_outputs core.types (port_types b.outs)) same;
-    }
+        (absent_by_sizes core.types buffer (port_types b.outs) (sized ∙ fires.at.box_at.sizes))
 
     ordered : order ≡ (if b.fair then moved_last number before.part.order else before.part.order)
     ordered = order_is ∙ λ i. if fires.fair_is i then moved_last number (fires.at.box_at.order i) else fires.at.box_at.order i
@@ -117,7 +109,8 @@ module _ {core : Core} {b : BoxC} {before : HalfStep} {box : CompiledBox} {cells
               within = run.stack_within;
             };
             order = ordered;
-            pending = holds;
+            sizes = ap sizes_in given ∙ given_sizes core.types (port_types b.outs) outs many_outs;
+            pending = ap (λ os. Some (words_in os)) given ∙ ap (λ ws. Some ws) (given_words core.types (port_types b.outs) outs many_outs);
           };
           inputs = left_held core (taken_at fires.rule.pats ins) fires.at.inputs;
         }
@@ -142,9 +135,9 @@ module _ {core : Core} {b : BoxC} {before : HalfStep} {box : CompiledBox} {cells
     }
 
 -- a box that fired has made its execute step
-pub executes : {core : Core} {b : BoxC} {before : HalfStep} {old : CompiledBox} {cells : List CellView} {bare : Core} {fair : Bool}
+pub executes : {core : Core} {b : BoxC} {before : HalfStep} {old : CompiledView} {cells : List CellView} {bare : Core} {fair : Bool}
     {number : ℕ} {pats_of : RuleC}
-    → (fires : Fires core b before (record old { work = 0 }) cells bare fair number pats_of) → {new : CompiledBox} {left : List CellView} {answer : Ran}
+    → (fires : Fires core b before (record old { work = 0 }) cells bare fair number pats_of) → {new : CompiledView} {left : List CellView} {answer : Ran}
     → HasFired core b before number (record old { work = 0 }) new left answer → HasExecuted core b before old new left (Some answer)
 executes fires has = record {
   at = has.at;

@@ -1,27 +1,33 @@
 -- From what matching finds to a rule that fires.
-use Rattle.std.proofs.Common.{◌≡◌, ◌<◌, ◌^◌, ℕ, false, List, map, Option, Some, None, slice_get, refl, ap, sym, ◌∙◌, arith}
+use Rattle.std.proofs.Common.{◌≡◌, ◌<◌, ◌^◌, ℕ, true, List, map, Option, Some, None, slice_get, refl, ap, sym, ◌∙◌, arith}
 use Rattle.std.specs.List.{find}
-use Rattle.std.specs.Option.{is_some, option_and_then}
+use Rattle.std.specs.Option.{is_some, option_and_then, option_map}
 use Rattle.std.proofs.lemmas.Option.{slice_get_within}
 use Rattle.hume_model.specs.declared.core_tree.RuleC.{RuleC}
 use Rattle.hume_model.specs.declared.core_tree.BoxC.{BoxC}
 use Rattle.hume_model.specs.declared.core_tree.Core.{Core}
+use Rattle.hume_model.specs.BoxTyping.{port_types}
 use Rattle.hume_model.specs.Firing.{rule_fits}
 use Rattle.hume_net.specs.declared.state.HalfStep.{HalfStep}
 use Rattle.hume_net.specs.HalfSteps.{oldest}
+use Rattle.code_meaning.specs.Ending.{flat_outputs}
 use Rattle.wire_cells.specs.Cells.{CellView}
-use Rattle.compiled_boxes.specs.declared.compiled.CompiledBox.{CompiledBox}
+use Rattle.compiled_boxes.specs.Views.{CompiledView}
 use Rattle.compiled_boxes.specs.Boxes.{AreBareForms, IsAt}
 use Rattle.compiled_boxes.specs.Steps.{first_fitting}
 use Rattle.compiled_boxes.specs.inner.Firing.{Fires}
 use Rattle.compiled_boxes.proofs.BareForms.{few_bare_rules, few_rules, first_same, no_rule, whole_rule}
 use Rattle.compiled_boxes.proofs.Idling.{idle_at}
 
-is_none : {X : Type 0} (o : Option X) → is_some o ≡ false → o ≡ None
-is_none None is = refl
-is_none (Some x) is = cc
+none_before : {X Y : Type 0} (f : X → Y) (o : Option X) → option_map f o ≡ None → o ≡ None
+none_before f None is = refl
+none_before f (Some x) is = cc
 
-module _ {core : Core} {b : BoxC} {before : HalfStep} {box : CompiledBox} {cells : List CellView} {bare : Core} {bare_b : BoxC}
+some_before : {X Y : Type 0} (f : X → Y) (o : Option X) (y : Y) → option_map f o ≡ Some y → is_some o ≡ true
+some_before f None y is = cc
+some_before f (Some x) y is = refl
+
+module _ {core : Core} {b : BoxC} {before : HalfStep} {box : CompiledView} {cells : List CellView} {bare : Core} {bare_b : BoxC}
     (forms : AreBareForms core b bare bare_b) (at : IsAt core b before box cells) where
   abbrev found_bare : Option ℕ
   found_bare = find (λ number. rule_fits (map oldest before.side) (slice_get bare_b.rules number)) box.order
@@ -32,8 +38,11 @@ module _ {core : Core} {b : BoxC} {before : HalfStep} {box : CompiledBox} {cells
       sym (is ∙ ap (λ order. first_fitting bare_b order (map oldest before.side)) at.box_at.order
       ∙ ap (λ x. first_fitting x before.part.order (map oldest before.side)) forms.box_is ∙ first_same b before.part.order (map oldest before.side))
 
-  pub free : box.pending ≡ false → before.part.pending ≡ None
-  free is = is_none before.part.pending (sym at.box_at.pending.blocked ∙ is)
+  pub free : box.pending ≡ None → before.part.pending ≡ None
+  free is = none_before (flat_outputs core.types (port_types b.outs)) before.part.pending (sym at.box_at.pending ∙ is)
+
+  pub waits : (words : List (Option (List ℕ))) → box.pending ≡ Some words → is_some before.part.pending ≡ true
+  waits words is = some_before (flat_outputs core.types (port_types b.outs)) before.part.pending words (sym at.box_at.pending ∙ is)
 
   pub small_number : (number : ℕ) (rule : RuleC) → slice_get bare_b.rules number ≡ Some rule → number < 2 ^ 32
   small_number number rule there =

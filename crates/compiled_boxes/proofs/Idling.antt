@@ -10,7 +10,7 @@ use Rattle.hume_net.specs.HalfSteps.{execute, fired, idle, oldest}
 use Rattle.box_costs.specs.Costs.{nothing}
 use Rattle.box_costs.specs.ResultSpending.{box_spent, cost_if_fits, rule_spent}
 use Rattle.wire_cells.specs.Cells.{CellView}
-use Rattle.compiled_boxes.specs.declared.compiled.CompiledBox.{CompiledBox}
+use Rattle.compiled_boxes.specs.Views.{CompiledView}
 use Rattle.compiled_boxes.specs.Boxes.{HasExecuted, HasItsRoom, HasSpent, IsAt}
 use Rattle.compiled_boxes.specs.Steps.{first_fitting, execute_spent, execute_answer, rule_answer}
 
@@ -19,13 +19,19 @@ none_left : {A B : Type 0} (get : ℕ → Option A) (make : ℕ → A → B) (fi
 none_left get make None is = refl
 none_left get make (Some n) is = ap (option_map (make n)) is
 
-module _ {core : Core} {b : BoxC} {before : HalfStep} {box : CompiledBox} {cells : List CellView} (at : IsAt core b before box cells) where
+module _ {core : Core} {b : BoxC} {before : HalfStep} {box : CompiledView} {cells : List CellView} (at : IsAt core b before box cells) where
   same_room : HasItsRoom box → HasItsRoom (record box { work = 0 })
   same_room has = record { heap_room = has.heap_room; stack_room = has.stack_room; within = has.within }
 
   pub idle_at : IsAt core b before (record box { work = 0 }) cells
   idle_at = record {
-    box_at = record { represents = at.box_at.represents; room = same_room at.box_at.room; order = at.box_at.order; pending = at.box_at.pending };
+    box_at = record {
+      represents = at.box_at.represents;
+      room = same_room at.box_at.room;
+      order = at.box_at.order;
+      sizes = at.box_at.sizes;
+      pending = at.box_at.pending;
+    };
     inputs = at.inputs;
   }
 

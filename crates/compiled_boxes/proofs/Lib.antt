@@ -1,6 +1,8 @@
 pub mod BareForms
 pub mod InputValues
+pub mod Opening
 pub mod Orders
+pub mod PendingWords
 pub mod Rooms
 pub mod Ready
 pub mod Idling

@@ -1,5 +1,5 @@
 -- A box before its first step.
-use Rattle.std.proofs.Common.{◌≡◌, ℕ, false, All, List, [], ◌∷◌, length, map, refl, ap, ◌∙◌, arith}
+use Rattle.std.proofs.Common.{◌≡◌, ℕ, None, All, List, [], ◌∷◌, length, map, refl, ap, ◌∙◌, arith}
 use Rattle.std.specs.List.{range_with_len}
 use Rattle.std.proofs.lemmas.List.Elements.{All-head, All-tail}
 use Rattle.hume_base.specs.declared.types.Types.{Types}
@@ -15,12 +15,12 @@ use Rattle.box_heap.specs.Outputs.{OutputView, absent}
 use Rattle.box_code.specs.declared.program.BoxProgram.{BoxProgram}
 use Rattle.box_code.specs.RepresentsBox.{RepresentsBox}
 use Rattle.compiled_boxes.specs.Boxes.{AreBareForms, IsBoxAt, first_part}
+use Rattle.compiled_boxes.specs.inner.Buffers.{sizes_in}
 use Rattle.compiled_boxes.proofs.BareForms.{few_bare_rules, small_box}
 
 -- outputs of the written sizes have the sizes of the types
 sizes_as_written : (types : Types) (ports : List PortC) → All (IsSmallBoxPort types) ports
-    → map (λ (output : OutputView). output.size) (map absent (map (λ ty. written_size (size_of types ty)) (port_types ports)))
-    ≡ map (size_of types) (port_types ports)
+    → sizes_in (map absent (map (λ ty. written_size (size_of types ty)) (port_types ports))) ≡ map (size_of types) (port_types ports)
 sizes_as_written types [] small = refl
 sizes_as_written types (port ∷ ports) small =
     let words = (All-head (IsSmallBoxPort types) port ports small).ty.words in
@@ -33,7 +33,8 @@ module _ {core : Core} {b : BoxC} {bare : Core} {bare_b : BoxC} (forms : AreBare
       → (stack : StackView) → stack ≡ record { words = []; peak = 0; room = program.stack }
       → (order : List ℕ) → order ≡ range_with_len 0 (length bare_b.rules)
       → (outputs : List OutputView) → outputs ≡ map absent (map (λ ty. written_size (size_of bare.types ty)) (port_types bare_b.outs))
-      → IsBoxAt core b (first_part b) (record { program = program; order = order; heap = heap; stack = stack; outputs = outputs; pending = false; work = 0 })
+      → IsBoxAt core b (first_part b)
+      (record { program = program; order = order; heap = heap; stack = stack; sizes = sizes_in outputs; pending = None; work = 0 })
   begins heap heap_is stack stack_is order order_is outputs outputs_are =
       let room = ap (λ (s : StackView). s.room) stack_is in
       let peak = ap (λ (s : StackView). s.peak) stack_is in
@@ -45,11 +46,7 @@ module _ {core : Core} {b : BoxC} {bare : Core} {bare_b : BoxC} (forms : AreBare
           within = omega (arith, room, peak);
         };
         order = order_is ∙ ap (range_with_len 0) (few_bare_rules forms);
-        pending = record {
-          blocked = refl;
-          sizes = ap (map (λ (o : OutputView). o.size)) (outputs_are
-              ∙ λ i. map absent (map (λ ty. written_size (size_of (forms.core_is i).types ty)) (port_types (forms.box_is i).outs)))
-              ∙ sizes_as_written core.types b.outs (small_box forms.sound).each_output;
-          words = λ outs is. cc;
-        };
+        sizes = ap sizes_in (outputs_are ∙ λ i. map absent (map (λ ty. written_size (size_of (forms.core_is i).types ty)) (port_types (forms.box_is i).outs)))
+            ∙ sizes_as_written core.types b.outs (small_box forms.sound).each_output;
+        pending = refl;
       }

@@ -1,5 +1,6 @@
 -- Once the inputs of a rule that fires are built, the rule is ready to run.
-use Rattle.std.proofs.Common.{◌≡◌, ℕ, ◌≤◌, ◌<◌, ◌+◌, max, Bool, true, false, cond, List, [], ◌∷◌, length, map, Option, Some, slice_get, refl, ap, sym, ◌∙◌, subst, arith}
+use Rattle.std.proofs.Common.{◌≡◌, ℕ, ◌≤◌, ◌<◌, ◌+◌, max, Bool, true, false, cond, List, [], ◌∷◌, length, map, Option, Some}
+use Rattle.std.proofs.Common.{slice_get, refl, ap, sym, ◌∙◌, subst, arith}
 use Rattle.std.specs.List.{find, flat_map}
 use Rattle.std.proofs.lemmas.List.Elements.{All-nil}
 use Rattle.hume_base.specs.declared.types.Value.{Value}
@@ -17,17 +18,19 @@ use Rattle.hume_net.specs.HalfSteps.{oldest}
 use Rattle.box_costs.specs.Bounds.{built_patterns}
 use Rattle.box_costs.specs.ResultSpending.{inputs_built, handled, result_spent, result_taken, rule_result_spent}
 use Rattle.box_heap.specs.Heaps.{HeapView, HasObjects, Object, words_of_object}
+use Rattle.box_heap.specs.Outputs.{OutputView}
 use Rattle.box_heap.specs.Stacks.{StackView}
 use Rattle.box_heap.specs.Standing.{AllStand}
 use Rattle.code_meaning.specs.RuleEnding.{built_inputs}
 use Rattle.wire_cells.specs.Cells.{CellView}
-use Rattle.match_rules.specs.Inputs.{AreBuilt, built_values}
+use Rattle.match_rules.specs.Inputs.{built_values}
 use Rattle.match_rules.proofs.InputsBuilt.{same_room, same_stack_room, values_takes, values_many}
 use Rattle.rule_runs.specs.Runs.{CanFire, HasRoom, HoldsInputs, IsReadyToRun, cost_with, memory}
 use Rattle.rule_runs.proofs.Ends.{within_bound}
 use Rattle.rule_runs.proofs.HeapPeaks.{peak_after}
-use Rattle.compiled_boxes.specs.declared.compiled.CompiledBox.{CompiledBox}
-use Rattle.compiled_boxes.specs.inner.Firing.{Fires, emptied}
+use Rattle.compiled_boxes.specs.Views.{CompiledView}
+use Rattle.compiled_boxes.specs.inner.Buffers.{cleared, sizes_in}
+use Rattle.compiled_boxes.specs.inner.Firing.{AreBuiltAnew, Fires}
 use Rattle.compiled_boxes.proofs.InputValues.{inputs_typed, built_same}
 use Rattle.compiled_boxes.proofs.Rooms.{pushed_words, pushed_peak, absent_by_sizes}
 
@@ -61,7 +64,7 @@ least_stack core b rule ins =
     let is : (cost_with core b rule ins).stack ≡ max (max 0 (length (built_patterns rule.pats) + result)) handler = refl in
     omega (arith, is)
 
-module _ {core : Core} {b : BoxC} {before : HalfStep} {box : CompiledBox} {cells : List CellView} {bare : Core} {fair : Bool} {number : ℕ} {pats_of : RuleC}
+module _ {core : Core} {b : BoxC} {before : HalfStep} {box : CompiledView} {cells : List CellView} {bare : Core} {fair : Bool} {number : ℕ} {pats_of : RuleC}
     (fires : Fires core b before box cells bare fair number pats_of) where
   abbrev pub ins : List (Option Value)
   ins = map oldest before.side
@@ -99,8 +102,7 @@ module _ {core : Core} {b : BoxC} {before : HalfStep} {box : CompiledBox} {cells
       omega (arith, least, most, bounded, room)
 
   -- heap and stack once the inputs are built
-  module _ (heap : HeapView) (stack : StackView)
-      (built : AreBuilt (built_values fires.rule.pats ins) (emptied box).heap heap (emptied box).stack stack) where
+  module _ (heap : HeapView) (stack : StackView) (built : AreBuiltAnew (built_values fires.rule.pats ins) box.heap heap box.stack stack) where
     holds_objects : HasObjects heap built.objects
     holds_objects = built.has [] (no_objects box.heap)
 
@@ -112,13 +114,13 @@ module _ {core : Core} {b : BoxC} {before : HalfStep} {box : CompiledBox} {cells
     pub heap_peak : heap.peak ≡ max box.heap.peak (inputs_built fires.rule.pats ins)
     heap_peak =
         let put = ap (λ (h : HeapView). h.peak) built.put in
-        let most = peak_after (emptied box).heap built.objects (omega arith) in
+        let most = peak_after (record box.heap { words = [] }) built.objects (omega arith) in
         let takes = built.takes in
         let all = values_takes fires.rule.pats ins in
         omega (arith, put, most, takes, all)
 
     stack_words : stack.words ≡ built.words
-    stack_words = ap (λ (s : StackView). s.words) built.pushed ∙ pushed_words (emptied box).stack built.words
+    stack_words = ap (λ (s : StackView). s.words) built.pushed ∙ pushed_words (record box.stack { words = [] }) built.words
 
     many_words : length built.words ≡ length (built_patterns fires.rule.pats)
     many_words = built.each ∙ values_many fires.rule.pats ins fits_it
@@ -126,7 +128,7 @@ module _ {core : Core} {b : BoxC} {before : HalfStep} {box : CompiledBox} {cells
     pub stack_peak : stack.peak ≡ max box.stack.peak (length (built_patterns fires.rule.pats))
     stack_peak =
         let pushed = ap (λ (s : StackView). s.peak) built.pushed in
-        let most = pushed_peak (emptied box).stack built.words (omega arith) in
+        let most = pushed_peak (record box.stack { words = [] }) built.words (omega arith) in
         let many = many_words in
         omega (arith, pushed, most, many)
 
@@ -153,28 +155,30 @@ module _ {core : Core} {b : BoxC} {before : HalfStep} {box : CompiledBox} {cells
           stack_counted = omega (arith, high, many, top);
         }
 
-    has_room : HasRoom core b box.program (memory heap stack (emptied box).outputs)
-    has_room =
-        let room = stack_room in
-        let top = stack_peak in
-        let fit = stack_fits in
-        let within = fires.at.box_at.room.within in
-        record {
-          heap_room = heap_room ∙ fires.at.box_at.room.heap_room;
-          stack_room = stack_room ∙ fires.at.box_at.room.stack_room;
-          within = omega (arith, room, top, fit, within);
-          absent_outputs = absent_by_sizes core.types box.outputs (port_types b.outs) fires.at.box_at.pending.sizes;
-        }
+    -- and outputs of the sizes of the box's, once they are cleared
+    module _ (outputs : List OutputView) (sized : sizes_in outputs ≡ box.sizes) where
+      has_room : HasRoom core b box.program (memory heap stack (cleared outputs))
+      has_room =
+          let room = stack_room in
+          let top = stack_peak in
+          let fit = stack_fits in
+          let within = fires.at.box_at.room.within in
+          record {
+            heap_room = heap_room ∙ fires.at.box_at.room.heap_room;
+            stack_room = stack_room ∙ fires.at.box_at.room.stack_room;
+            within = omega (arith, room, top, fit, within);
+            absent_outputs = absent_by_sizes core.types outputs (port_types b.outs) (sized ∙ fires.at.box_at.sizes);
+          }
 
-    pub ready : IsReadyToRun core b fires.rule ins bare.types box.program number (memory heap stack (emptied box).outputs)
-    ready = record {
-      fires = can_fire;
-      types_are = record {
-        same = ap (λ (c : Core). c.types) fires.core_is;
-        sizes = subst (λ (c : Core). HaveTheirSizes c.types) (sym fires.core_is) fires.sound.formed.frame.sizes;
-        readable = subst (λ (c : Core). HaveReadableSizes c.types) (sym fires.core_is) (readable_sizes core fires.sound.formed);
-      };
-      represents = fires.at.box_at.represents;
-      room = has_room;
-      holds = holds_inputs;
-    }
+      pub ready : IsReadyToRun core b fires.rule ins bare.types box.program number (memory heap stack (cleared outputs))
+      ready = record {
+        fires = can_fire;
+        types_are = record {
+          same = ap (λ (c : Core). c.types) fires.core_is;
+          sizes = subst (λ (c : Core). HaveTheirSizes c.types) (sym fires.core_is) fires.sound.formed.frame.sizes;
+          readable = subst (λ (c : Core). HaveReadableSizes c.types) (sym fires.core_is) (readable_sizes core fires.sound.formed);
+        };
+        represents = fires.at.box_at.represents;
+        room = has_room;
+        holds = holds_inputs;
+      }

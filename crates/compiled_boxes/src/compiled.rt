@@ -1,13 +1,13 @@
 //! A box as code, with all that it works on.
-ghost use Rattle.std.specs.Prelude.{◌≡◌, ◌<◌, length, map, Some, None, slice_get, IfOk, MatchOption};
+ghost use Rattle.std.specs.Prelude.{◌≡◌, ◌<◌, length, map, Some, None, IfOk, MatchOption};
 ghost use Rattle.hume_base.specs.Sizes.{HaveTheirSizes, written_size, size_of};
 ghost use Rattle.hume_model.specs.declared.core_tree.BoxC.{BoxC as AnyBox};
 ghost use Rattle.hume_model.specs.declared.core_tree.Core.{Core as AnyCore};
 ghost use Rattle.hume_model.specs.BoxTyping.{port_types};
 ghost use Rattle.hume_net.specs.declared.state.Part.{Part};
-ghost use Rattle.box_heap.specs.Outputs.{OutputView};
 ghost use Rattle.box_code.specs.RepresentsBox.{RepresentsBox};
 ghost use Rattle.compiled_boxes.specs.Boxes.{AreBareForms, IsBoxAt, IsUnused, TakesLittle, first_part};
+ghost use Rattle.compiled_boxes.specs.Views.{pending_words};
 
 use box_code::BoxProgram;
 use box_heap::{BoxHeap, BoxStack, OutBuf};
@@ -15,6 +15,7 @@ use hume_base::{Types, size};
 use hume_model::{BoxC, Core, PortC};
 use match_rules::RuleOrder;
 use std::alloc::{AllocError, Global};
+use std::marker::Model;
 
 /// A box as code: its program, the order of its rules, its heap and stack, and its outputs, which may be pending.
 #[derive(Drop)]
@@ -26,6 +27,27 @@ pub struct CompiledBox {
     pub(crate) outputs: OutBuf,
     pub(crate) pending: bool,
     pub(crate) work: u32,
+}
+
+impl Model for CompiledBox {
+    ghost use Rattle.std.specs.Coded.{codes};
+    ghost use Rattle.hume_base.specs.contracts.types.Ty as ty;
+    ghost use Rattle.compiled_boxes.specs.Views.{CompiledView};
+    ghost use Rattle.compiled_boxes.specs.inner.Buffers.{pending_in, sizes_in};
+
+    ghost Value = { CompiledView };
+
+    ghost coded = { Prim.hlevel (codes, ty.the_row.coded) };
+
+    ghost view = { λ box. record {
+      program = box.program;
+      order = box.order;
+      heap = box.heap;
+      stack = box.stack;
+      sizes = sizes_in box.outputs;
+      pending = pending_in box.pending box.outputs;
+      work = box.work;
+    } };
 }
 
 impl CompiledBox {
@@ -58,17 +80,21 @@ impl CompiledBox {
         })
     }
 
-    /// The words of an output that is pending; none where there is none. It is the output of the number, counted from 0.
+    /// The words of the pending output of the number, counted from 0; none where it is absent, and none where nothing is pending.
     pub fn output(&self, i: u32) -> Option<&[u64]>
-        requires { i < length self.now.outputs }
-        ensures { (output : OutputView) → slice_get self.now.outputs i ≡ Some output
-            → MatchOption result (output.words ≡ None) (λ words. output.words ≡ Some words.now) }
+        requires { i < length self.now.sizes }
+        ensures { MatchOption result (pending_words self.now i ≡ None) (λ words. pending_words self.now i ≡ Some words.now) }
     {
-        self.outputs.get(i)
+        if self.pending {
+            self.outputs.get(i)
+        } else {
+            None
+        }
     }
 
-    /// Forgets the outputs that are pending.
+    /// Forgets the outputs that are pending, and nothing else.
     pub fn forget_outputs(&mut self)
+        ensures forgets { self.new ≡ record self.old { pending = None } }
         ensures at { (core : AnyCore) (b : AnyBox) (part : Part) → IsBoxAt core b part self.old → IsBoxAt core b (record part { pending = None }) self.new }
     {
         self.pending = false;

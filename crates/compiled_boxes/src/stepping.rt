@@ -10,11 +10,13 @@ ghost use Rattle.hume_net.specs.declared.state.HalfStep.{HalfStep};
 ghost use Rattle.hume_net.specs.HalfSteps.{moved_last, oldest};
 ghost use Rattle.box_costs.specs.Bounds.{built_patterns};
 ghost use Rattle.box_costs.specs.ResultSpending.{inputs_built};
-ghost use Rattle.match_rules.specs.Inputs.{AreBuilt, AreCellsOf, built_values};
+ghost use Rattle.match_rules.specs.Inputs.{AreCellsOf, built_values};
 ghost use Rattle.compiled_boxes.specs.Boxes.{AreBareForms, HasExecuted, IsAt};
-ghost use Rattle.compiled_boxes.specs.inner.Firing.{Fires, HasFired, emptied};
+ghost use Rattle.compiled_boxes.specs.inner.Buffers.{cleared};
+ghost use Rattle.compiled_boxes.specs.inner.Firing.{AreBuiltAnew, Fires, HasFired};
 
 use crate::compiled::CompiledBox;
+use box_heap::{BoxHeap, BoxStack, OutBuf};
 use box_machine::Ran;
 use hume_model::{BoxC, Core, RuleC};
 use match_rules::{RuleOrder, build_inputs, consume, first_match, orders_have_each_rule_once};
@@ -55,7 +57,14 @@ impl CompiledBox {
         ensures { (whole : AnyCore) (its : AnyBox) (before : HalfStep) → Fires whole its before self.old ins.old core.now fair number rule.now
             → HasFired whole its before number self.old self.new ins.new result }
     {
-        self.build(core, rule, ins);
+        build(
+            core,
+            rule,
+            ins,
+            &mut self.heap,
+            &mut self.stack,
+            &mut self.outputs,
+        );
         let ran = run_rule(
             &core.types,
             &self.program,
@@ -70,24 +79,31 @@ impl CompiledBox {
         self.pending = true;
         ran
     }
+}
 
-    // Builds the inputs of a rule that fits, in an empty heap and on an empty stack, and takes the outputs away.
-    fn build(&mut self, core: &Core, rule: &RuleC, ins: &[WireCell])
-        requires core { HasSoundFrame core.now }
-        requires fitting { (types : List Ty) × (values : List (List Value)) × AreCellsOf core.now types ins.now values
-            × (fits rule.now.pats (map oldest values) ≡ true)
-            × (inputs_built rule.now.pats (map oldest values) ≤ self.old.heap.room)
-            × (length (built_patterns rule.now.pats) ≤ self.old.stack.room) }
-        ensures built { (types : List Ty) (values : List (List Value)) → AreCellsOf core.now types ins.now values
-            → fits rule.now.pats (map oldest values) ≡ true
-            → AreBuilt (built_values rule.now.pats (map oldest values)) (emptied self.old).heap self.new.heap (emptied self.old).stack self.new.stack }
-        ensures others { self.new ≡ record (emptied self.old) { heap = self.new.heap; stack = self.new.stack } }
-    {
-        self.heap.empty();
-        self.stack.empty();
-        self.outputs.clear();
-        build_inputs(core, rule, ins, &mut self.heap, &mut self.stack);
-    }
+// Builds the inputs of a rule that fits, in an empty heap and on an empty stack, and takes the outputs away.
+fn build(
+    core: &Core,
+    rule: &RuleC,
+    ins: &[WireCell],
+    heap: &mut BoxHeap,
+    stack: &mut BoxStack,
+    outputs: &mut OutBuf,
+)
+    requires core { HasSoundFrame core.now }
+    requires fitting { (types : List Ty) × (values : List (List Value)) × AreCellsOf core.now types ins.now values
+        × (fits rule.now.pats (map oldest values) ≡ true)
+        × (inputs_built rule.now.pats (map oldest values) ≤ heap.old.room)
+        × (length (built_patterns rule.now.pats) ≤ stack.old.room) }
+    ensures built { (types : List Ty) (values : List (List Value)) → AreCellsOf core.now types ins.now values
+        → fits rule.now.pats (map oldest values) ≡ true
+        → AreBuiltAnew (built_values rule.now.pats (map oldest values)) heap.old heap.new stack.old stack.new }
+    ensures absent { outputs.new ≡ cleared outputs.old }
+{
+    heap.empty();
+    stack.empty();
+    outputs.clear();
+    build_inputs(core, rule, ins, heap, stack);
 }
 
 // The rule, which stands in the order, goes last in that of a fair box.

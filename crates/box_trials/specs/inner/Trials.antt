@@ -12,8 +12,8 @@ use Rattle.hume_front.specs.Accepted.{IsAccepted}
 use Rattle.bare_cores.specs.Bare.{bare_of}
 use Rattle.box_code.specs.RepresentsBox.{RepresentsBox}
 use Rattle.wire_cells.specs.Cells.{CellView}
-use Rattle.compiled_boxes.specs.declared.compiled.CompiledBox.{CompiledBox}
 use Rattle.compiled_boxes.specs.Boxes.{IsBoxAt, IsSoundBox}
+use Rattle.compiled_boxes.specs.Views.{CompiledView}
 use Rattle.box_inputs.specs.Inputs.{AreInputs}
 use Rattle.box_inputs.specs.InputCells.{AreInputCells}
 use Rattle.box_trials.specs.declared.boxes.Place.{Place}
@@ -36,7 +36,7 @@ ArePlacesIn core places = (i : ℕ) (place : Place) → slice_get places i ≡ S
 
 -- The compiled box is the box at some part of a state, and the cells are those of its inputs, whatever values they hold. So it
 -- can make an execute step.
-pub record CanStep (core : Core) (b : BoxC) (compiled : CompiledBox) (cells : List CellView) : Type 0 where
+pub record CanStep (core : Core) (b : BoxC) (compiled : CompiledView) (cells : List CellView) : Type 0 where
   pub part : Part
   pub at : IsBoxAt core b part compiled
   pub cells_are : AreInputCells core (port_types b.ins) cells
@@ -48,9 +48,9 @@ pub record IsReady (core : Core) (b : BoxC) (bench : Bench) : Type 0 where
   pub bare_is : bench.bare ≡ bare_of core
   pub can : CanStep core b bench.compiled bench.cells.items
 
--- the compiled box has just these outputs, which are not too many
-pub record HasOutputs (ports : List PortC) (compiled : CompiledBox) : Type 0 where
-  pub count : length compiled.outputs ≡ length ports
+-- the compiled box has as many outputs, and they are not too many
+pub record HasOutputs (ports : List PortC) (compiled : CompiledView) : Type 0 where
+  pub count : length compiled.sizes ≡ length ports
   pub few : length ports ≤ MAX_OUTPUTS
 
 -- the box is on the bench, with values for its inputs

@@ -3,11 +3,19 @@ use Rattle.std.specs.Option.{option_and_then}
 use Rattle.std.proofs.Math.Facts.{Fits-of_lt}
 use Rattle.hume_model.specs.BoxTyping.{BoxHasFrame, port_types}
 use Rattle.match_rules.specs.Inputs.{AreCellsOf}
+use Rattle.compiled_boxes.specs.inner.Buffers.{pending_in, words_in}
 use Rattle.compiled_boxes.proofs.BareForms.{box_frame_of, cells_of, frame_of}
-use Rattle.compiled_boxes.proofs.Fitting.{fires_so, free, none_there, same_found, small_number}
+use Rattle.compiled_boxes.proofs.Fitting.{fires_so, free, none_there, same_found, small_number, waits}
 use Rattle.compiled_boxes.proofs.Firing.{executes}
-use Rattle.compiled_boxes.proofs.Idling.{none_fits}
+use Rattle.compiled_boxes.proofs.Idling.{blocked, none_fits}
+use Rattle.compiled_boxes.proofs.Opening.{inside_at, whole_executed}
 use Rattle.compiled_boxes.proofs.compiled.CompiledBox.execute.Goals as goal
+
+pub returns-then-self : goal.returns-then-self
+returns-then-self c = λ whole its before forms here.
+    let at = inside_at c.self.view_is here in
+    whole_executed c.self.view_is
+    (blocked at (waits forms at (words_in c.self.inside.outputs) (ap (λ pending. pending_in pending c.self.inside.outputs) c.if-self.true)))
 
 pub first_match-requires-clause-core : goal.first_match-requires-clause-core
 first_match-requires-clause-core c = let forms = c.requires.3 in frame_of forms.sound forms.core_is
@@ -18,10 +26,12 @@ first_match-requires-clause-typed c =
     subst (BoxHasFrame c.args.core.now) (sym forms.box_is) (box_frame_of forms.sound forms.core_is)
 
 pub returns-in_default : goal.returns-in_default
-returns-in_default c = λ whole its before forms at.
+returns-in_default c = λ whole its before forms here.
+    let at = inside_at c.self.view_is here in
     let found = same_found forms at c.first_match.result (c.first_match.ensures before.side
     (subst (λ b. AreCellsOf c.args.core.now (port_types b.ins) c.args.ins.now before.side) (sym forms.box_is) (cells_of forms.core_is at.inputs))) in
-    none_fits at (free forms at c.if-self.false) (ap (option_and_then (slice_get its.rules)) (found ∙ c.in_default.is))
+    let is_free = free forms at (ap (λ pending. pending_in pending c.self.inside.outputs) c.if-self.false) in
+    whole_executed c.self.view_is (none_fits at is_free (ap (option_and_then (slice_get its.rules)) (found ∙ c.in_default.is)))
 
 pub overflow_cast-number : goal.overflow_cast-number
 overflow_cast-number c =
@@ -31,24 +41,29 @@ pub fire-requires : goal.fire-requires
 fire-requires c =
     let before = c.requires.2 in
     let forms = c.requires.3 in
-    let at = c.requires.4 in
+    let at = inside_at c.self.view_is c.requires.4 in
     let found = same_found forms at c.first_match.result (c.first_match.ensures before.side
-    (subst (λ b. AreCellsOf c.args.core.now (port_types b.ins) c.args.ins.now before.side) (sym forms.box_is) (cells_of forms.core_is at.inputs))) in (
+    (subst (λ b. AreCellsOf c.args.core.now (port_types b.ins) c.args.ins.now before.side) (sym forms.box_is) (cells_of forms.core_is at.inputs))) in
+    let is_free = free forms at (ap (λ pending. pending_in pending c.self.inside.outputs) c.if-self.false) in (
       c.requires.0,
       c.requires.1,
       before,
-      fires_so forms at c.in-Some.number c.in-Some-get.rule.now (found ∙ c.in-Some.is) c.in-Some-get.ensures (free forms at c.if-self.false),
+      fires_so forms at c.in-Some.number c.in-Some-get.rule.now (found ∙ c.in-Some.is) c.in-Some-get.ensures is_free,
     )
 
 pub returns-in-None : goal.returns-in-None
-returns-in-None c = λ whole its before forms at.
+returns-in-None c = λ whole its before forms here.
+    let at = inside_at c.self.view_is here in
     let found = same_found forms at c.first_match.result (c.first_match.ensures before.side
     (subst (λ b. AreCellsOf c.args.core.now (port_types b.ins) c.args.ins.now before.side) (sym forms.box_is) (cells_of forms.core_is at.inputs))) in
-    none_fits at (free forms at c.if-self.false) (none_there forms at c.in-Some.number (found ∙ c.in-Some.is) c.in-None.ensures)
+    let is_free = free forms at (ap (λ pending. pending_in pending c.self.inside.outputs) c.if-self.false) in
+    whole_executed c.self.view_is (none_fits at is_free (none_there forms at c.in-Some.number (found ∙ c.in-Some.is) c.in-None.ensures))
 
 pub returns-in-Some-get : goal.returns-in-Some-get
-returns-in-Some-get c = λ whole its before forms at.
+returns-in-Some-get c = λ whole its before forms here.
+    let at = inside_at c.self.view_is here in
     let found = same_found forms at c.first_match.result (c.first_match.ensures before.side
     (subst (λ b. AreCellsOf c.args.core.now (port_types b.ins) c.args.ins.now before.side) (sym forms.box_is) (cells_of forms.core_is at.inputs))) in
-    let fires = fires_so forms at c.in-Some.number c.in-Some-get.rule.now (found ∙ c.in-Some.is) c.in-Some-get.ensures (free forms at c.if-self.false) in
-    executes fires (c.fire.ensures whole its before fires)
+    let is_free = free forms at (ap (λ pending. pending_in pending c.self.inside.outputs) c.if-self.false) in
+    let fires = fires_so forms at c.in-Some.number c.in-Some-get.rule.now (found ∙ c.in-Some.is) c.in-Some-get.ensures is_free in
+    whole_executed c.self.view_is (executes fires (c.fire.ensures whole its before fires))

@@ -1,10 +1,11 @@
-use Rattle.std.proofs.Common.{◌≤◌, length, map, sym, subst}
+use Rattle.std.proofs.Common.{◌≤◌, length, map, refl, sym, subst}
 use Rattle.hume_model.specs.BoxTyping.{port_types}
 use Rattle.hume_net.specs.HalfSteps.{oldest}
 use Rattle.box_costs.specs.Bounds.{built_patterns}
 use Rattle.box_costs.specs.ResultSpending.{inputs_built}
 use Rattle.compiled_boxes.proofs.BareForms.{cells_of, frame_of}
 use Rattle.compiled_boxes.proofs.Built.{bare_fits, it_has_fired, its_ready, stands_there}
+use Rattle.compiled_boxes.proofs.Opening.{inside_fires, whole_fired}
 use Rattle.compiled_boxes.proofs.Ready.{heap_fits, same_patterns, stack_fits}
 use Rattle.compiled_boxes.proofs.compiled.CompiledBox.fire.Goals as goal
 
@@ -14,38 +15,42 @@ build-requires-clause-core c = let fires = c.requires.3 in frame_of fires.sound 
 pub build-requires-clause-fitting : goal.build-requires-clause-fitting
 build-requires-clause-fitting c =
     let before = c.requires.2 in
-    let fires = c.requires.3 in
+    let fires = inside_fires c.self.view_is c.requires.3 in
     let ins = map oldest before.side in
     let same = sym (same_patterns fires) in (
       port_types c.requires.1.ins,
       before.side,
       cells_of fires.core_is fires.at.inputs,
       bare_fits fires,
-      subst (λ pats. inputs_built pats ins ≤ c.args.self.now.heap.room) same (heap_fits fires),
-      subst (λ pats. length (built_patterns pats) ≤ c.args.self.now.stack.room) same (stack_fits fires),
+      subst (λ pats. inputs_built pats ins ≤ c.self.inside.heap.room) same (heap_fits fires),
+      subst (λ pats. length (built_patterns pats) ≤ c.self.inside.stack.room) same (stack_fits fires),
     )
 
 pub run_rule-ran-requires : goal.run_rule-ran-requires
 run_rule-ran-requires c =
     let its = c.requires.1 in
     let before = c.requires.2 in
-    let fires = c.requires.3 in
-    let built = c.build.ensures.built (port_types its.ins) before.side (cells_of fires.core_is fires.at.inputs) (bare_fits fires) in
-    (c.requires.0, its, fires.rule, map oldest before.side, its_ready fires c.build.new.self c.build.ensures.others built)
+    let fires = inside_fires c.self.view_is c.requires.3 in
+    let built = c.build.ensures.built (port_types its.ins) before.side (cells_of fires.core_is fires.at.inputs) (bare_fits fires) in (
+      c.requires.0,
+      its,
+      fires.rule,
+      map oldest before.side,
+      its_ready fires c.build.new.heap c.build.new.stack built c.self.inside.outputs refl c.build.new.outputs c.build.ensures.absent,
+    )
 
 pub put_last-requires : goal.put_last-requires
-put_last-requires c =
-    let its = c.requires.1 in
-    let before = c.requires.2 in
-    let fires = c.requires.3 in
-    let built = c.build.ensures.built (port_types its.ins) before.side (cells_of fires.core_is fires.at.inputs) (bare_fits fires) in
-    stands_there fires c.build.new.self c.build.ensures.others built
+put_last-requires c = stands_there (inside_fires c.self.view_is c.requires.3)
 
 pub returns : goal.returns
-returns c = λ whole its before fires.
+returns c = λ whole its before it_fires.
+    let fires = inside_fires c.self.view_is it_fires in
     let ins = map oldest before.side in
+    let now = c.build.new in
     let built = c.build.ensures.built (port_types its.ins) before.side (cells_of fires.core_is fires.at.inputs) (bare_fits fires) in
-    let ready = its_ready fires c.build.new.self c.build.ensures.others built in
-    it_has_fired fires c.build.new.self c.build.ensures.others built c.run_rule-ran.new.heap c.run_rule-ran.new.stack c.run_rule-ran.new.out
-    c.run_rule-ran.new.work c.run_rule-ran.result (c.run_rule-ran.ensures whole its fires.rule ins ready) c.put_last.new.order c.put_last.ensures
-    c.consume.new.ins (c.consume.ensures whole (port_types its.ins) before.side fires.at.inputs)
+    let outputs = c.self.inside.outputs in
+    let ready = its_ready fires now.heap now.stack built outputs refl now.outputs c.build.ensures.absent in
+    whole_fired c.self.view_is
+    (it_has_fired fires now.heap now.stack built outputs refl now.outputs c.build.ensures.absent c.run_rule-ran.new.heap c.run_rule-ran.new.stack
+    c.run_rule-ran.new.out c.run_rule-ran.new.work c.run_rule-ran.result (c.run_rule-ran.ensures whole its fires.rule ins ready) c.put_last.new.order
+    c.put_last.ensures c.consume.new.ins (c.consume.ensures whole (port_types its.ins) before.side fires.at.inputs))
