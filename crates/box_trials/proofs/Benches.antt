@@ -1,10 +1,9 @@
 -- Boxes on a bench: before the first step, and from step to step.
-use Rattle.std.proofs.Common.{◌≡◌, ℕ, ◌≤◌, List, ◌++◌, length, take, drop, Option, Some, None, slice_get, ap, sym, ◌∙◌, subst}
+use Rattle.std.proofs.Common.{◌≡◌, ℕ, List, ◌++◌, length, take, drop, Option, Some, slice_get, ap, sym, ◌∙◌, subst}
 use Rattle.std.specs.Option.{option_map}
 use Rattle.std.proofs.Math.Seq.{take-append_seam}
 use Rattle.std.proofs.lemmas.List.{length-map}
 use Rattle.std.proofs.lemmas.Option.{slice_get-map}
-use Rattle.hume_base.specs.declared.limits.TheConstants.{MAX_OUTPUTS}
 use Rattle.hume_base.specs.Sizes.{size_of}
 use Rattle.hume_model.specs.declared.core_tree.PortC.{PortC}
 use Rattle.hume_model.specs.declared.core_tree.BoxC.{BoxC}
@@ -19,7 +18,7 @@ use Rattle.bare_cores.specs.Bare.{bare_box, bare_node, bare_of}
 use Rattle.box_code.specs.RepresentsBox.{RepresentsBox}
 use Rattle.box_machine.specs.declared.ran.Ran.{Ran}
 use Rattle.wire_cells.specs.Cells.{CellView}
-use Rattle.compiled_boxes.specs.Boxes.{AreBareForms, HasExecuted, IsAt, IsBoxAt, IsSoundBox, first_part}
+use Rattle.compiled_boxes.specs.Boxes.{AreBareForms, HasExecuted, IsAt, IsBoxAt, IsSoundBox}
 use Rattle.compiled_boxes.specs.Views.{CompiledView}
 use Rattle.box_inputs.specs.InputCells.{AreInputCells}
 use Rattle.box_inputs.proofs.Places.{all_at}

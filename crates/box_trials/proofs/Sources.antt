@@ -1,17 +1,14 @@
 -- What an accepted source has: its boxes are sound, and the values of their inputs and outputs have texts.
-use Rattle.std.proofs.Common.{◌≡◌, ℕ, ◌==◌, ◌<◌, ◌≤◌, List, length, Some, None, slice_get, refl, ap, sym, ◌∙◌, subst, inl, inr, arith}
+use Rattle.std.proofs.Common.{◌≡◌, ℕ, ◌==◌, ◌<◌, ◌≤◌, List, length, Some, slice_get, refl, ap, sym, ◌∙◌, subst, inl, inr, arith}
 use Rattle.std.specs.List.{All}
 use Rattle.std.proofs.lemmas.Bool.{and_parts, eqb-true}
-use Rattle.std.proofs.lemmas.List.{length-map}
 use Rattle.std.proofs.lemmas.Option.{slice_get_within}
 use Rattle.hume_base.specs.declared.limits.TheConstants.{MAX_HEAP_WORDS, MAX_STACK_WORDS, MAX_TYPE_WORDS, MAX_NODES}
 use Rattle.hume_base.specs.declared.rule.Rule.TheVariants.{C75, C76}
-use Rattle.hume_base.specs.declared.types.Ty.{Ty}
 use Rattle.hume_base.specs.Sizes.{size_of}
 use Rattle.hume_model.specs.declared.core_tree.PortC.{PortC}
 use Rattle.hume_model.specs.declared.core_tree.BoxC.{BoxC}
 use Rattle.hume_model.specs.declared.core_tree.NodeC.TheVariants.{Rules}
-use Rattle.hume_model.specs.declared.core_tree.Core.{Core}
 use Rattle.hume_model.specs.BoxTyping.{port_types}
 use Rattle.hume_model.specs.Declarations.{declaration_of}
 use Rattle.hume_model.specs.Limits.{IsSmallBox, IsSmallBoxPort, IsSmallNode}
@@ -80,7 +77,8 @@ module _ (accepted : Accepted) (source : IsOfSource accepted) where
         let tests = and_parts (wire.to == node) (wire.to_port == i) the.1.passes in
         let to : wire.to ≡ node = eqb-true wire.to node tests.0 in
         let place : wire.to_port ≡ i = eqb-true wire.to_port i tests.1 in
-        let same : wire.ty ≡ port.ty = wires.1.inputs the.0 wire b port the.1.there (ap (slice_get accepted.core.nodes) to ∙ there) (ap (slice_get b.ins) place ∙ at) in
+        let same : wire.ty ≡ port.ty =
+        wires.1.inputs the.0 wire b port the.1.there (ap (slice_get accepted.core.nodes) to ∙ there) (ap (slice_get b.ins) place ∙ at) in
         subst (IsPrintable accepted.core.types) same (printable accepted.core core_formed the.0 wire the.1.there)
 
     output_printable : (i : ℕ) (port : PortC) → slice_get b.outs i ≡ Some port → IsPrintable accepted.core.types port.ty
@@ -90,7 +88,8 @@ module _ (accepted : Accepted) (source : IsOfSource accepted) where
         let tests = and_parts (wire.from == node) (wire.from_port == i) the.1.passes in
         let from : wire.from ≡ node = eqb-true wire.from node tests.0 in
         let place : wire.from_port ≡ i = eqb-true wire.from_port i tests.1 in
-        let same : wire.ty ≡ port.ty = wires.1.outputs the.0 wire b port the.1.there (ap (slice_get accepted.core.nodes) from ∙ there) (ap (slice_get b.outs) place ∙ at) in
+        let same : wire.ty ≡ port.ty =
+        wires.1.outputs the.0 wire b port the.1.there (ap (slice_get accepted.core.nodes) from ∙ there) (ap (slice_get b.outs) place ∙ at) in
         subst (IsPrintable accepted.core.types) same (printable accepted.core core_formed the.0 wire the.1.there)
 
     pub input_texts : HaveTexts accepted.core.types (port_types b.ins)

@@ -24,5 +24,6 @@ returns-in-Some c = λ core b ready inputs.
       sound = ready.sound;
       there = ready.there;
       bare_is = ready.bare_is;
-      can = subst (CanStep core b c.step_on.new.compiled) (sym (all_written c.args.self.now.cells.len c.step_on.new.cells c.args.self.now.cells.items long)) can;
+      can = subst (CanStep core b c.step_on.new.compiled)
+          (sym (all_written c.args.self.now.cells.len c.step_on.new.cells c.args.self.now.cells.items long)) can;
     }
