@@ -1,5 +1,6 @@
 //! A box as code, with all that it works on.
 ghost use Rattle.std.specs.Prelude.{◌≡◌, ◌<◌, length, map, Some, None, IfOk, MatchOption};
+ghost use Rattle.std.specs.Option.{is_some};
 ghost use Rattle.hume_base.specs.Sizes.{HaveTheirSizes, written_size, size_of};
 ghost use Rattle.hume_model.specs.declared.core_tree.BoxC.{BoxC as AnyBox};
 ghost use Rattle.hume_model.specs.declared.core_tree.Core.{Core as AnyCore};
@@ -78,6 +79,13 @@ impl CompiledBox {
             pending: false,
             work: 0,
         })
+    }
+
+    /// Whether outputs are pending: the box is blocked until they are asserted and forgotten.
+    pub fn is_pending(&self) -> bool
+        ensures { result ≡ is_some self.now.pending }
+    {
+        self.pending
     }
 
     /// The words of the pending output of the number, counted from 0; none where it is absent, and none where nothing is pending.
