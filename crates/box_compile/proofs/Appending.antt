@@ -5,6 +5,7 @@ use Rattle.box_code.specs.declared.instr.Path.{Path}
 use Rattle.box_code.specs.declared.instr.Instr.{Instr}
 use Rattle.box_code.specs.declared.instr.Instr.TheVariants.{Push, Load, Make, Add, Sub, Mul, Div, Mod, Neg, Not, Convert, Compare, Index, Update, Jump, JumpFalse, MatchWord, MatchTag, Field, Slide, Call, Return, Raise, Finish}
 use Rattle.box_code.specs.Words.{words_of, path_of, PathStands, OperandsFit, StandsAt}
+use Rattle.box_compile.proofs.Lists.{append_nil}
 use Rattle.box_compile.specs.inner.Emitted.{Grows, Emitted}
 use Rattle.box_compile.specs.inner.Parts.{StandsWithPath}
 
@@ -35,18 +36,15 @@ few_words (Return count variables) = omega arith
 few_words (Raise exn carried) = omega arith
 few_words (Finish mask) = omega arith
 
-append_nil : (xs : List ℕ) → xs ≡ xs ++ []
-append_nil [] = refl
-append_nil (x ∷ xs) = ap (λ ys. x ∷ ys) (append_nil xs)
-
 pub grows_not : {a : List ℕ} → Grows a a
-grows_not {a = a} = record { more = []; same = append_nil a }
+grows_not {a = a} = record { more = []; same = sym (append_nil a) }
 
 pub grows_more : {a b c : List ℕ} → Grows a b → Grows b c → Grows a c
 grows_more {a = a} g h = record { more = g.more ++ h.more; same = h.same ∙ ap (λ x. x ++ h.more) g.same ∙ append_assoc a g.more h.more }
 
 -- something else that stands there too
-pub changed : {a b : List ℕ} {S T : List ℕ → ℕ → ℕ → Type 0} → ((code : List ℕ) → S code (length a) (length b) → T code (length a) (length b)) → Emitted a b S → Emitted a b T
+pub changed : {a b : List ℕ} {S T : List ℕ → ℕ → ℕ → Type 0} → ((code : List ℕ) → S code (length a) (length b) → T code (length a) (length b))
+    → Emitted a b S → Emitted a b T
 changed f e = record { grown = e.grown; stands = λ code grows. f code (e.stands code grows) }
 
 pub on_ok : {X Y : Type 0} {P Q : Type 0} (result : Result X Y) → (P → Q) → OnOk result P → OnOk result Q
@@ -58,7 +56,8 @@ pub still : {a b c : List ℕ} {S : List ℕ → ℕ → ℕ → Type 0} → Emi
 still e g code h = e.stands code (grows_more g h)
 
 -- an instruction without a path
-pub instr_emitted : {a b : List ℕ} (instr : Instr) → path_of instr ≡ None → OperandsFit instr → b ≡ a ++ words_of instr → Emitted a b (λ code from to. StandsAt code from instr to)
+pub instr_emitted : {a b : List ℕ} (instr : Instr) → path_of instr ≡ None → OperandsFit instr → b ≡ a ++ words_of instr
+    → Emitted a b (λ code from to. StandsAt code from instr to)
 instr_emitted {a = a} {b = b} instr none fits is = record {
   grown = record { more = words_of instr; same = is };
   stands = λ code grows. record {
@@ -104,6 +103,7 @@ path_emitted {a = a} {b = b} {c = c} instr path numbers some fits at long first 
           fits = fits;
         };
         same = ap (λ x. take path.length (drop path.at x)) front ∙ ap (λ k. take path.length (drop k ((a ++ words_of instr) ++ (numbers ++ grows.more)))) behind
-            ∙ ap (take path.length) (drop_all (a ++ words_of instr) (numbers ++ grows.more)) ∙ ap (λ k. take k (numbers ++ grows.more)) long ∙ take_all numbers grows.more;
+            ∙ ap (take path.length) (drop_all (a ++ words_of instr) (numbers ++ grows.more)) ∙ ap (λ k. take k (numbers ++ grows.more)) long
+            ∙ take_all numbers grows.more;
       };
 }

@@ -19,6 +19,7 @@ use Rattle.box_code.specs.declared.program.BoxProgram.{BoxProgram}
 use Rattle.box_code.specs.Paths.{Spot, root, spots_at, spots_from}
 use Rattle.box_code.specs.Represents.{counted, FieldsStand, ResultStands, BoundResultStands, RuleStands, HandlerStands, handler_spots, FunctionsStand}
 use Rattle.box_code.specs.RepresentsBox.{handler_of, RepresentsBox}
+use Rattle.box_compile.proofs.Lists.{get_last}
 use Rattle.box_compile.specs.Programs.{AreProgramsFor, box_in}
 use Rattle.box_compile.specs.inner.Boxes.{RulesFound, HandlerFound, HandlersFound}
 use Rattle.box_compile.specs.inner.Emitted.{Grows, Emitted}
@@ -33,17 +34,12 @@ get_stays [] ys i y e = absurd (nothing_there y e)
 get_stays (x ∷ xs) ys zero y e = e
 get_stays (x ∷ xs) ys (suc i) y e = get_stays xs ys i y e
 
-get_last : {X : Type 0} (xs : List X) (x : X) (i : ℕ) → i ≡ length xs → slice_get (xs ++ x ∷ []) i ≡ Some x
-get_last [] x zero is = refl
-get_last [] x (suc i) is = absurd (omega (arith, is))
-get_last (y ∷ xs) x zero is = absurd (omega (arith, is))
-get_last (y ∷ xs) x (suc i) is = get_last xs x i (omega (arith, is))
-
 unwrap : {X : Type 0} (x y : X) → Some x ≡ Some y → x ≡ y
 unwrap x y e = cc
 
 -- what is at a place, with one more item at the end
-pub old_or_last : {X : Type 0} (xs : List X) (x : X) (i : ℕ) (y : X) → slice_get (xs ++ x ∷ []) i ≡ Some y → (slice_get xs i ≡ Some y) ⊎ ((i ≡ length xs) × (x ≡ y))
+pub old_or_last : {X : Type 0} (xs : List X) (x : X) (i : ℕ) (y : X) → slice_get (xs ++ x ∷ []) i ≡ Some y
+    → (slice_get xs i ≡ Some y) ⊎ ((i ≡ length xs) × (x ≡ y))
 old_or_last [] x zero y e = inr (refl, unwrap x y e)
 old_or_last [] x (suc i) y e = absurd (nothing_there y e)
 old_or_last (z ∷ xs) x zero y e = inl e
@@ -63,7 +59,8 @@ get_map f (y ∷ xs) zero x e = ap Some (ap f (unwrap y x e))
 get_map f (y ∷ xs) (suc i) x e = get_map f xs i x e
 
 module _ {entry : ℕ → Option ℕ} where
-  pub bound_done : {a b c : List ℕ} (high variables inside : ℕ) (places : List ℕ) (spots : List Spot) (outcome : Res) → variables ≡ length spots → places ≡ counted high variables
+  pub bound_done : {a b c : List ℕ} (high variables inside : ℕ) (places : List ℕ) (spots : List Spot) (outcome : Res) → variables ≡ length spots
+      → places ≡ counted high variables
       → inside ≡ high + variables → Emitted a b (λ code from to. FieldsStand code high from to spots) → ResultDone entry places inside b c outcome
       → Emitted a c (λ code from to. BoundResultStands code entry high spots outcome from)
   bound_done {b = b} {c = c} high variables inside places spots outcome many places_is inside_is e f = record {
@@ -80,17 +77,20 @@ module _ {entry : ℕ → Option ℕ} where
     };
   }
 
-  pub rule_done : {a b : List ℕ} (rule : RuleC) (place count : ℕ) (pats : List InPat) (spots found : List Spot) → place ≡ length a → pats ≡ rule.pats → count ≡ length (built_patterns pats)
+  pub rule_done : {a b : List ℕ} (rule : RuleC) (place count : ℕ) (pats : List InPat) (spots found : List Spot) → place ≡ length a → pats ≡ rule.pats
+      → count ≡ length (built_patterns pats)
       → found ≡ spots → spots ≡ spots_from (built_patterns pats) 0 → Emitted a b (λ code from to. BoundResultStands code entry count found rule.result from)
       → Emitted a b (λ code from to. RuleStands code entry rule place)
   rule_done {a = a} rule place count pats spots found at same many same_spots is e =
       changed (λ code s.
       subst (λ k. RuleStands code entry rule k) (sym at)
-      (subst (λ k. BoundResultStands code entry (length (built_patterns rule.pats)) k rule.result (length a)) (same_spots ∙ is ∙ ap (λ (p : List InPat). spots_from (built_patterns p) 0) same)
+      (subst (λ k. BoundResultStands code entry (length (built_patterns rule.pats)) k rule.result (length a)) (same_spots ∙ is
+      ∙ ap (λ (p : List InPat). spots_from (built_patterns p) 0) same)
       (subst (λ k. BoundResultStands code entry k found rule.result (length a)) (many ∙ ap (λ (p : List InPat). length (built_patterns p)) same) s))) e
 
   pub handler_done : {a b : List ℕ} (handler : HandC) (place : ℕ) (spots found : List Spot) → place ≡ length a → found ≡ spots → spots ≡ handler_spots handler
-      → Emitted a b (λ code from to. BoundResultStands code entry 1 found handler.result from) → Emitted a b (λ code from to. HandlerStands code entry handler place)
+      → Emitted a b (λ code from to. BoundResultStands code entry 1 found handler.result from) → Emitted a b
+      (λ code from to. HandlerStands code entry handler place)
   handler_done {a = a} handler place spots found at same is e =
       changed (λ code s.
       subst (λ k. HandlerStands code entry handler k) (sym at)
@@ -99,12 +99,18 @@ module _ {entry : ℕ → Option ℕ} where
   pub no_rules : {a : List ℕ} → Emitted a a (λ code from to. RulesFound code entry [] [])
   no_rules = record { grown = grows_not; stands = λ code grows. record { count = refl; each = λ number rule found. absurd (nothing_there rule found) } }
 
-  rules_last : {code : List ℕ} (places : List ℕ) (place : ℕ) (rules : List RuleC) (rule : RuleC) → RulesFound code entry places rules → RuleStands code entry rule place
+  rules_last : {code : List ℕ} (places : List ℕ) (place : ℕ) (rules : List RuleC) (rule : RuleC) → RulesFound code entry places rules
+      → RuleStands code entry rule place
       → RulesFound code entry (places ++ place ∷ []) (rules ++ rule ∷ [])
   rules_last {code = code} places place rules rule old new = record {
     count = length-append places (place ∷ []) ∙ ap (λ k. k + 1) old.count ∙ sym (length-append rules (rule ∷ []));
     each = λ number r found. elim (old_or_last rules rule number r found) [
-      | inl before ↦ (let f = old.each number r before in record { place = f.place; begins = get_stays places (place ∷ []) number f.place f.begins; stands = f.stands })
+      | inl before ↦ (let f = old.each number r before in record {
+        place = f.place;
+        begins = get_stays places
+            (place ∷ []) number f.place f.begins;
+        stands = f.stands;
+      })
       | inr last ↦ record {
         place = place;
         begins = get_last places place number (last.0 ∙ sym old.count);
@@ -118,7 +124,8 @@ module _ {entry : ℕ → Option ℕ} where
       → Emitted a c (λ code from to. RulesFound code entry all (rules ++ rule ∷ []))
   rules_more places all place rules rule is e f = record {
     grown = grows_more e.grown f.grown;
-    stands = λ code grows. subst (λ k. RulesFound code entry k (rules ++ rule ∷ [])) (sym is) (rules_last places place rules rule (still e f.grown code grows) (f.stands code grows));
+    stands = λ code grows. subst (λ k. RulesFound code entry k (rules ++ rule ∷ [])) (sym is) (rules_last places place rules rule
+        (still e f.grown code grows) (f.stands code grows));
   }
 
   pub handler_none : {a : List ℕ} → Emitted a a (λ code from to. HandlerFound code entry None None)
@@ -154,7 +161,12 @@ module _ {entry : ℕ → Option ℕ} where
   handler_there : {code : List ℕ} {wanted : Option HandC} {at : Option ℕ} → HandlerFound code entry wanted at → (handler : HandC) → wanted ≡ Some handler
       → (place : ℕ) × (at ≡ Some place) × HandlerStands code entry handler place
   handler_there HandlerFound.none handler is = absurd (nothing_there handler is)
-  handler_there {code = code} (HandlerFound.some h place stands) handler is = (place, refl, subst (λ (x : HandC). HandlerStands code entry x place) (unwrap h handler is) stands)
+  handler_there {code = code} (HandlerFound.some h place stands) handler is = (
+    place,
+    refl,
+    subst (λ (x : HandC). HandlerStands code entry x place)
+        (unwrap h handler is) stands,
+  )
 
   handler_absent : {code : List ℕ} {wanted : Option HandC} {at : Option ℕ} → HandlerFound code entry wanted at → wanted ≡ None → at ≡ None
   handler_absent HandlerFound.none is = refl
@@ -185,13 +197,15 @@ module _ {entry : ℕ → Option ℕ} where
             let x = handler_there (h.each exn at.0 at.1) handler is in
             record {
               place = x.0;
-              begins = ap (λ l. slice_get l exn) handlers ∙ get_map (λ (place : Option ℕ). unwrap_or place end) found exn at.0 at.1 ∙ ap (λ (o : Option ℕ). Some (unwrap_or o end)) x.1;
+              begins = ap (λ l. slice_get l exn) handlers ∙ get_map (λ (place : Option ℕ). unwrap_or place end) found exn at.0 at.1
+                  ∙ ap (λ (o : Option ℕ). Some (unwrap_or o end)) x.1;
               stands = x.2;
             });
         others = λ exn low is.
             (let at = there_is found exn (let n = h.count in omega (arith, low, n, many)) in
             let x = handler_absent (h.each exn at.0 at.1) is in
-            ap (λ l. slice_get l exn) handlers ∙ get_map (λ (place : Option ℕ). unwrap_or place end) found exn at.0 at.1 ∙ ap (λ (o : Option ℕ). Some (unwrap_or o end)) x
+            ap (λ l. slice_get l exn) handlers ∙ get_map (λ (place : Option ℕ). unwrap_or place end) found exn at.0 at.1
+            ∙ ap (λ (o : Option ℕ). Some (unwrap_or o end)) x
             ∙ ap Some (ends ∙ ap length (sym words)));
         outs = outs;
         heap = heap;
@@ -212,7 +226,8 @@ found_last exn [] h handler is = at (h.exn == exn) refl is
     at : (b : Bool) → (h.exn == exn) ≡ b → cond b (Some h) None ≡ Some handler → (None ≡ Some handler) ⊎ (h.exn ≡ exn)
     at true e s = inr (eqb-true h.exn exn e)
     at false e s = inl s
-found_last exn (x ∷ xs) h handler is = in_rest (x.exn == exn) x (find (λ (x : HandC). x.exn == exn) (xs ++ h ∷ [])) (find (λ (x : HandC). x.exn == exn) xs) handler (h.exn ≡ exn) (found_last exn xs h handler) is
+found_last exn (x ∷ xs) h handler is = in_rest (x.exn == exn) x (find (λ (x : HandC). x.exn == exn) (xs ++ h ∷ [])) (find (λ
+    (x : HandC). x.exn == exn) xs) handler (h.exn ≡ exn) (found_last exn xs h handler) is
 
 pub known_more : (exceptions : ℕ) (handlers : List HandC) (h : HandC) → h.exn < exceptions
     → ((exn : ℕ) (handler : HandC) → find (λ (x : HandC). x.exn == exn) handlers ≡ Some handler → exn < exceptions)
@@ -242,7 +257,8 @@ spots_both (p ∷ ps) qs start at is =
     ∙ sym (append_assoc (spots_at p (root start)) (spots_from ps (suc start)) (spots_from qs at))
 
 -- one position more
-pub position_more : (pats : List InPat) (pat : InPat) (count new : ℕ) (found all : List Spot) → count ≡ length (built_patterns pats) → found ≡ spots_from (built_patterns pats) 0
+pub position_more : (pats : List InPat) (pat : InPat) (count new : ℕ) (found all : List Spot) → count ≡ length (built_patterns pats)
+    → found ≡ spots_from (built_patterns pats) 0
     → new ≡ count + length (option_to_list (built_pattern pat)) → all ≡ found ++ spots_from (option_to_list (built_pattern pat)) count
     → (new ≡ length (built_patterns (pats ++ pat ∷ []))) × (all ≡ spots_from (built_patterns (pats ++ pat ∷ [])) 0)
 position_more pats pat count new found all many so new_is all_is =
@@ -250,18 +266,25 @@ position_more pats pat count new found all many so new_is all_is =
     let longer = length-append (built_patterns pats) (option_to_list (built_pattern pat)) in (
       new_is ∙ ap (λ k. k + length (option_to_list (built_pattern pat))) many ∙ sym longer ∙ sym (ap length last),
       all_is ∙ ap (λ k. k ++ spots_from (option_to_list (built_pattern pat)) count) so
-          ∙ sym (ap (λ l. spots_from l 0) last ∙ spots_both (built_patterns pats) (option_to_list (built_pattern pat)) 0 count (let e : count ≡ 0 + length (built_patterns pats) = omega (arith, many) in e)),
+          ∙ sym (ap (λ l. spots_from l 0) last ∙ spots_both (built_patterns pats) (option_to_list (built_pattern pat)) 0 count (let e : count ≡ 0 + length
+          (built_patterns pats) = omega (arith, many) in e)),
     )
 
 -- one program more
-pub one_program : (core : Core) (boxes : List BoxC) (programs all : List BoxProgram) (b : BoxC) (program : BoxProgram) → all ≡ programs ++ program ∷ [] → RepresentsBox core b program
+pub one_program : (core : Core) (boxes : List BoxC) (programs all : List BoxProgram) (b : BoxC) (program : BoxProgram) → all ≡ programs ++ program ∷ []
+    → RepresentsBox core b program
     → AreProgramsFor core boxes programs → AreProgramsFor core (boxes ++ b ∷ []) all
 one_program core boxes programs all b program is new old =
     subst (λ (k : List BoxProgram). AreProgramsFor core (boxes ++ b ∷ []) k) (sym is)
     (record {
       count = length-append programs (program ∷ []) ∙ ap (λ k. k + 1) old.count ∙ sym (length-append boxes (b ∷ []));
       each = λ number x found. elim (old_or_last boxes b number x found) [
-        | inl before ↦ (let f = old.each number x before in record { program = f.program; at = get_stays programs (program ∷ []) number f.program f.at; represents = f.represents })
+        | inl before ↦ (let f = old.each number x before in record {
+          program = f.program;
+          at = get_stays programs
+              (program ∷ []) number f.program f.at;
+          represents = f.represents;
+        })
         | inr last ↦ record {
           program = program;
           at = get_last programs program number (last.0 ∙ sym old.count);
@@ -274,7 +297,8 @@ pub no_programs : (core : Core) → AreProgramsFor core [] []
 no_programs core = record { count = refl; each = λ number b found. absurd (nothing_there b found) }
 
 -- the node's program more, if it is a box
-pub node_program : (core : Core) (boxes : List BoxC) (programs all : List BoxProgram) (node : NodeC) (b : BoxC) (program : BoxProgram) → node ≡ Rules b → all ≡ programs ++ program ∷ []
+pub node_program : (core : Core) (boxes : List BoxC) (programs all : List BoxProgram) (node : NodeC) (b : BoxC) (program : BoxProgram) → node ≡ Rules b
+    → all ≡ programs ++ program ∷ []
     → RepresentsBox core b program → AreProgramsFor core boxes programs → AreProgramsFor core (boxes ++ option_to_list (box_in node)) all
 node_program core boxes programs all node b program same is new old =
     subst (λ (n : NodeC). AreProgramsFor core (boxes ++ option_to_list (box_in n)) all) (sym same) (one_program core boxes programs all b program is new old)

@@ -11,21 +11,20 @@ use Rattle.box_code.specs.declared.instr.Instr.TheVariants.{Raise, Return}
 use Rattle.box_code.specs.Words.{StandsAt}
 use Rattle.box_code.specs.Paths.{Spot, Test, tests_from, spots_from}
 use Rattle.box_code.specs.Represents.{counted, Represents, TestsStand, FieldsStand, EquationsStand, FunctionsStand, below}
+use Rattle.box_compile.proofs.Lists.{append_nil, get_last}
 use Rattle.box_compile.specs.inner.Emitted.{Emitted}
 use Rattle.box_compile.specs.inner.Entries.{entry_in, EquationsBegin, FunctionStands}
 use Rattle.box_compile.proofs.Appending.{grows_not, grows_more, still}
 use Rattle.box_compile.proofs.Forms.{Done, Added}
 
-append_nil : {X : Type 0} (xs : List X) → xs ++ [] ≡ xs
-append_nil [] = refl
-append_nil (x ∷ xs) = ap (λ ys. x ∷ ys) (append_nil xs)
-
 module _ {entry : ℕ → Option ℕ} {count : ℕ} where
   pub no_equations : {a : List ℕ} → Emitted a a (λ code from to. EquationsBegin code entry count from to [])
   no_equations = record { grown = grows_not; stands = λ code grows. record { followed = λ others s. s } }
 
-  pub equations_more : {a b c : List ℕ} (equations : List EqC) (equation : EqC) → Emitted a b (λ code from to. EquationsBegin code entry count from to equations)
-      → Emitted b c (λ code from to. EquationsBegin code entry count from to (equation ∷ [])) → Emitted a c (λ code from to. EquationsBegin code entry count from to (equations ++ equation ∷ []))
+  pub equations_more : {a b c : List ℕ} (equations : List EqC) (equation : EqC) → Emitted a b
+      (λ code from to. EquationsBegin code entry count from to equations)
+      → Emitted b c (λ code from to. EquationsBegin code entry count from to (equation ∷ [])) → Emitted a c
+      (λ code from to. EquationsBegin code entry count from to (equations ++ equation ∷ []))
   equations_more {a = a} equations equation e f = record {
     grown = grows_more e.grown f.grown;
     stands = λ code grows. record {
@@ -48,7 +47,8 @@ module _ {entry : ℕ → Option ℕ} {count : ℕ} where
       → Emitted a b (λ code from to. TestsStand code top other from to tests) → Emitted b c (λ code from to. FieldsStand code top from to spots)
       → Done entry places inside c d equation.body → Added d f (Return count variables) → other ≡ length f
       → Emitted a f (λ code from to. EquationsBegin code entry count from to (equation ∷ []))
-  equation_done {a = a} {b = b} {c = c} {d = d} {f = f} top variables inside other places equation tests spots top_is tests_is spots_is many inside_is places_is et ef eb er other_is =
+  equation_done {a = a} {b = b} {c = c} {d = d} {f = f} top variables inside other places equation tests spots top_is tests_is spots_is many inside_is
+      places_is et ef eb er other_is =
       let after_body = er.grown in
       let after_fields = grows_more eb.grown after_body in
       let after_tests = grows_more ef.grown after_fields in
@@ -58,13 +58,16 @@ module _ {entry : ℕ → Option ℕ} {count : ℕ} where
         grown = grows_more et.grown after_tests;
         stands = λ code grows. record {
           followed = λ others s. EquationsStand.more (length b) (length c) (length d) other
-              (subst (λ k. TestsStand code k other (length a) (length b) (tests_from equation.pats 0)) top_is (subst (λ k. TestsStand code top other (length a) (length b) k) tests_is (still et after_tests code grows)))
-              (subst (λ k. FieldsStand code k (length b) (length c) all) top_is (subst (λ k. FieldsStand code top (length b) (length c) k) spots_is (still ef after_fields code grows)))
+              (subst (λ k. TestsStand code k other (length a) (length b) (tests_from equation.pats 0)) top_is (subst (λ k. TestsStand code top other
+              (length a) (length b) k) tests_is (still et after_tests code grows)))
+              (subst (λ k. FieldsStand code k (length b) (length c) all) top_is (subst (λ k. FieldsStand code top (length b) (length c) k) spots_is
+              (still ef after_fields code grows)))
               (let x : places ≡ counted (count + 2) (length all) = places_is ∙ (λ i. counted (top_is i) (variables_is i)) in
               let y : inside ≡ count + 2 + length all = inside_is ∙ (λ i. top_is i + variables_is i) in
               subst (λ k. Represents code entry k (count + 2 + length all) (length c) (length d) equation.body) x
               (subst (λ k. Represents code entry places k (length c) (length d) equation.body) y (still eb after_body code grows)))
-              (subst (λ k. StandsAt code (length d) (Return count k) other) variables_is (subst (λ k. StandsAt code (length d) (Return count variables) k) (sym other_is) (er.stands code grows)))
+              (subst (λ k. StandsAt code (length d) (Return count k) other) variables_is (subst (λ k. StandsAt code (length d) (Return count variables) k)
+              (sym other_is) (er.stands code grows)))
               (subst (λ k. EquationsStand code entry count k others) (sym other_is) s);
         };
       }
@@ -73,12 +76,6 @@ get_old : {X : Type 0} (xs ys : List X) (i : ℕ) → i < length xs → slice_ge
 get_old [] ys i low = absurd (omega (arith, low))
 get_old (x ∷ xs) ys zero low = refl
 get_old (x ∷ xs) ys (suc i) low = get_old xs ys i (omega (arith, low))
-
-get_last : {X : Type 0} (xs : List X) (x : X) (i : ℕ) → i ≡ length xs → slice_get (xs ++ x ∷ []) i ≡ Some x
-get_last [] x zero is = refl
-get_last [] x (suc i) is = absurd (omega (arith, is))
-get_last (y ∷ xs) x zero is = absurd (omega (arith, is))
-get_last (y ∷ xs) x (suc i) is = get_last xs x i (omega (arith, is))
 
 get_past : {X : Type 0} (xs : List X) (i : ℕ) → length xs ≤ i → slice_get xs i ≡ None
 get_past [] i past = refl
@@ -97,7 +94,8 @@ same_function x y o e f = cc
 entry_old : (entries more : List (Option ℕ)) (g : ℕ) → g < length entries → entry_in (entries ++ more) g ≡ entry_in entries g
 entry_old entries more g low = ap (λ (o : Option (Option ℕ)). option_and_then (λ place. place) o) (get_old entries more g low)
 
-below_old : (entries more : List (Option ℕ)) (number : ℕ) → number ≤ length entries → below number (entry_in (entries ++ more)) ≡ below number (entry_in entries)
+below_old : (entries more : List (Option ℕ)) (number : ℕ) → number ≤ length entries → below number (entry_in (entries ++ more)) ≡ below number
+    (entry_in entries)
 below_old entries more number low = λ i g. at g (nat_lt g number) refl i
   where
     at : (g : ℕ) (b : Bool) → nat_lt g number ≡ b → (if b then entry_in (entries ++ more) g else None) ≡ (if b then entry_in entries g else None)
@@ -112,11 +110,18 @@ below_all entries = λ i g. at g (nat_lt g (length entries)) refl i
     at g false e = sym (past_is_none entries g (ltb-false g (length entries) e))
 
 pub no_functions : {a : List ℕ} (core : Core) → Emitted a a (λ code from to. FunctionsStand code (entry_in []) core)
-no_functions core = record { grown = grows_not; stands = λ code grows number place function found at. absurd (none_is_not place (entry_in [] number) (past_is_none [] number (omega arith)) at) }
+no_functions core = record {
+  grown = grows_not;
+  stands = λ code grows number place function found at. absurd (none_is_not place (entry_in [] number)
+      (past_is_none [] number (omega arith)) at);
+}
 
-functions_last : (code : List ℕ) (core : Core) (entries : List (Option ℕ)) (entry : Option ℕ) (function : FunC) → slice_get core.funs (length entries) ≡ Some function
-    → FunctionsStand code (entry_in entries) core → FunctionStands code (entry_in entries) entry function → FunctionsStand code (entry_in (entries ++ entry ∷ [])) core
-functions_last code core entries entry function found old new number place f here at = by (nat_lt number (length entries)) refl (nat_lt (length entries) number) refl
+functions_last : (code : List ℕ) (core : Core) (entries : List (Option ℕ)) (entry : Option ℕ) (function : FunC)
+    → slice_get core.funs (length entries) ≡ Some function
+    → FunctionsStand code (entry_in entries) core → FunctionStands code (entry_in entries) entry function
+    → FunctionsStand code (entry_in (entries ++ entry ∷ [])) core
+functions_last code core entries entry function found old new number place f here at = by (nat_lt number (length entries)) refl (nat_lt
+    (length entries) number) refl
   where
     longer : length (entries ++ entry ∷ []) ≡ length entries + 1
     longer = length-append entries (entry ∷ [])
@@ -143,7 +148,8 @@ functions_last code core entries entry function found old new number place f her
 
 pub functions_more : {a b c : List ℕ} (core : Core) (entries new : List (Option ℕ)) (entry : Option ℕ) (function : FunC) → new ≡ entries ++ entry ∷ []
     → slice_get core.funs (length entries) ≡ Some function → Emitted a b (λ code from to. FunctionsStand code (entry_in entries) core)
-    → Emitted b c (λ code from to. FunctionStands code (entry_in entries) entry function) → Emitted a c (λ code from to. FunctionsStand code (entry_in new) core)
+    → Emitted b c (λ code from to. FunctionStands code (entry_in entries) entry function) → Emitted a c (λ code from to. FunctionsStand code
+    (entry_in new) core)
 functions_more core entries new entry function is found e f = record {
   grown = grows_more e.grown f.grown;
   stands = λ code grows. subst (λ (k : List (Option ℕ)). FunctionsStand code (entry_in k) core) (sym is)

@@ -11,7 +11,8 @@ tests_last : {code : List ℕ} {high other from mid to : ℕ} {tests : List Test
 tests_last {to = to} TestsStand.none t = TestsStand.more to t.path t.is t.instr_stands TestsStand.none
 tests_last (TestsStand.more mid path is stands rest) t = TestsStand.more mid path is stands (tests_last rest t)
 
-fields_last : {code : List ℕ} {high from mid to : ℕ} {spots : List Spot} {spot : Spot} (top : ℕ) → top ≡ high + length spots → FieldsStand code high from mid spots
+fields_last : {code : List ℕ} {high from mid to : ℕ} {spots : List Spot} {spot : Spot} (top : ℕ) → top ≡ high + length spots
+    → FieldsStand code high from mid spots
     → FieldStands code top mid to spot → FieldsStand code high from to (spots ++ spot ∷ [])
 fields_last {code = code} {high = high} {mid = mid} {to = to} {spot = spot} top is FieldsStand.none f =
     let e : top ≡ high = omega (arith, is) in
@@ -26,13 +27,15 @@ pub no_fields : {a : List ℕ} (high : ℕ) → Emitted a a (λ code from to. Fi
 no_fields high = record { grown = grows_not; stands = λ code grows. FieldsStand.none }
 
 pub tests_more : {a b c : List ℕ} {high other : ℕ} {tests : List Test} {test : Test} → Emitted a b (λ code from to. TestsStand code high other from to tests)
-    → Emitted b c (λ code from to. TestStands code high other from to test) → Emitted a c (λ code from to. TestsStand code high other from to (tests ++ test ∷ []))
+    → Emitted b c (λ code from to. TestStands code high other from to test) → Emitted a c (λ code from to. TestsStand code high other from to
+    (tests ++ test ∷ []))
 tests_more e f = record {
   grown = grows_more e.grown f.grown;
   stands = λ code grows. tests_last (still e f.grown code grows) (f.stands code grows);
 }
 
-pub fields_more : {a b c : List ℕ} {high : ℕ} {spots : List Spot} {spot : Spot} (top : ℕ) → top ≡ high + length spots → Emitted a b (λ code from to. FieldsStand code high from to spots)
+pub fields_more : {a b c : List ℕ} {high : ℕ} {spots : List Spot} {spot : Spot} (top : ℕ) → top ≡ high + length spots
+    → Emitted a b (λ code from to. FieldsStand code high from to spots)
     → Emitted b c (λ code from to. FieldStands code top from to spot) → Emitted a c (λ code from to. FieldsStand code high from to (spots ++ spot ∷ []))
 fields_more top is e f = record {
   grown = grows_more e.grown f.grown;

@@ -3,11 +3,8 @@ use Rattle.std.proofs.Common.{◌≡◌, ℕ, zero, suc, ◌+◌, ◌<◌, ◌�
 use Rattle.std.proofs.lemmas.Grind.{common_steps}
 use Rattle.std.proofs.lemmas.List.{take_more}
 use Rattle.hume_model.specs.declared.core_tree.PatC.{PatC, the_lemmas as pattern_lemmas}
+use Rattle.box_compile.proofs.Lists.{append_nil}
 use Rattle.box_code.specs.Paths.{Spot, root, field_of_spot, of_fields, of_words}
-
-append_nil : {X : Type 0} (xs : List X) → xs ++ [] ≡ xs
-append_nil [] = refl
-append_nil (x ∷ xs) = ap (λ ys. x ∷ ys) (append_nil xs)
 
 map_last : {X Y : Type 0} (f : X → Y) (xs : List X) (x : X) → map f (xs ++ x ∷ []) ≡ map f xs ++ f x ∷ []
 map_last f [] x = refl
@@ -20,7 +17,8 @@ long f (x ∷ xs) (suc i) low = ap suc (long f xs i (omega (arith, low)))
 
 fields_last : {X : Type 0} (parts : List (Spot → List X)) (part : Spot → List X) (spot : Spot) (start at : ℕ) → at ≡ start + length parts
     → of_fields (parts ++ part ∷ []) spot start ≡ of_fields parts spot start ++ part (field_of_spot spot at)
-fields_last [] part spot start at is = append_nil (part (field_of_spot spot start)) ∙ ap (λ k. part (field_of_spot spot k)) (let e : start ≡ at = omega (arith, is) in e)
+fields_last [] part spot start at is = append_nil (part (field_of_spot spot start)) ∙ ap (λ k. part (field_of_spot spot k)) (let e : start ≡ at = omega
+    (arith, is) in e)
 fields_last (p ∷ ps) part spot start at is =
     ap (λ k. p (field_of_spot spot start) ++ k) (fields_last ps part spot (suc start) at (omega (arith, is)))
     ∙ sym (append_assoc (p (field_of_spot spot start)) (of_fields ps spot (suc start)) (part (field_of_spot spot at)))
@@ -36,14 +34,16 @@ module _ {X : Type 0} (f : PatC → Spot → List X) (parts : List PatC) (i : �
   one_more : map f (take (i + 1) parts) ≡ map f (take i parts) ++ f part ∷ []
   one_more = ap (map f) (take_more parts i part low ∙ ap (λ p. take i parts ++ p ∷ []) (sym is)) ∙ map_last f (take i parts) part
 
-  pub fields_more : (spot : Spot) (all before found : List X) → found ≡ before ++ of_fields (map f (take i parts)) spot 0 → all ≡ found ++ f part (field_of_spot spot i)
+  pub fields_more : (spot : Spot) (all before found : List X) → found ≡ before ++ of_fields (map f (take i parts)) spot 0
+      → all ≡ found ++ f part (field_of_spot spot i)
       → all ≡ before ++ of_fields (map f (take (i + 1) parts)) spot 0
   fields_more spot all before found so then_is =
       let e : i ≡ 0 + length (map f (take i parts)) = (let l = long f parts i (omega (arith, low)) in omega (arith, l)) in
       then_is ∙ ap (λ k. k ++ f part (field_of_spot spot i)) so ∙ append_assoc before (of_fields (map f (take i parts)) spot 0) (f part (field_of_spot spot i))
       ∙ ap (λ k. before ++ k) (sym (ap (λ ps. of_fields ps spot 0) one_more ∙ fields_last (map f (take i parts)) (f part) spot 0 i e))
 
-  pub words_more : (all found : List X) → found ≡ of_words (map f (take i parts)) 0 → all ≡ found ++ f part (root i) → all ≡ of_words (map f (take (i + 1) parts)) 0
+  pub words_more : (all found : List X) → found ≡ of_words (map f (take i parts)) 0 → all ≡ found ++ f part (root i)
+      → all ≡ of_words (map f (take (i + 1) parts)) 0
   words_more all found so then_is =
       let e : i ≡ 0 + length (map f (take i parts)) = (let l = long f parts i (omega (arith, low)) in omega (arith, l)) in
       then_is ∙ ap (λ k. k ++ f part (root i)) so ∙ sym (ap (λ ps. of_words ps 0) one_more ∙ words_last (map f (take i parts)) (f part) 0 i e)

@@ -13,18 +13,23 @@ use Rattle.box_code.specs.declared.instr.Instr.TheVariants.{Push, JumpFalse, Rai
 use Rattle.box_code.specs.Words.{StandsAt}
 use Rattle.box_code.specs.Paths.{Spot, Test, root, tests_at, spots_at}
 use Rattle.box_code.specs.Represents.{counted, mask_of, AllRepresent, ResultStands, ResultArmsStand, TestsStand, FieldsStand}
+use Rattle.box_compile.proofs.Lists.{append_nil}
 use Rattle.box_compile.specs.inner.Emitted.{Emitted}
 use Rattle.box_compile.specs.inner.ResultArms.{ResultArmsBegin}
 use Rattle.box_compile.proofs.Appending.{grows_not, grows_more, still, changed}
-use Rattle.box_compile.proofs.Forms.{Done, Added}
+use Rattle.box_compile.proofs.Forms.{Done, PartsDone, Added}
 
 -- the code of a result was appended
 abbrev pub ResultDone : (ℕ → Option ℕ) → List ℕ → ℕ → List ℕ → List ℕ → Res → Type 0
 ResultDone entry places high a b r = Emitted a b (λ code from to. ResultStands code entry places high from to r)
 
-append_nil : {X : Type 0} (xs : List X) → xs ++ [] ≡ xs
-append_nil [] = refl
-append_nil (x ∷ xs) = ap (λ ys. x ∷ ys) (append_nil xs)
+-- so were alternatives
+abbrev pub ResultArmsDone : (ℕ → Option ℕ) → List ℕ → ℕ → List ℕ → List ℕ → List (PatC × Res) → Type 0
+ResultArmsDone entry places high a b arms = Emitted a b (λ code from to. ResultArmsStand code entry places high from to arms)
+
+-- so were the first alternatives
+abbrev pub ResultArmsBegun : (ℕ → Option ℕ) → List ℕ → ℕ → List ℕ → List ℕ → List (PatC × Res) → Type 0
+ResultArmsBegun entry places high a b arms = Emitted a b (λ code from to. ResultArmsBegin code entry places high from to arms)
 
 module _ {entry : ℕ → Option ℕ} {places : List ℕ} where
   parts_both : {code : List ℕ} {high from mid to : ℕ} {xs ys : List Expr} (top : ℕ) → top ≡ high + length xs → AllRepresent code entry places high from mid xs
@@ -41,25 +46,26 @@ given_last (None ∷ outs) out = given_last outs out
 given_last (Some e ∷ outs) out = ap (λ k. e ∷ k) (given_last outs out)
 
 module _ {entry : ℕ → Option ℕ} {places : List ℕ} {high : ℕ} where
-  pub none_given : {a : List ℕ} → Emitted a a (λ code from to. AllRepresent code entry places high from to [])
+  pub none_given : {a : List ℕ} → PartsDone entry places high a a []
   none_given = record { grown = grows_not; stands = λ code grows. AllRepresent.none }
 
-  pub one_given : {a b : List ℕ} (e : Expr) → Done entry places high a b e → Emitted a b (λ code from to. AllRepresent code entry places high from to (e ∷ []))
+  pub one_given : {a b : List ℕ} (e : Expr) → Done entry places high a b e → PartsDone entry places high a b (e ∷ [])
   one_given {b = b} e d = changed (λ code s. AllRepresent.more (length b) s AllRepresent.none) d
 
   pub given_more : {a b c : List ℕ} (top : ℕ) (outs : List (Option Expr)) (out : Option Expr) → top ≡ high + length (given_outs outs)
-      → Emitted a b (λ code from to. AllRepresent code entry places high from to (given_outs outs))
-      → Emitted b c (λ code from to. AllRepresent code entry places top from to (option_to_list out))
-      → Emitted a c (λ code from to. AllRepresent code entry places high from to (given_outs (outs ++ out ∷ [])))
+      → PartsDone entry places high a b (given_outs outs)
+      → PartsDone entry places top b c (option_to_list out)
+      → PartsDone entry places high a c (given_outs (outs ++ out ∷ []))
   given_more {a = a} {c = c} top outs out is e f =
-      subst (λ k. Emitted a c (λ code from to. AllRepresent code entry places high from to k)) (sym (given_last outs out))
+      subst (λ k. PartsDone entry places high a c k) (sym (given_last outs out))
       (record { grown = grows_more e.grown f.grown; stands = λ code grows. parts_both top is (still e f.grown code grows) (f.stands code grows) })
 
   pub outs_done : {a b c : List ℕ} (mask : ℕ) (outs : List (Option Expr)) → mask ≡ mask_of outs
-      → Emitted a b (λ code from to. AllRepresent code entry places high from to (given_outs outs)) → Added b c (Finish mask) → ResultDone entry places high a c (res.Outs outs)
+      → PartsDone entry places high a b (given_outs outs) → Added b c (Finish mask) → ResultDone entry places high a c (res.Outs outs)
   outs_done {b = b} {c = c} mask outs is e f = record {
     grown = grows_more e.grown f.grown;
-    stands = λ code grows. ResultStands.outputs (length b) (still e f.grown code grows) (subst (λ k. StandsAt code (length b) (Finish k) (length c)) is (f.stands code grows));
+    stands = λ code grows. ResultStands.outputs (length b) (still e f.grown code grows) (subst (λ k. StandsAt code (length b) (Finish k) (length c)) is
+        (f.stands code grows));
   }
 
   pub choice_done : {a b c d f : List ℕ} (second : ℕ) (test : Expr) (x y : Res) → Done entry places high a b test → Added b c (JumpFalse second)
@@ -75,16 +81,18 @@ module _ {entry : ℕ → Option ℕ} {places : List ℕ} {high : ℕ} where
       }
 
   pub case_done : {a b c : List ℕ} (part : Expr) (of : Ty) (arms : List (PatC × Res)) → Done entry places high a b part
-      → Emitted b c (λ code from to. ResultArmsStand code entry places high from to arms) → ResultDone entry places high a c (res.Case part of arms)
+      → ResultArmsDone entry places high b c arms → ResultDone entry places high a c (res.Case part of arms)
   case_done {b = b} part of arms e f = record {
     grown = grows_more e.grown f.grown;
     stands = λ code grows. ResultStands.alternatives of (length b) (still e f.grown code grows) (f.stands code grows);
   }
 
-  pub binding_done : {a b c : List ℕ} (inner : List ℕ) (top : ℕ) (part : Expr) (body : Res) → inner ≡ places ++ high ∷ [] → top ≡ high + 1 → Done entry places high a b part
+  pub binding_done : {a b c : List ℕ} (inner : List ℕ) (top : ℕ) (part : Expr) (body : Res) → inner ≡ places ++ high ∷ [] → top ≡ high + 1
+      → Done entry places high a b part
       → ResultDone entry inner top b c body → ResultDone entry places high a c (res.Let part body)
   binding_done {b = b} {c = c} inner top part body is so e f =
-      let inside : ResultDone entry (places ++ high ∷ []) (high + 1) b c body = subst (λ k. ResultDone entry k (high + 1) b c body) is (subst (λ k. ResultDone entry inner k b c body) so f) in
+      let inside : ResultDone entry (places ++ high ∷ []) (high + 1) b c body = subst (λ k. ResultDone entry k (high + 1) b c body) is (subst
+      (λ k. ResultDone entry inner k b c body) so f) in
       record {
         grown = grows_more e.grown f.grown;
         stands = λ code grows. ResultStands.binding (length b) (still e f.grown code grows) (inside.stands code grows);
@@ -96,18 +104,19 @@ module _ {entry : ℕ → Option ℕ} {places : List ℕ} {high : ℕ} where
     stands = λ code grows. ResultStands.raise_alone exn (length b) (still e f.grown code grows) (f.stands code grows);
   }
 
-  pub raise_with_done : {a b c : List ℕ} (exn : ℕ) (part : Expr) → Done entry places high a b part → Added b c (Raise exn true) → ResultDone entry places high a c (res.Raise exn (Some part))
+  pub raise_with_done : {a b c : List ℕ} (exn : ℕ) (part : Expr) → Done entry places high a b part → Added b c (Raise exn true)
+      → ResultDone entry places high a c (res.Raise exn (Some part))
   raise_with_done {b = b} exn part e f = record {
     grown = grows_more e.grown f.grown;
     stands = λ code grows. ResultStands.raise_with exn (length b) (still e f.grown code grows) (f.stands code grows);
   }
 
   -- alternatives
-  pub no_arms : {a : List ℕ} → Emitted a a (λ code from to. ResultArmsBegin code entry places high from to [])
+  pub no_arms : {a : List ℕ} → ResultArmsBegun entry places high a a []
   no_arms = record { grown = grows_not; stands = λ code grows. record { followed = λ end others s. s } }
 
-  pub arms_more : {a b c : List ℕ} (arms : List (PatC × Res)) (arm : PatC × Res) → Emitted a b (λ code from to. ResultArmsBegin code entry places high from to arms)
-      → Emitted b c (λ code from to. ResultArmsBegin code entry places high from to (arm ∷ [])) → Emitted a c (λ code from to. ResultArmsBegin code entry places high from to (arms ++ arm ∷ []))
+  pub arms_more : {a b c : List ℕ} (arms : List (PatC × Res)) (arm : PatC × Res) → ResultArmsBegun entry places high a b arms
+      → ResultArmsBegun entry places high b c (arm ∷ []) → ResultArmsBegun entry places high a c (arms ++ arm ∷ [])
   arms_more {a = a} arms arm e f = record {
     grown = grows_more e.grown f.grown;
     stands = λ code grows. record {
@@ -116,8 +125,8 @@ module _ {entry : ℕ → Option ℕ} {places : List ℕ} {high : ℕ} where
     };
   }
 
-  pub arms_done : {a b c : List ℕ} (arms : List (PatC × Res)) → Emitted a b (λ code from to. ResultArmsBegin code entry places high from to arms)
-      → Added b c (Raise NO_CASE false) → Emitted a c (λ code from to. ResultArmsStand code entry places high from to arms)
+  pub arms_done : {a b c : List ℕ} (arms : List (PatC × Res)) → ResultArmsBegun entry places high a b arms
+      → Added b c (Raise NO_CASE false) → ResultArmsDone entry places high a c arms
   arms_done {a = a} {c = c} arms e f = record {
     grown = grows_more e.grown f.grown;
     stands = λ code grows.
@@ -130,8 +139,9 @@ module _ {entry : ℕ → Option ℕ} {places : List ℕ} {high : ℕ} where
       → inner ≡ places ++ counted top variables
       → Emitted a b (λ code from to. TestsStand code top other from to tests) → Emitted b c (λ code from to. FieldsStand code top from to spots)
       → ResultDone entry inner inside c d body → other ≡ length d
-      → Emitted a d (λ code from to. ResultArmsBegin code entry places high from to ((p, body) ∷ []))
-  arm_done {a = a} {b = b} {c = c} {d = d} top variables inside other inner p body tests spots top_is tests_is spots_is many inside_is inner_is et ef eb other_is =
+      → ResultArmsBegun entry places high a d ((p, body) ∷ [])
+  arm_done {a = a} {b = b} {c = c} {d = d} top variables inside other inner p body tests spots top_is tests_is spots_is many inside_is inner_is et ef eb
+      other_is =
       let after_fields = eb.grown in
       let after_tests = grows_more ef.grown after_fields in
       let count : variables ≡ length (spots_at p (root high)) = many ∙ ap length spots_is in
@@ -139,19 +149,24 @@ module _ {entry : ℕ → Option ℕ} {places : List ℕ} {high : ℕ} where
         grown = grows_more et.grown after_tests;
         stands = λ code grows. record {
           followed = λ end others s. ResultArmsStand.one_arm (length b) (length c) other
-              (subst (λ k. TestsStand code k other (length a) (length b) (tests_at p (root high))) top_is (subst (λ k. TestsStand code top other (length a) (length b) k) tests_is (still et after_tests code grows)))
-              (subst (λ k. FieldsStand code k (length b) (length c) (spots_at p (root high))) top_is (subst (λ k. FieldsStand code top (length b) (length c) k) spots_is (still ef after_fields code grows)))
+              (subst (λ k. TestsStand code k other (length a) (length b) (tests_at p (root high))) top_is (subst (λ k. TestsStand code top other (length a)
+              (length b) k) tests_is (still et after_tests code grows)))
+              (subst (λ k. FieldsStand code k (length b) (length c) (spots_at p (root high))) top_is (subst (λ k. FieldsStand code top (length b)
+              (length c) k) spots_is (still ef after_fields code grows)))
               (let x : inner ≡ places ++ counted (high + 1) (length (spots_at p (root high))) = inner_is ∙ (λ i. places ++ counted (top_is i) (count i)) in
               let y : inside ≡ high + 1 + length (spots_at p (root high)) = inside_is ∙ (λ i. top_is i + count i) in
-              subst (λ k. ResultStands code entry (places ++ counted (high + 1) (length (spots_at p (root high)))) (high + 1 + length (spots_at p (root high))) (length c) k body) (sym other_is)
+              subst (λ k. ResultStands code entry (places ++ counted (high + 1) (length (spots_at p (root high)))) (high + 1 + length (spots_at p
+              (root high))) (length c) k body) (sym other_is)
               (subst (λ k. ResultStands code entry k (high + 1 + length (spots_at p (root high))) (length c) (length d) body) x
               (subst (λ k. ResultStands code entry inner k (length c) (length d) body) y (eb.stands code grows))))
               (subst (λ k. ResultArmsStand code entry places high k end others) (sym other_is) s);
         };
       }
 
-pub given_long : (outs : List (Option Expr)) (out : Option Expr) (high top next : ℕ) → top ≡ high + length (given_outs outs) → next ≡ top + length (option_to_list out)
+pub given_long : (outs : List (Option Expr)) (out : Option Expr) (high top next : ℕ) → top ≡ high + length (given_outs outs)
+    → next ≡ top + length (option_to_list out)
     → next ≡ high + length (given_outs (outs ++ out ∷ []))
 given_long outs out high top next is so =
-    let l : length (given_outs (outs ++ out ∷ [])) ≡ length (given_outs outs) + length (option_to_list out) = ap length (given_last outs out) ∙ length-append (given_outs outs) (option_to_list out) in
+    let l : length (given_outs (outs ++ out ∷ [])) ≡ length (given_outs outs) + length (option_to_list out) = ap length (given_last outs out)
+    ∙ length-append (given_outs outs) (option_to_list out) in
     omega (arith, is, so, l)

@@ -11,7 +11,7 @@ use std::marker::Model;
 // The most words of an instruction before its path.
 const MOST_WORDS: u64 = 3;
 
-// More than a count of objects' fields may be.
+// The first number that has no room in the low operand of a word.
 const LOW_OPERANDS: u32 = 0x100_0000;
 
 /// A code to which instructions are appended while there is room.

@@ -8,9 +8,11 @@ use Rattle.box_compile.proofs.boxes.emit_for_exception.Goals as goal
 
 pub returns-in-None : goal.returns-in-None
 returns-in-None c =
-    subst (λ (wanted : Option HandC). Emitted c.args.writer.now c.args.writer.now (λ code from to. HandlerFound code (entry_in c.args.entries.now) wanted None)) (sym c.in-None.ensures) handler_none
+    subst (λ (wanted : Option HandC). Emitted c.args.writer.now c.args.writer.now (λ code from to. HandlerFound code
+    (entry_in c.args.entries.now) wanted None)) (sym c.in-None.ensures) handler_none
 
 pub returns-in-Ok : goal.returns-in-Ok
 returns-in-Ok c =
-    subst (λ (wanted : Option HandC). Emitted c.args.writer.now c.emit_handler.new.writer (λ code from to. HandlerFound code (entry_in c.args.entries.now) wanted (Some c.in-Ok.place))) (sym c.in-Some.ensures)
+    subst (λ (wanted : Option HandC). Emitted c.args.writer.now c.emit_handler.new.writer (λ code from to. HandlerFound code
+    (entry_in c.args.entries.now) wanted (Some c.in-Ok.place))) (sym c.in-Some.ensures)
     (handler_some c.in-Some.handler.now c.in-Ok.place c.in-Ok.ensures)

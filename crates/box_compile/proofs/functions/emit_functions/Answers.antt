@@ -16,5 +16,6 @@ loop-i-preserved c =
     record {
       count = one_longer c.loop-i.entries c.push.new.self c.in_ok-entry.entry k c.in_ok-push.ensures.ok c.loop-i.invariant.count;
       stands = functions_more core c.loop-i.entries c.push.new.self c.in_ok-entry.entry function c.in_ok-push.ensures.ok at c.loop-i.invariant.stands
-          (subst (λ (l : List (Option ℕ)). Emitted c.loop-i.writer c.emit_if_needed.new.writer (λ code from to. FunctionStands code (entry_in l) c.in_ok-entry.entry function)) c.as_slice.ensures c.in_ok-entry.ensures);
+          (subst (λ (l : List (Option ℕ)). Emitted c.loop-i.writer c.emit_if_needed.new.writer (λ code from to. FunctionStands code
+          (entry_in l) c.in_ok-entry.entry function)) c.as_slice.ensures c.in_ok-entry.ensures);
     }

@@ -13,7 +13,8 @@ pub loop-i-preserved : goal.loop-i-preserved
 loop-i-preserved c =
     let spots = c.args.spots.now in
     let low : c.loop-i.i < length spots = omega (arith, c.loop-i-test.true, c.loop-i.invariant.count) in
-    let top : c.in_ok-plus.field-0 ≡ c.args.high + length (take c.loop-i.i spots) = (let l = taken_long spots c.loop-i.i (omega (arith, low)) in c.in_ok-plus.ensures ∙ ap (λ k. c.args.high + k) (sym l)) in
+    let top : c.in_ok-plus.field-0 ≡ c.args.high + length (take c.loop-i.i spots) = (let l = taken_long spots c.loop-i.i (omega (arith, low)) in
+    c.in_ok-plus.ensures ∙ ap (λ k. c.args.high + k) (sym l)) in
     record {
       count = c.loop-i.invariant.count;
       stands = subst (λ (found : List Spot). Emitted c.args.writer.now c.emit_field.new.writer (λ code from to. FieldsStand code c.args.high from to found))

@@ -16,5 +16,6 @@ loop-i-preserved c =
     let last = ap (filter_map box_in) (taken_more nodes c.loop-i.i node low at) ∙ filter_last box_in (take c.loop-i.i nodes) node in
     record {
       count = c.loop-i.invariant.count;
-      programs = subst (λ (boxes : List BoxC). AreProgramsFor c.args.core.now boxes c.add_program.new.programs) (sym last) (c.in_ok-add_program.ensures (filter_map box_in (take c.loop-i.i nodes)) c.loop-i.invariant.programs);
+      programs = subst (λ (boxes : List BoxC). AreProgramsFor c.args.core.now boxes c.add_program.new.programs) (sym last) (c.in_ok-add_program.ensures
+          (filter_map box_in (take c.loop-i.i nodes)) c.loop-i.invariant.programs);
     }

@@ -22,4 +22,5 @@ abbrev pub decreases-emit_arm : goal.decreases-emit_arm
 decreases-emit_arm l = 3 * size-Res l.arm.now.1 + 1
 
 abbrev pub invariant-emit_arms-loop-arm : goal.invariant-emit_arms-loop-arm
-invariant-emit_arms-loop-arm l = Emitted l.fn.writer l.writer (λ code from to. ResultArmsBegin code (entry_in l.entries) l.places l.high from to (take l.arm-index l.arms))
+invariant-emit_arms-loop-arm l = Emitted l.fn.writer l.writer (λ code from to. ResultArmsBegin code (entry_in l.entries) l.places l.high from to
+    (take l.arm-index l.arms))

@@ -10,7 +10,8 @@ use Rattle.box_compile.proofs.results.emit_out.Goals as goal
 pub returns-in-None : goal.returns-in-None
 returns-in-None c =
     subst (λ (out : Option Expr). (c.args.high ≡ c.args.high + length (option_to_list out)) × Emitted c.args.writer.now c.args.writer.now
-    (λ code from to. AllRepresent code (entry_in c.args.entries.now) c.args.places.now c.args.high from to (option_to_list out))) (sym c.in-None.is) (omega arith, none_given)
+    (λ code from to. AllRepresent code (entry_in c.args.entries.now) c.args.places.now c.args.high from to (option_to_list out))) (sym c.in-None.is)
+    (omega arith, none_given)
 
 pub returns-in-Ok : goal.returns-in-Ok
 returns-in-Ok c =
