@@ -4,3 +4,4 @@ pub mod KeywordTexts
 pub mod Least
 pub mod SymbolTexts
 pub mod WordsTell
+pub mod FlatLengths

@@ -3,7 +3,8 @@
 //! `size` gives the words of a type (`specs/Sizes.antt`), `line_of` the line of a place (`specs/Places.antt`), and copies equal
 //! their originals. Which values a type has is said by `specs/Values.antt`, and which words they are by `specs/Flat.antt`.
 //! `limits` has every limit of the language, once. Which of several broken rules is told is said by `specs/Least.antt`.
-//! Law: the words of a value tell it apart from every other of its type (`words_tell_values_apart`).
+//! Laws: a value has as many words as its type's size (`values_have_their_sizes`), and they tell it apart from every other of
+//! its type (`words_tell_values_apart`).
 //! It knows nothing of programs, of the bytes of sources or of ports.
 #![tactic(auto)]
 
@@ -28,7 +29,7 @@ pub use boxed::Box;
 pub use copy::{copy_ty, copy_tys, copy_value, copy_values, same_ty};
 pub use finding::{Finding, earlier};
 pub use keyword::Keyword;
-pub use laws::words_tell_values_apart;
+pub use laws::{values_have_their_sizes, words_tell_values_apart};
 pub use list::List;
 pub use place::line_of;
 pub use rule::{Refusal, Rule};

@@ -14,7 +14,7 @@ use std::alloc::{AllocError, Global};
 use std::marker::Model;
 
 /// How many nodes of types a core may hold as trees. A core with more of them is answered with want of memory.
-const TYPE_NODES: usize = 1_048_576;
+const TYPE_NODES: usize = 16_777_216;
 
 /// What is known where an expression stands: the variables with their types, outermost first; a stack of types, the last one
 /// first; and the signatures. What asks for a type of an empty stack is answered with want of memory.

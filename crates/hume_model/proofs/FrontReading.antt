@@ -15,7 +15,7 @@ use Rattle.hume_base.specs.Sizes.{HaveTheirSizes, size_of_sum, named_size, writt
 use Rattle.hume_base.specs.Values.{is_value, is_word_of, is_char_word, is_int_word, all_pass, is_tuple_of, is_vector_of, value_step, is_value_with, is_con_of, is_sum_value, is_named_value, fields_at}
 use Rattle.hume_base.specs.Flat.{flat, joined, word_in, parts_in, flat_step, flat_with, padded, con_words, flat_sum, named_words}
 use Rattle.hume_model.specs.Reading.{HasReadableSize, HaveReadableSizes}
-use Rattle.hume_model.specs.inner.Readers.{Reader, read_word, read_several, made_of, read_con, read_sum, read_step, read_with, read_named}
+use Rattle.hume_model.specs.Readers.{Reader, read_word, read_several, made_of, read_con, read_sum, read_step, read_with, read_named}
 
 -- the values that pass a test are read from their words
 abbrev Reads : (Value → Bool) → (Value → List ℕ) → Reader → Type 0

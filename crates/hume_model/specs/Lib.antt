@@ -6,6 +6,7 @@ pub mod Meaning
 pub mod Calls
 pub mod Typing
 pub mod Reading
+pub mod Readers
 pub mod Results
 pub mod ResultTyping
 pub mod BoxTyping

@@ -2,7 +2,11 @@
 ghost use Rattle.std.specs.Prelude.{◌≡◌, ℕ, ◌<◌, codes, true, List, Option, Some, length, slice_get};
 ghost use Rattle.std.specs.Option.{is_some, option_flatten};
 ghost use Rattle.hume_base.specs.declared.types.Ty.{Ty};
+ghost use Rattle.hume_base.specs.declared.types.Types.{Types};
 ghost use Rattle.hume_base.specs.declared.types.Value.{Value};
+ghost use Rattle.hume_base.specs.Sizes.{HaveTheirSizes};
+ghost use Rattle.hume_base.specs.Values.{is_value};
+ghost use Rattle.hume_base.specs.Flat.{flat};
 ghost use Rattle.hume_model.specs.declared.core_tree.BoxC.{BoxC};
 ghost use Rattle.hume_model.specs.declared.core_tree.Expr.{Expr};
 ghost use Rattle.hume_model.specs.declared.exceptions.TheConstants.{DIV_ZERO, RANGE, NO_CASE};
@@ -22,6 +26,7 @@ ghost use Rattle.hume_model.specs.Handling.{HandlesAll};
 ghost use Rattle.hume_model.specs.OwnExceptions.{own_exceptions, plain_exception};
 ghost use Rattle.hume_model.specs.WellFormed.{HasSmallBoxes, HasSoundParts, IsWellFormed};
 ghost use Rattle.hume_model.specs.Reading.{HaveReadableSizes};
+ghost use Rattle.hume_model.specs.Readers.{value_from};
 
 /// A call gives what the body of the first equation that the arguments match gives in the whole program.
 pub fn calls_unfold()
@@ -84,4 +89,10 @@ pub fn own_exceptions_have_their_numbers()
 /// The types of a well-formed core have sizes that `value_of` can read.
 pub fn well_formed_types_are_readable()
     ensures { (core : Core) → IsWellFormed core → HaveReadableSizes core.types }
+{}
+
+/// The flat words of a value are read back as that value.
+pub fn flat_words_are_read_back()
+    ensures { (types : Types) → HaveTheirSizes types → HaveReadableSizes types
+        → (ty : Ty) (v : Value) → is_value types ty v ≡ true → value_from types ty (flat types ty v) ≡ v }
 {}

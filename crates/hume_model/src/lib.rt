@@ -4,7 +4,7 @@
 //! Definitions: `specs/Meaning.antt` says what an expression comes to, `Firing.antt` what a box does, and `Reading.antt`
 //! which words are those of a value. `WellFormed.antt` says which cores are checked programs. `WireRules.antt` and
 //! `HandlerRules.antt` say what wires and handlers may break, and `Raising.antt` and `Completeness.antt` what may be raised.
-//! Laws: evaluation, results and firing keep types; calls unfold; what a rule takes is there; a box that handles what it
+//! Laws: evaluation, results and firing keep types; calls unfold; flat words are read back; what a rule takes is there; a box that handles what it
 //! raises leaves no output out; and a well-formed core is what these laws ask for.
 //! Knows checked programs: types, expressions, rules, boxes and the wires between them.
 //! Doesn't know sources, supersteps, ports, or how anything runs fast.
@@ -33,7 +33,7 @@ pub use evaluate::eval_plain;
 pub use exceptions::{DIV_ZERO, NO_CASE, RANGE, own_exceptions};
 pub use firing::first_firing;
 pub use laws::{
-    calls_unfold, evaluation_keeps_types, firing_keeps_types, handled_boxes_give_all_outputs,
+    calls_unfold, evaluation_keeps_types, firing_keeps_types, flat_words_are_read_back, handled_boxes_give_all_outputs,
     own_exceptions_have_their_numbers, results_keep_types, well_formed_cores_are_sound,
     well_formed_types_are_readable, what_is_taken_is_there,
 };

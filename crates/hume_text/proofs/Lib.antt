@@ -15,5 +15,4 @@ pub mod FieldReading
 pub mod ConReading
 pub mod TypeReading
 pub mod NamedReading
-pub mod FlatLengths
 pub mod LinesRead

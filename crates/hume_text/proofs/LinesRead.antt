@@ -14,7 +14,7 @@ use Rattle.hume_text.specs.Read.{is_blank, behind, IsTextOf, IsReadable}
 use Rattle.hume_text.specs.inner.Readers.{Reading, read_with, read_named}
 use Rattle.hume_text.proofs.Inversions.{none_some, same_pair}
 use Rattle.hume_text.proofs.NamedReading.{values_read}
-use Rattle.hume_text.proofs.FlatLengths.{flat_long}
+use Rattle.hume_base.proofs.FlatLengths.{flat_long}
 
 pub no_bytes : (bytes : List ℕ) → (length bytes == 0) ≡ true → bytes ≡ []
 no_bytes [] e = refl

@@ -4,12 +4,12 @@ use mir.ValLaws.{to_z-Fits}
 use Rattle.std.specs.Int.Signed.{mag}
 use Rattle.std.proofs.Math.Pow.{pow_mono}
 use Rattle.std.proofs.lemmas.List.{length-map}
-use Rattle.std.proofs.lemmas.List.Sums.{sum_by-cons}
 use Rattle.std.proofs.Math.Nat.{suc-mul}
 use Rattle.std.proofs.lemmas.Bool.{and_parts, eqb-true, ltb-true, leb-true, cases_eq, eq-eqb, ne_eqb}
 use Rattle.std.proofs.lemmas.Fmt.{length_signed_le, length-decimal-le}
 use Rattle.std.specs.Fmt.{decimal, signed_decimal}
 use Rattle.std.specs.List.{list_all, flat_map, AllByRecursion}
+use Rattle.hume_base.proofs.FlatLengths.{sum_more, sizes_at}
 use Rattle.hume_base.specs.declared.types.Ty.{Ty, roll-Ty, map-Ty, fold-roll-Ty, ind-Ty}
 use Rattle.hume_base.specs.declared.types.Ty.TheOpen.{Ty-F}
 use Rattle.hume_base.specs.declared.types.Value.{Value, out-Value}
@@ -28,9 +28,6 @@ use Rattle.hume_text.proofs.ValuePrinting.{written-append, several, enclosed, ap
 
 abbrev long : List Piece → ℕ
 long pieces = length (written pieces)
-
-pub sum_more : (n : ℕ) (ns : List ℕ) → sum (n ∷ ns) ≡ n + sum ns
-sum_more n ns = sum_by-cons (λ x. x) n ns
 
 module _ (test : Ty → Value → Bool) (spelled : Ty → Value → List Piece) (size : Ty → ℕ) where
   -- no text of a value of the type is too long for the type's words; a type that is less deep leaves room for brackets around it
@@ -223,12 +220,6 @@ cons_at : (cons : List ConDef) → AllByRecursion IsWritableCon cons → (c : �
 cons_at [] w c = (omega arith, tt)
 cons_at (con ∷ cons) w zero = (w.0.name, w.0.fields)
 cons_at (con ∷ cons) w (suc c) = cons_at cons w.1 c
-
-pub sizes_at : (nz : ℕ → ℕ) (cons : List ConDef) (c : ℕ)
-    → sum (map (size_with nz) (fields_of (slice_get cons c))) ≤ greatest (map (λ (con : ConDef). sizes_with nz con.fields) cons)
-sizes_at nz [] c = omega arith
-sizes_at nz (con ∷ cons) zero = omega arith
-sizes_at nz (con ∷ cons) (suc c) = let later = sizes_at nz cons c in omega (arith, later)
 
 module _ (nt : ℕ → Value → Bool) (ns : ℕ → Value → List Piece) (nz : ℕ → ℕ) (named : (k : ℕ) (v : Value) → nt k v ≡ true
     → long (ns k v) + 259 ≤ 512 * nz k + 4 * 1)

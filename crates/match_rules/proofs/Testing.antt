@@ -24,7 +24,7 @@ use Rattle.hume_model.specs.Patterns.{matches, matches_all, both_match, match_wo
 use Rattle.hume_model.specs.Typing.{IsPattern, ArePatterns, AreOf}
 use Rattle.hume_model.proofs.Layers.{out-word, variable-match, any-match, word-match, con-match, tuple-match, tuple-value}
 use Rattle.hume_model.proofs.Fields.{data-value}
-use Rattle.hume_text.proofs.FlatLengths.{flat_long}
+use Rattle.hume_base.proofs.FlatLengths.{flat_long}
 use Rattle.box_costs.proofs.CostSteps.{sum_more}
 use Rattle.match_rules.specs.inner.WordTests.{Test, begins_with, fields_in, con_fields, tuple_parts, tests_pass, test_step, word_test}
 use Rattle.match_rules.proofs.FieldWords.{tuple_words, data_words, out-named, out-tuple}

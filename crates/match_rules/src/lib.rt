@@ -7,8 +7,7 @@
 //! Laws: an order has each rule once (`orders_have_each_rule_once`), cells of the wires that lead to a box are those of its inputs
 //! (`cells_of_wires_are_inputs`), what is left in them are the values left on their wires (`cells_hold_what_is_left`), and what is
 //! built takes the words that a firing spends (`built_inputs_are_those_of_firings`).
-//! It knows patterns, types and flat words. It doesn't know results, handlers, code and times. It stands on `hume_text` for a lemma
-//! alone: that a value has as many words as its type's size.
+//! It knows patterns, types and flat words. It doesn't know results, handlers, code and times.
 #![tactic(auto)]
 
 mod building;

@@ -7,7 +7,7 @@ use Rattle.hume_base.specs.declared.types.Types.{Types}
 use Rattle.hume_base.specs.declared.types.Value.{Value}
 use Rattle.hume_base.specs.Sizes.{size_of}
 use Rattle.hume_model.specs.ResultTyping.{are_outputs}
-use Rattle.hume_text.proofs.FlatLengths.{flat_long}
+use Rattle.hume_base.proofs.FlatLengths.{flat_long}
 use Rattle.box_heap.specs.Outputs.{OutputView, absent}
 use Rattle.box_machine.specs.Running.{HaveRoom}
 use Rattle.code_meaning.specs.Ending.{flat_outputs}

@@ -6,7 +6,7 @@
 //! Law: a rule that is ready to run ends in the room that there is (`ready_rules_end`).
 //!
 //! It knows what cores mean and spend, and the machine that runs code. It doesn't know how code is made, nor how inputs are
-//! built. It stands on `hume_text` for a lemma alone: that a value has as many words as its type's size.
+//! built.
 #![tactic(auto)]
 
 mod laws;

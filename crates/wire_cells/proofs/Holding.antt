@@ -13,7 +13,7 @@ use Rattle.hume_base.specs.Flat.{flat}
 use Rattle.hume_model.specs.declared.core_tree.WireC.{WireC}
 use Rattle.hume_model.specs.declared.core_tree.Core.{Core}
 use Rattle.hume_model.specs.WellFormed.{HasSoundFrame}
-use Rattle.hume_text.proofs.FlatLengths.{flat_long}
+use Rattle.hume_base.proofs.FlatLengths.{flat_long}
 use Rattle.wire_cells.specs.Cells.{CellView, Holds, first_cell}
 
 initial_typed : (types : Types) (ty : Ty) (initial : Option Value) → ((v : Value) → initial ≡ Some v → is_value types ty v ≡ true)

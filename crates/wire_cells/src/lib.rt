@@ -6,8 +6,7 @@
 //! Laws: from the words that `flatten` writes, `value_of` of `hume_model` reads the value, and the other way round
 //! (`value_of_undoes_flatten`, `flatten_undoes_value_of`); a cell begins with its wire's initial value
 //! (`first_cells_hold_initial_values`), shows the oldest, and holds what is asserted and not taken (`cells_hold_values`).
-//! It knows types, values and the wires of a core; it doesn't know nodes, streams and times. It stands on `hume_text` for a
-//! lemma alone: that a value has as many words as its type's size.
+//! It knows types, values and the wires of a core; it doesn't know nodes, streams and times.
 #![tactic(auto)]
 
 mod cell;

@@ -1,7 +1,7 @@
 use Rattle.std.proofs.Common.{◌≡◌, ◌∙◌, length, arith, sym, ap, subst, ℕ}
 use Rattle.hume_base.specs.Flat.{flat}
 use Rattle.hume_base.specs.Sizes.{size_of}
-use Rattle.hume_text.proofs.FlatLengths.{flat_long}
+use Rattle.hume_base.proofs.FlatLengths.{flat_long}
 use Rattle.wire_cells.specs.inner.Written.{flat_below, IsWritten}
 use Rattle.wire_cells.proofs.Writing.{exact-sizes, written-whole}
 use Rattle.wire_cells.proofs.flat_words.flatten.Goals as goal

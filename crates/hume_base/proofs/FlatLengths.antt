@@ -3,6 +3,7 @@ use Rattle.std.proofs.Common.{◌≡◌, ℕ, zero, suc, ◌+◌, ◌-◌, ◌*�
 use Rattle.std.proofs.Math.Nat.{suc-mul}
 use Rattle.std.proofs.lemmas.Bool.{and_parts, eqb-true}
 use Rattle.std.proofs.lemmas.List.{length-replicate}
+use Rattle.std.proofs.lemmas.List.Sums.{sum_by-cons}
 use Rattle.std.specs.List.{list_all, flat_map}
 use Rattle.hume_base.specs.declared.types.Ty.{Ty, roll-Ty, map-Ty, fold-roll-Ty, ind-Ty}
 use Rattle.hume_base.specs.declared.types.Ty.TheOpen.{Ty-F}
@@ -12,9 +13,20 @@ use Rattle.hume_base.specs.declared.types.Types.{Types}
 use Rattle.hume_base.specs.declared.types.SumDef.{SumDef}
 use Rattle.hume_base.specs.declared.types.ConDef.{ConDef}
 use Rattle.hume_base.specs.Sizes.{size_step, size_with, sizes_with, greatest, size_of_sum, named_size, size_of}
-use Rattle.hume_base.specs.Values.{is_value, all_pass, is_tuple_of, is_vector_of, value_step, is_value_with, is_con_of, is_sum_value, is_named_value, fields_at}
+use Rattle.hume_base.specs.Values.{is_value, all_pass, is_tuple_of, is_vector_of, value_step, is_value_with, is_con_of, is_sum_value, is_named_value, fields_of, fields_at}
 use Rattle.hume_base.specs.Flat.{flat, joined, parts_in, flat_step, flat_with, padded, con_words, flat_sum, named_words}
 use Rattle.hume_text.proofs.TextLengths.{sum_more, sizes_at}
+
+-- one number more in a sum
+pub sum_more : (n : ℕ) (ns : List ℕ) → sum (n ∷ ns) ≡ n + sum ns
+sum_more n ns = sum_by-cons (λ x. x) n ns
+
+-- the fields of a constructor have no more words than those of the one that has most
+pub sizes_at : (nz : ℕ → ℕ) (cons : List ConDef) (c : ℕ)
+    → sum (map (size_with nz) (fields_of (slice_get cons c))) ≤ greatest (map (λ (con : ConDef). sizes_with nz con.fields) cons)
+sizes_at nz [] c = omega arith
+sizes_at nz (con ∷ cons) zero = omega arith
+sizes_at nz (con ∷ cons) (suc c) = let later = sizes_at nz cons c in omega (arith, later)
 
 abbrev Long : (Value → Bool) → (Value → List ℕ) → ℕ → Type 0
 Long t f n = (v : Value) → t v ≡ true → length (f v) ≡ n
