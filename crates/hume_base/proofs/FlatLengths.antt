@@ -15,7 +15,6 @@ use Rattle.hume_base.specs.declared.types.ConDef.{ConDef}
 use Rattle.hume_base.specs.Sizes.{size_step, size_with, sizes_with, greatest, size_of_sum, named_size, size_of}
 use Rattle.hume_base.specs.Values.{is_value, all_pass, is_tuple_of, is_vector_of, value_step, is_value_with, is_con_of, is_sum_value, is_named_value, fields_of, fields_at}
 use Rattle.hume_base.specs.Flat.{flat, joined, parts_in, flat_step, flat_with, padded, con_words, flat_sum, named_words}
-use Rattle.hume_text.proofs.TextLengths.{sum_more, sizes_at}
 
 -- one number more in a sum
 pub sum_more : (n : ℕ) (ns : List ℕ) → sum (n ∷ ns) ≡ n + sum ns
