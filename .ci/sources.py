@@ -121,6 +121,11 @@ class Function:
     def full_name(self):
         return "::".join(it for it in (self.crate, self.owner, self.name) if it)
 
+    def public_name(self):
+        """Its name with that of the module folder in which it stands, if it stands in one."""
+        inside = os.path.relpath(os.path.dirname(self.path), os.path.join(TOP, "crates", self.crate, "src"))
+        return "::".join(it for it in (self.crate, *inside.replace(".", "").split(os.sep), self.owner, self.name) if it)
+
 
 def crates():
     return sorted(os.listdir(os.path.join(TOP, "crates")))
@@ -234,11 +239,14 @@ def target(imports, module, word, known):
     if at in known and name and name in known[at].defined:
         return known[at].defined[name]
     m = re.match(r"Rattle\.(\w+)\.specs\.declared\.(.+)", at)
-    return ("type", m.group(1), m.group(2)) if m else None
+    if not m:
+        return None
+    return "type", m.group(1), m.group(2) + (f".{name}" if m.group(2).endswith(".TheConstants") else "")
 
 
-def reached(starts, known):
-    """The definitions reached from these words, in the order in which they are met: each definition before what it cites."""
+def reached(starts, known, stop=()):
+    """The definitions reached from these words, in the order in which they are met: each definition before what it cites. What only
+    those of `stop` cite isn't reached."""
     order, types, queue = [], [], list(starts)
     while queue:
         it = queue.pop(0)
@@ -249,6 +257,8 @@ def reached(starts, known):
         if it is None or it in order:
             continue
         order.append(it)
+        if it in stop:
+            continue
         text = re.sub(r"--.*", "", it.text)
         words = list(dict.fromkeys(re.findall(NAME + r"(?:\." + NAME + r")?", text)))
         near = [target(it.module.imports, it.module, w.split(".")[0], known) for w in words]
