@@ -25,7 +25,8 @@ def groups():
 def heads(crate):
     """The crate and its public modules, each with the paragraphs of its head."""
     for path, folder in roots(crate):
-        name = crate if folder == os.path.dirname(path) else f"{crate}::{os.path.relpath(folder, os.path.join(TOP, 'crates', crate, 'src')).replace(os.sep, '::')}"
+        inside = os.path.relpath(folder, os.path.join(TOP, "crates", crate, "src"))
+        name = crate if inside == "." else "::".join((crate, *inside.split(os.sep)))
         if name != crate and not os.path.isdir(folder):
             continue
         lines = [re.sub(r"^//! ?", "", it).strip() for it in read(path).split("\n") if it.startswith("//!")]
