@@ -1,9 +1,11 @@
-//! Cores without functions and results: all that is asked of a core where wires, streams and the matching of rules are run.
+//! Cores without functions and results: what code that only matches, queues and asserts needs of a core.
 //!
-//! Main call: `bare`. `specs/Bare.antt` says what the bare form of a core is.
-//! Law: the bare form of a core whose frame is sound has a sound frame (`bare_forms_keep_the_frame`).
+//! Main call: `bare`. `Bare.antt` defines the bare form of a core.
 //!
-//! It knows cores. It doesn't know what they mean, nor who uses their bare form.
+//! Proved: `bare` gives exactly the core without its functions, with rules and handlers that give nothing (`bare_of`). Law: the
+//! bare form of a core with a sound frame has one (`bare_forms_keep_the_frame`).
+//!
+//! It knows cores. It doesn't know what they mean, or who uses their bare form.
 #![tactic(auto)]
 
 mod cores;

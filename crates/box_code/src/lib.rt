@@ -1,13 +1,15 @@
-//! The code of boxes: instructions, how they stand in words, and which code stands for which box.
+//! The code of boxes: instructions, their words, what they do, and which code stands for which box.
 //!
-//! `Instr` has the instructions, `Code` their words, which `Code::push` appends and `decode` reads, and `BoxProgram` is a box
-//! as code. How an instruction stands in words is said in `specs/Words.antt`, what it does in `specs/Machine.antt`, which code
-//! stands for which expression, result and function in `specs/Represents.antt`, and which program for which box in
-//! `specs/RepresentsBox.antt`.
-//! Laws: what stands at a place is read there (`what_stands_is_read`), what is appended stands at the end
-//! (`what_is_appended_stands`), and what stands stays when words are appended (`code_may_grow`).
+//! `Instr` is an instruction, `Code` holds words that `Code::push` appends and `decode` reads, and `BoxProgram` is a box as
+//! code. `Words.antt` says how an instruction is stored, `Machine.antt` what it does, `Represents.antt` which code stands for
+//! which expression, result and function, and `RepresentsBox.antt` which program for which box.
 //!
-//! It knows cores, their bounds, words and objects. It doesn't know how a core becomes code, nor what runs it.
+//! Proved: `Code::push` appends exactly the words of an instruction, and `decode` gives the instruction at a place, with the
+//! place after it. Laws: an instruction that stands at a place is read there (`what_stands_is_read`), an appended one stands at
+//! the end (`what_is_appended_stands`), and code that stands for something still does when words are appended
+//! (`code_may_grow`).
+//!
+//! It knows cores, their bounds, words and objects. It doesn't know how a core becomes code, or what runs it.
 #![tactic(auto)]
 
 mod code;

@@ -1,10 +1,15 @@
-//! From checked cores to the code of boxes.
+//! The compiler: from checked cores to the code of boxes.
 //!
-//! Main call: `compile` gives each box of a core its program. What those programs have to be is said in `specs/Programs.antt`,
-//! by `RepresentsBox` of `box_code`. Words are only appended: `specs/inner/Emitted.antt` says what then stands where. How many
-//! words a form takes is counted before they are written, and compared afterwards (`src/sizes.rt`).
+//! Main call: `compile`, which gives each box of a core its program. `Programs.antt` defines what those programs have to be, by
+//! `RepresentsBox` of `box_code`. Words are only appended: the private `Emitted.antt` says what then stands where.
+//! `src/sizes.rt` counts the words of a form before they are written, and they are compared afterwards.
 //!
-//! It knows cores, their bounds, and which code stands for which form. It doesn't know what runs the code, or the inputs of a run.
+//! Proved: `compile` gives a program for each box of a core, in source order, and each represents its box (`RepresentsBox`):
+//! each rule, handler and function stands in its code, and its bounds are those that are printed. The one other answer is
+//! `NoMemory`.
+//!
+//! It knows cores, their bounds, and which code stands for which form. It doesn't know what runs the code, or the inputs of a
+//! run.
 #![tactic(auto)]
 
 mod boxes;

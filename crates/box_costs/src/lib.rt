@@ -1,9 +1,14 @@
-//! What the evaluation of expressions, results, rules and boxes takes, and the most that it may take, in heap, stack and work.
+//! How much heap, stack and work the evaluation of expressions, results, rules and boxes takes, and how much it may take at
+//! most; definitions and laws, nothing runs.
 //!
-//! Nothing runs here: the functions are laws. `specs/Costs.antt` says how costs make up others, `Bounds.antt` what the form of
-//! an expression, a rule or a box allows, `Spending.antt` and `ResultSpending.antt` what one evaluation takes, `Building.antt`
-//! what it takes to build an input, `Straight.antt` where nothing is chosen, and `CostRules.antt` what is too much.
-//! Laws: what evaluates is the meaning, what is taken is at most the bound, and where nothing is chosen it is the bound.
+//! `Costs.antt` says how costs are combined, `Bounds.antt` what the form of an expression, a rule or a box allows,
+//! `Spending.antt` and `ResultSpending.antt` what one evaluation takes, `Building.antt` what building an input takes,
+//! `Straight.antt` where nothing is chosen, and `CostRules.antt` what exceeds the limits.
+//!
+//! Proved: the evaluation that counts its costs is the meaning (`what_spends_is_the_meaning`). No evaluation takes more heap,
+//! stack or work than the bound of its form, whatever the values, and neither does a rule that fits, or a box that fires, on
+//! values of its inputs' types (`bounds_are_kept`). Where nothing is chosen and nothing is raised it takes exactly the bound,
+//! each of the three by itself (`bounds_are_met`).
 //!
 //! It knows the words of heap and stack and the instructions of each form. It doesn't know code or machines.
 #![tactic(auto)]

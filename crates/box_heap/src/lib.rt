@@ -1,12 +1,16 @@
-//! The memory of a box while it runs: a heap of objects, a stack of words, and a buffer of the outputs' words.
+//! The memory of a box that runs as code: a heap of objects, a stack of words, and a buffer for the words of its outputs.
 //!
-//! `BoxHeap` holds objects, each with a tag and fields, one behind another, `BoxStack` words, and `OutBuf` those of each output
-//! that is present. All take their memory when they are made, and none later; heap and stack know the most that they held.
-//! What they hold is said in `specs/Heaps.antt`, `Stacks.antt` and `Outputs.antt`, and which words stand for which values in
-//! `specs/Standing.antt`.
-//! Laws: what is put into a heap is found at its place, and stays there (`objects_stay`); words go on to stand for their values
-//! (`standing_words_stay`), and so does an object whose fields stand for the parts of a value (`put_objects_stand`).
-//! It knows words, objects and values. It doesn't know types, boxes and code.
+//! `BoxHeap` holds objects, each with a tag and fields, one after another; `BoxStack` holds words; `OutBuf` holds the words of
+//! each output that is present. Each takes its memory in `make` and none later. Heap and stack record the most that they held.
+//! `Heaps.antt`, `Stacks.antt` and `Outputs.antt` define what they hold, and `Standing.antt` which words stand for which
+//! values.
+//!
+//! Proved: each call of `BoxHeap`, `BoxStack` and `OutBuf` changes what they hold exactly as its name says, takes no memory
+//! after `make`, and keeps the peak of heap and stack exact. Laws: an object that is put into a heap is found at its place and
+//! stays there (`objects_stay`); a word still stands for its value after objects are put (`standing_words_stay`), and an object
+//! whose fields stand for the parts of a value stands for it (`put_objects_stand`).
+//!
+//! It knows words, objects and values. It doesn't know types, boxes or code.
 #![tactic(auto)]
 
 mod heap;

@@ -1,11 +1,14 @@
-//! Inputs for a single box: values from texts, made at random, and in cells.
+//! Inputs for a single box: values read from texts or made at random, and put into cells.
 //!
-//! `read_inputs` reads a text for each input of a box, `random_inputs` makes such texts from numbers that only look random, and
-//! `input_values` gives the values themselves. `make_cells` makes the cells of a box's inputs, and `fill_cells` puts just these
-//! values into them: it takes no memory. `specs/Inputs.antt` says what inputs are, and `specs/InputCells.antt` which cells are those of a box.
-//! It has no laws: its calls keep what the calls of the crates below ask for.
+//! Main calls: `read_inputs` reads a text for each input of a box, `random_inputs` makes such texts from pseudo-random numbers,
+//! and `input_values` gives the values themselves. `make_cells` makes the cells of a box's inputs, and `fill_cells` puts these
+//! values into them without taking memory. `Inputs.antt` defines inputs, and `InputCells.antt` which cells are those of a box.
 //!
-//! It knows the types and the wires of a box's inputs. It doesn't know rules, code, sources, nor what is made of the inputs.
+//! Proved: inputs have the words of values of their types; cells that are made are those of the box's inputs, and stay so when
+//! they are filled. No clause says which values cells hold then. It has no laws.
+//!
+//! It knows the types and the wires of a box's inputs. It doesn't know rules, code, sources, or what is computed from the
+//! inputs.
 #![tactic(auto)]
 
 mod cells;

@@ -1,11 +1,15 @@
-//! The machine that runs the code of boxes.
+//! The machine that runs the code of a rule on heap and stack.
 //!
-//! `run_rule` runs the code of a rule on a heap and a stack that hold what its inputs are built to, up to the outputs, which it
-//! writes as flat words, and counts the instructions. It takes no memory and has no refusal. What it asks, that the code ends
-//! within the program's work and that there is room for what it puts, is said in `specs/Running.antt`, and so is what it
-//! leaves: heap, stack, outputs and answer are those of the machine of `box_code` at its end.
-//! It has no laws: that the code of a box ends so, and with the outputs of the meaning, is said above it.
-//! It knows instructions, words, objects and types. It doesn't know expressions, rules and wires.
+//! Main call: `run_rule`. It starts with a heap and a stack that hold the built inputs, runs up to the outputs, writes these as
+//! flat words, and counts the instructions. `Running.antt` says what it requires, that the code ends within the program's work
+//! and that there is room for what it puts, and what it leaves.
+//!
+//! Proved: `run_rule` leaves heap, stack with its peak, outputs, answer and number of instructions exactly as the machine that
+//! `box_code` defines has them at its end, wherever that machine ends within the program's work and has room for what it puts
+//! (`EndsInRoom`). It takes no memory and refuses nothing. It has no laws: `code_meaning` proves that the code of a box ends
+//! so, with the outputs of the meaning.
+//!
+//! It knows instructions, words, objects and types. It doesn't know expressions, rules or wires.
 #![tactic(auto)]
 
 mod arithmetic;

@@ -1,11 +1,13 @@
-//! Trials of single boxes of a source, for those who work on this repository: `box_trials FORM SOURCE ..`.
+//! A program for work on this repository, `box_trials FORM SOURCE ..`: it runs single boxes of a source as code and compares
+//! them with the plain evaluator.
 //!
-//! The forms are those of `Form` (`src/order.rt`): the code of a box with the words of its inputs, the same execute step made many
-//! times over, one execute step with all that comes of it, and a comparison of each box with the plain evaluator. Status 1 says
-//! that a box differs, and 2 that there is no trial; why is told on the standard error.
-//! It has no laws: each call keeps what `CompiledBox` and the calls for inputs ask for.
+//! `Form` (`src/order.rt`) lists its forms: the code of a box with the words of its inputs, the same execute step made many
+//! times, one execute step with its results, and a comparison of each box with the plain evaluator. Status 1 says that a box
+//! differs, and 2 that there is no trial; the standard error says why.
 //!
-//! It knows accepted sources, compiled boxes and the plain evaluator. It doesn't know nets, wires that join boxes, and times.
+//! Proved: it is safe, and runs boxes only as `CompiledBox` requires. What it prints has no contract.
+//!
+//! It knows accepted sources, compiled boxes and the plain evaluator. It doesn't know nets, wires that join boxes, or times.
 #![tactic(auto)]
 
 ghost use Rattle.box_trials.specs.inner.Trials.{IsOfSource};

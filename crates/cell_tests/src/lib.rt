@@ -1,6 +1,8 @@
-//! Tests of heaps, outputs and orders of rules: worked examples of what their definitions say.
+//! Tests of heaps, outputs, orders of rules and firings on cells: worked examples of their definitions.
 //!
-//! Knows: the public calls of `box_heap` and `match_rules`. Doesn't know: cores and code.
+//! Proved: nothing; tests alone.
+//!
+//! It knows the public calls of `box_heap` and `match_rules`. It doesn't know cores and code.
 #![tactic(auto)]
 
 #[cfg(test)]

@@ -1,11 +1,14 @@
-//! What code does: a machine that runs it comes to what the core means, and spends what the core spends.
+//! Why code is right: a machine that runs it computes what the core means and spends what the core spends; definitions and
+//! laws, nothing runs.
 //!
-//! Nothing runs here: the functions are laws. Where code stands for an expression, a result, a handler or a rule (`box_code`),
-//! the machine of `box_code` comes to a word for the value, to the outputs, or to the handler of what is raised: with just as
-//! many words in new objects, just as high a stack and just as many instructions as the evaluation spends (`box_costs`).
-//! `specs/Running.antt` says what a machine comes to, `Variables.antt` where variables stand, `Ending.antt` how a machine ends,
-//! and `RuleEnding.antt` what comes of a whole rule.
-//! Laws: `expressions_run`, `results_run`, `handlers_run`, `rules_run`.
+//! `Running.antt` says what a machine reaches, `Variables.antt` where variables stand, `Ending.antt` how a machine ends, and
+//! `RuleEnding.antt` what a whole rule leaves.
+//!
+//! Proved: of every core whose parts are sound: on a machine where words stand for the variables, code that represents an
+//! expression reaches a word for its value, or the handler with a word for what is raised (`expressions_run`); a result ends
+//! with the flat words of its outputs (`results_run`, `handlers_run`); a program that represents a box runs each rule that fits
+//! to the outputs of the meaning, and says which exception was handled (`rules_run`). Each time the words of new objects, the
+//! peak of the stack and the number of instructions are exactly what the evaluation spends.
 //!
 //! It knows the meaning of cores, what it spends, code and the machine. It doesn't know how code is made or stored.
 #![tactic(auto)]

@@ -1,13 +1,20 @@
-//! Boxes of a net that run as code.
+//! Boxes of a net that run as code: their execute step, on cells, in exactly the printed heap and stack.
 //!
-//! A `CompiledBox` is a box with its program, the order of its rules, a heap and a stack of just the printed lengths, and its
-//! pending outputs. `CompiledBox::execute` makes its execute step over the cells of its inputs: it takes no memory, and is handed
-//! the bare forms of core and box alone. `output` gives the words of outputs that are pending, and `forget_outputs` drops them.
-//! `specs/Views.antt` says what a compiled box has; `specs/Boxes.antt`, when it is at a part of a state, and that the step leaves
-//! it where the execute step of the meaning leaves that part; `specs/Steps.antt`, what the step takes.
-//! It has no laws: what it says rests on those of the crates below.
+//! A `CompiledBox` is a box with its program, the order of its rules, a heap and a stack of exactly the printed lengths, and
+//! its pending outputs. `CompiledBox::execute` makes its execute step over the cells of its inputs: it takes no memory, and
+//! gets only the bare forms of core and box, so it can make outputs by the code alone. `output` gives the words of a pending
+//! output, and `forget_outputs` drops them. `Views.antt` says what a compiled box has, `Boxes.antt` when it is at a part of a
+//! state and where the step leaves it, and `Steps.antt` what the step takes.
 //!
-//! It knows rules, cells, programs and the machine. It doesn't know how code is made, and it knows neither times nor super steps.
+//! Proved: `CompiledBox::execute` makes the execute step of the meaning: from a box that is at a part of a state (`IsBoxAt`:
+//! its program represents the box, it has the part's order of rules and its pending outputs as flat words) and cells that hold
+//! what is on the wires of its inputs, to box and cells as the step leaves them (`HasExecuted`), with peaks of heap and stack
+//! and a number of instructions that are exactly what the step spends. The box is one of a well-formed core that handles all
+//! that its rules raise. `make` gives heap and stack the printed lengths. `output` gives exactly the pending words, none where
+//! the output is absent; `forget_outputs` changes nothing else; `is_pending` says whether outputs are pending, and nothing
+//! calls it yet. It has no laws: its contracts rest on those of the crates below.
+//!
+//! It knows rules, cells, programs and the machine. It doesn't know how code is made, times, or super steps.
 #![tactic(auto)]
 
 mod compiled;

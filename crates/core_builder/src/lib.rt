@@ -1,8 +1,11 @@
-//! Cores of larger forms, made of those of their parts.
+//! Stacks of cores, from which the cores of larger expressions and patterns are made.
 //!
-//! `Builder` has two stacks, one of cores of expressions and one of patterns, each with whether a literal in it is out of the
-//! range of its type. A call takes the parts off and puts the whole on (`specs/Stacks.antt`, and `Cores.antt` of
-//! `hume_typing`). So whoever goes over an expression holds no tree himself.
+//! `Builder` has a stack of cores of expressions and one of patterns, each with whether a literal in it is out of the range of
+//! its type. A call takes the parts off and pushes the whole (`Stacks.antt`, and `Cores.antt` of `hume_typing`). So code that
+//! visits an expression holds no tree itself.
+//!
+//! Proved: each call takes the parts off the stacks and pushes exactly the core that `hume_typing` gives the whole
+//! (`Stacks.antt`).
 //!
 //! It knows cores. It doesn't know expressions, types of variables, or which core belongs to what.
 #![tactic(auto)]

@@ -1,13 +1,14 @@
-//! The functions of a program's core, and its boxes and streams.
+//! The functions, boxes and streams of a program's core.
 //!
-//! `functions_in_order` makes the functions in the order of their numbers, and `nodes` the boxes and streams in the
-//! order of their declarations: just those that `hume_check/specs/CoreOf.antt` says. Both stop where something that a
-//! declaration says has no type (`specs/Untyped.antt`).
+//! Main calls: `functions_in_order` makes the functions in the order of their numbers, and `nodes` the boxes and streams in the
+//! order of their declarations (`CoreOf.antt` of `hume_check`). The cores of equations, rules and handlers come from
+//! `hume_functions` and `hume_boxes`; here they get their names, lines, signatures and ports. Both calls stop where something
+//! in a declaration has no type (`Untyped.antt`).
 //!
-//! The cores of equations, rules and handlers are those of `hume_functions` and `hume_boxes`. Here they get their
-//! names, lines, signatures and ports.
+//! Proved: `functions_in_order` makes exactly the functions of the core, and `nodes` its boxes and streams, for a program of
+//! these signatures; they answer `NoType` only where something in a declaration has no type.
 //!
-//! It knows whole declarations, their lines and their signatures. It doesn't know how cores are found, nor wires.
+//! It knows whole declarations, their lines and their signatures. It doesn't know how cores are found, or wires.
 #![tactic(auto)]
 
 mod boxes;

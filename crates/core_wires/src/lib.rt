@@ -1,13 +1,14 @@
 //! The wires of a program's core.
 //!
-//! `wires` makes them in the order of their declarations, by the nodes of the core and the signatures of the program: each
-//! the one that `IsWireOf` of `hume_check/specs/CoreOf.antt` means. There are none where a declared wire has no core, as
-//! `specs/Missing.antt` says: an end of it is nowhere, or its first value is none of its type.
+//! Main call: `wires` makes them in the order of their declarations, by the nodes of the core and the signatures of the program
+//! (`IsWireOf` in `CoreOf.antt` of `hume_check`). It takes time for each wire and for the inputs and outputs of the boxes at
+//! its ends, not for the number of boxes.
 //!
-//! It takes time for each wire and for the inputs and outputs of the boxes at its ends, not for the number of boxes.
+//! Proved: `wires` makes exactly the wires of the core, and gives none only where a declared wire has no core (`Missing.antt`):
+//! one of its ends is nowhere, or its first value isn't of its type.
 //!
-//! It knows declarations, nodes with their names, types and the lines of a source. It doesn't know rules, nor whether an
-//! input or an output has a wire.
+//! It knows declarations, nodes with their names, types and the lines of a source. It doesn't know rules, or whether an input
+//! or an output has a wire.
 #![tactic(auto)]
 
 mod ends;

@@ -1,13 +1,14 @@
-//! An elaboration as a list of tasks: first this, then that.
+//! The tasks by which expressions and patterns are elaborated, and that they do what the typing says; definitions and laws,
+//! nothing runs.
 //!
-//! `Task` is what is still to be done; `specs/Tasks.antt` says what each does to a state (`specs/States.antt`: the variables in
-//! scope, a stack of types, and stacks of the cores made so far), and what tasks come to one after the other (`run`). The laws
-//! in `proofs/` say of each form of expression and of pattern that its list of tasks comes to just what the walk of
-//! `hume_typing` finds of it. So code that does task after task elaborates without recursion, however deep an expression is.
+//! `Task` is a step that is still to be done. `Tasks.antt` says what each does to a state (`States.antt`: the variables in
+//! scope, a stack of types, and stacks of the cores made so far), and what tasks do one after the other (`run`). So code that
+//! does task after task elaborates without recursion, however deep an expression is.
 //!
-//! Laws: `tasks_are_done_in_order`, `open_parts_are_int32`.
+//! Proved: the tasks of each form of expression and pattern, done one after the other, do exactly what the walk of
+//! `hume_typing` finds of the form. Laws: `tasks_are_done_in_order`, `open_parts_are_int32`.
 //!
-//! It knows forms and their tasks. Nothing runs here.
+//! It knows forms and their tasks.
 #![tactic(auto)]
 
 mod laws;

@@ -1,12 +1,14 @@
-//! How deep the evaluation of a core may go, and how deep its values may be, before anything is evaluated.
+//! How deeply the evaluation of a core may nest, and how deep its values may be, before anything is evaluated.
 //!
-//! Main calls: `evaluation_depth` counts how many levels of expressions, patterns, results and calls may stand in one another,
-//! and `value_depth` how many levels the values have. `SAFE_DEPTH` and `SAFE_VALUE_DEPTH` say what the stack of a process
-//! holds of them. The plain evaluator of `hume_model` recurs along all of these, and the limits of the language leave room
-//! for more than a stack does: 256 functions, each 64 levels deep.
-//! There are no definitions and no laws: no clause of a contract speaks of the stack. The calls return for every core.
+//! Main calls: `evaluation_depth` counts the levels of expressions, patterns, results and calls that may be nested, and
+//! `value_depth` the levels of values. `SAFE_DEPTH` and `SAFE_VALUE_DEPTH` say how many of them the stack of a process holds.
+//! The plain evaluator of `hume_model` recurs along all of these, and the limits of the language allow more than a stack holds:
+//! 256 functions, each 64 levels deep.
 //!
-//! It knows the forms of cores. It doesn't know what they mean, nor how a run answers where a core is too deep.
+//! Proved: both calls return for every core. No clause speaks of their numbers or of the stack, so it has no definitions and no
+//! laws.
+//!
+//! It knows the forms of cores. It doesn't know what they mean, or how a run answers where a core is too deep.
 #![tactic(auto)]
 
 mod boxes;

@@ -1,13 +1,14 @@
-//! A program of the grammar that breaks no rule of names, counts, types and limits has a core.
+//! What a program that breaks no rule of names, counts, types and limits has: signatures, wires and a core; laws, nothing runs.
 //!
-//! Nothing runs here: the functions are laws, over the definitions of `hume_check/specs`: `CheckRules.antt` says which
-//! rules a program breaks, `SignaturesOf.antt` which signatures it has, and `CoreOf.antt` which core it stands for.
-//! Laws: where no rule on names and counts is broken there are signatures (`fine_names_have_signatures`), and where no
-//! rule is, each wire has its ends, its type and its first value (`fine_wires_have_cores`), and the program a core
+//! The laws are over definitions of `hume_check`: `CheckRules.antt` says which rules a program breaks, `SignaturesOf.antt`
+//! which signatures it has, and `CoreOf.antt` which core it stands for.
+//!
+//! Proved: a program that breaks no rule on names and counts has its signatures (`fine_names_have_signatures`). In one that
+//! breaks no rule each wire has its ends, its type and its first value (`fine_wires_have_cores`), and the program has a core
 //! (`fine_programs_have_cores`).
 //!
-//! It knows trees of programs, types and cores. It doesn't know how cores are found, nor that there is one at most and
-//! what it keeps, which `hume_check` says.
+//! It knows trees of programs, types and cores. It doesn't know how cores are found, or that there is at most one, which
+//! `hume_check` says.
 #![tactic(auto)]
 
 mod laws;

@@ -1,7 +1,10 @@
-//! The first values of wires: which expressions write one down, and which value of a type it is.
+//! The first values of wires: which expressions write down a value, and which value of a type it is.
 //!
-//! `is_built` tells whether an expression is built as values are, and `constant` gives the value of a type that it writes
-//! down, if it is one. Both are said in `hume_check/specs/Constants.antt`.
+//! Main calls: `is_built` says whether an expression is built as values are, and `constant` gives the value of a type that it
+//! writes down, if it is one (`Constants.antt` of `hume_check`).
+//!
+//! Proved: `constant` gives the value of a type that an expression writes down exactly where it is one, and `is_built` says
+//! whether it is built as values are.
 //!
 //! It knows expressions, types and what names of constructors stand for. It doesn't know wires.
 #![tactic(auto)]

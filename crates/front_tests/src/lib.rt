@@ -1,6 +1,8 @@
 //! Tests of acceptance: what the cores of real sources mean.
 //!
-//! Knows: `accept` and the meaning. Doesn't know: files; what the program tells of a source from outside, `.ci/run` tries.
+//! Proved: nothing; tests alone.
+//!
+//! It knows `accept` and the meaning. It doesn't know files: `.ci/run` tests from outside what the program says of a source.
 #![tactic(auto)]
 
 #[cfg(test)]

@@ -1,7 +1,10 @@
-//! The declarations of a program, gathered from its items: a function is a signature and the equations behind it.
+//! The declarations of a program, gathered item by item: a function is a signature and the equations after it.
 //!
-//! Main call: `Progress::take`, for one more item; `Progress::close` gives the declarations at the end. What they make of an
-//! item is said in `specs/inner/Progress.antt`, in terms of the readers of `token_readers`. It has no laws.
+//! Main calls: `Progress::take`, for one more item, and `Progress::close`, at the end. The private `Progress.antt` says what
+//! they make of an item, in terms of the readers of `token_readers`.
+//!
+//! Proved: `take` adds one item and `close` gives the declarations, exactly as the readers of `token_readers` gather them from
+//! the whole row of items. It has no laws.
 //!
 //! It knows trees and places in the source. It doesn't know how an item is read, and it reads no tokens.
 #![tactic(auto)]

@@ -1,5 +1,9 @@
-//! `hume run STEPS WORKERS SOURCE PORT..` or `hume check SOURCE`: the words from SOURCE on name the files that are ports. The
-//! ports `std_in` and `std_out` are always there.
+//! The program: `hume check SOURCE` or `hume run STEPS WORKERS SOURCE PORT..`, where the words from SOURCE on name the files
+//! that are ports.
+//!
+//! The ports `std_in` and `std_out` are always there.
+//!
+//! Proved: nothing beyond safety; `main` makes the ports and passes words and ports to `hume_run::hume`, and has no contract.
 #![tactic(auto)]
 
 use hume_ports::{FilePort, Port, StdIn, StdOut, find};

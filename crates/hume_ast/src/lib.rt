@@ -1,14 +1,14 @@
-//! The trees that programs are read into: how they are spelled, which of them the grammar has, how deep they are, and
-//! for which program the tokens of a source stand.
+//! The syntax trees of programs: how they are spelled, which of them the grammar has, how deep they are, and which program
+//! tokens stand for.
 //!
-//! `spell` gives the tokens of a program.
+//! Main call: `spell`, which gives the tokens of a program. `Spelling.antt` says which tokens spell a tree, `Fits.antt` which
+//! trees the grammar has, `Depth.antt` how deep they are, and `Places.antt` for which program tokens with their places stand.
 //!
-//! `specs/Spelling.antt` says which tokens a tree is spelled by, `specs/Fits.antt` which trees the grammar has,
-//! `specs/Depth.antt` how deep they are, and `specs/Places.antt` for which program tokens with their places stand.
-//! The law `depth_decides` says that what the grammar has is within just the depths that are not less than its own, and
-//! that a program is fit exactly where it is proper and no deeper than it may be.
+//! Proved: `spell` gives exactly the tokens of a program. Law (`depth_decides`): a tree fits a depth exactly when its own depth
+//! is at most that, and a program is fit exactly when it is proper, each part standing where the grammar allows it, and no
+//! deeper than the limit.
 //!
-//! This crate knows trees and kinds of tokens. It doesn't know bytes, nor how a tree is found for tokens.
+//! It knows trees and kinds of tokens. It doesn't know bytes, or how a tree is found for tokens.
 #![tactic(auto)]
 
 mod laws;

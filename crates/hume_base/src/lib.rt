@@ -1,11 +1,15 @@
-//! What every layer of the tool speaks of: types, values, tokens, refusals, limits, and the containers that trees are made of.
+//! The types, values, tokens, rules and limits that every layer uses, and the containers that trees are made of.
 //!
-//! `size` gives the words of a type (`specs/Sizes.antt`), `line_of` the line of a place (`specs/Places.antt`), and copies equal
-//! their originals. Which values a type has is said by `specs/Values.antt`, and which words they are by `specs/Flat.antt`.
-//! `limits` has every limit of the language, once. Which of several broken rules is told is said by `specs/Least.antt`.
-//! Laws: a value has as many words as its type's size (`values_have_their_sizes`), and they tell it apart from every other of
-//! its type (`words_tell_values_apart`).
-//! It knows nothing of programs, of the bytes of sources or of ports.
+//! `size` counts the words of a type (`Sizes.antt`) and `line_of` finds the line of a place (`Places.antt`). `Values.antt` says
+//! which values a type has, `Flat.antt` which words stand for a value, and `Least.antt` which of several broken rules is
+//! reported. `limits` holds each limit of the language once.
+//!
+//! Proved: a copy equals its original (`copy_ty`, `copy_value`); `size` counts the words of a type as defined; `line_of` gives
+//! the line of a place; a keyword or a sign is found exactly where a text spells it (`from_text`). Laws: a value has as
+//! many words as its type's size (`values_have_their_sizes`), and they distinguish it from every other value of its type
+//! (`words_tell_values_apart`).
+//!
+//! It doesn't know programs, the bytes of sources, or ports.
 #![tactic(auto)]
 
 mod boxed;

@@ -1,11 +1,15 @@
 //! From boxes to their cores.
 //!
-//! `push_ports` puts the types of a box's inputs and outputs on the stack of types, and `box_cores` makes the cores of its rules
-//! and handlers, with whether a literal in one of them is out of the range of its type (`specs/Boxes.antt`, and
-//! `DeclarationWalk.antt` of `hume_typing`). What stands at a rule's positions is checked against the types of the inputs; a
-//! rule's result and a handler's are checked against those of the outputs.
+//! Main calls: `push_ports` pushes the types of a box's inputs and outputs, and `box_cores` makes the cores of its rules and
+//! handlers, with whether a literal in one of them is out of the range of its type (`Boxes.antt`, and `DeclarationWalk.antt` of
+//! `hume_typing`). The positions of a rule are checked against the types of the inputs, the results of rules and handlers
+//! against those of the outputs.
 //!
-//! It knows boxes. It doesn't know functions, nor how signatures are made.
+//! Proved: `box_cores` gives exactly the cores of a box's rules and handlers, with whether a literal in one of them is out of
+//! range, and leaves the state as it was; it answers `NoType` only where the box has no cores. `push_ports` pushes the types of
+//! inputs and outputs as they are written.
+//!
+//! It knows boxes. It doesn't know functions, or how signatures are made.
 #![tactic(auto)]
 
 mod boxes;

@@ -1,15 +1,21 @@
-//! For which core a program stands, and which rules of names, counts, types and limits it breaks.
+//! Which core a program stands for, and which rules of names, counts, types and limits it breaks; definitions and laws, nothing
+//! runs.
 //!
-//! Nothing runs here yet: the functions are laws. `specs/CoreOf.antt` says which core belongs to a program in the source of a
-//! text, over `SignaturesOf.antt` (its data types, exceptions and functions by their numbers), `Declared.antt` and
-//! `Constants.antt` (first values of wires); `CheckRules.antt` names the rules of four phases, of which `TypeRules.antt` and
-//! `SizeRules.antt` are said here and the others where they are decided.
-//! Laws: a program has one list of signatures at most (`signatures_are_unique`), a source one core
-//! (`cores_are_unique`), and of the rules that a program breaks one is the least (`least_broken_rule_is_one`); the core of a
-//! program that breaks none is well-formed (`cores_are_well_formed`), where names and counts are as tokens make them
-//! (`OfTokens.antt`). The other laws say parts of it that need less.
+//! `CoreOf.antt` says which core belongs to a program in a source, over `SignaturesOf.antt` (its data types, exceptions and
+//! functions by their numbers), `Declared.antt` and `Constants.antt` (first values of wires). `CheckRules.antt` lists the rules
+//! of four phases: `TypeRules.antt` and `SizeRules.antt` are here, the others in the crates that decide them. `OfTokens.antt`
+//! says what a program has from its tokens.
 //!
-//! It knows trees of programs, types and cores. It doesn't know tokens, wiring, exceptions that may be raised, or costs.
+//! Proved: a program has at most one list of data types, exceptions and functions (`signatures_are_unique`), and a source
+//! stands for at most one core (`cores_are_unique`); of the rules that a program breaks, one is the least
+//! (`least_broken_rule_is_one`). The core of a program that breaks none is well-formed (`cores_are_well_formed`), if the
+//! program is one of the grammar (`IsFit`) with names and constructors as tokens make them (`IsOfTokens`); the parser's
+//! contract and `read_programs` say so of the programs of sources. Parts of that need less: data types hold only smaller ones
+//! (`cores_hold_smaller`), functions call only smaller ones and have their types, as boxes do (`calls_go_down`,
+//! `functions_and_boxes_are_typed`, `cores_have_sound_parts`), wires have their ends and first values of their types
+//! (`wires_have_their_ends`), and there are no more parts than allowed (`cores_have_few_parts`).
+//!
+//! It knows trees of programs, types and cores. It doesn't know tokens, wiring, raised exceptions, or costs.
 #![tactic(auto)]
 
 mod laws;

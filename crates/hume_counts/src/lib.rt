@@ -1,10 +1,14 @@
-//! The rules on counts: there are neither too many nor too few of anything, and each `*` is an output.
+//! The rules on counts, on `*`, and on how many of each thing there may be.
 //!
-//! `first_miscounted` gives the first declaration with a wrong count (`specs/Miscounts.antt`), `first_stray_star` the first
-//! one with a `*` that is no output (`specs/Stars.antt`); `specs/CountRules.antt` says what that is of a declaration.
+//! Main calls: `first_miscounted`, the first declaration with a wrong count (rule 42, `Miscounts.antt`), `first_stray_star`,
+//! the first with a `*` that is no output (44, `Stars.antt`), and `first_past_limits` (72, `Limits.antt`). `CountRules.antt`
+//! says what these are of a declaration.
 //!
-//! It knows trees of programs and how many parameters, fields and values names have. It doesn't know types, nor which names
-//! are declared: an unknown name has no count, so none is wrong.
+//! Proved: `first_miscounted`, `first_stray_star` and `first_past_limits` give the first declaration that breaks rule 42, 44
+//! and 72.
+//!
+//! It knows trees of programs and how many parameters, fields and values names have. It doesn't know types, or which names are
+//! declared: an unknown name has no count, so no count of it is wrong.
 #![tactic(auto)]
 
 mod counts;

@@ -1,12 +1,15 @@
-//! From expressions and patterns to their cores.
+//! From expressions and patterns to their cores, task by task.
 //!
-//! `own` finds the type and the core of an expression by itself, `against` its core against the last type of a stack, and
-//! `perform_one` does one task with all that it comes to. They find just what the walk of `hume_typing` finds
-//! (`specs/inner/Walk.antt` there, which is proved equal to its relations), or stop where something has no type. Each form
-//! puts its tasks before the others (`own_tasks.rt`, `against_tasks.rt`, `list_tasks.rt`, `pattern_tasks.rt`), and `walk.rt` does
-//! one after the other: nothing recurs but the question whether an expression is open.
+//! Main calls: `own` finds the type and the core of an expression by itself, `against` its core against the last type of a
+//! stack, and `perform_one` does one task with all that it leads to. Each form puts its tasks before the others
+//! (`own_tasks.rt`, `against_tasks.rt`, `list_tasks.rt`, `pattern_tasks.rt`), and `walk.rt` does one after the other: only the
+//! question whether an expression is open recurs.
 //!
-//! It knows expressions, patterns, types and cores. It doesn't know results of rules, declarations, or which rule is told.
+//! Proved: `own` pushes the type and the core of an expression by itself and `against` its core against the last type, exactly
+//! where the walk of `hume_typing` finds them, which is proved equal to the typing relations. They stop with `NoType` exactly
+//! where it finds none.
+//!
+//! It knows expressions, patterns, types and cores. It doesn't know results of rules, declarations, or which rule is reported.
 #![tactic(auto)]
 
 mod access;

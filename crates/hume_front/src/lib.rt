@@ -1,13 +1,15 @@
 //! Which sources are accepted: from bytes to the checked program, or to the least rule that the source breaks.
 //!
-//! `accept` has the text cut into tokens, read as a program, and checked; then it asks the rules on wires, on exceptions and on
-//! heap, stack and work of the program's core. `specs/Accepted.antt` is the one definition of what an accepted source has and
-//! of which rule one that isn't accepted breaks: it names each phase, in the words of the crate that decides it.
-//! Laws: a source is accepted as one program with one core at most (`one_program`), or is refused for one rule at one line
-//! (`one_answer`), never both; and the core of an accepted source is well-formed and wired, handles all that it raises and keeps
-//! the limits on its boxes (`accepted_cores_are_sound`).
+//! Main call: `accept` has the text cut into tokens, read as a program and checked; then it asks the rules on wires, on
+//! exceptions and on heap, stack and work of the program's core. `Accepted.antt` is the one definition of what an accepted
+//! source has and of which rule another source breaks: it names each phase, in the words of the crate that decides it.
 //!
-//! It knows sources and the crates of the phases. It doesn't know runs, ports, nor how a refusal is told.
+//! Proved: `accept` gives the program with core, wiring and costs exactly where the source breaks no rule, or `NoMemory`, and
+//! otherwise the least rule that it breaks with its line. Laws: a source is accepted as at most one program with one core
+//! (`one_program`), or refused for one rule at one line (`one_answer`), never both; the core of an accepted source is
+//! well-formed and wired, handles all that it raises and keeps the limits on its boxes (`accepted_cores_are_sound`).
+//!
+//! It knows sources and the crates of the phases. It doesn't know runs, ports, or how a refusal is reported.
 #![tactic(auto)]
 
 mod acceptance;

@@ -1,10 +1,13 @@
-//! The lexer: any bytes go in, and out come their tokens with their places, or the first place that no token fits.
+//! The lexer: it cuts any bytes into tokens with their places, or reports the first place that no token fits.
 //!
-//! The call is `lex`. What the tokens of a source are is said by `specs/Reading.antt` over `specs/Spelling.antt`, as a relation
-//! between bytes and tokens; what a bad place is, by `specs/BadPlaces.antt`.
-//! Laws: a source has one reading at most, and either one within the limits or one bad place (`one_answer`), and all places
-//! that are given are places of the source (`places_are_within`).
-//! It knows bytes, tokens and their limits; it doesn't know what tokens stand for.
+//! Main call: `lex`. `Reading.antt`, over `Spelling.antt`, defines the tokens of a source as a relation between bytes and
+//! tokens; `BadPlaces.antt` defines a bad place.
+//!
+//! Proved: `lex` gives the tokens of a source with their places exactly where the source has a reading within the limits.
+//! Otherwise it gives the first bad place with its cause, or `NoMemory`. Laws: a source has at most one reading, and either one
+//! within the limits or one bad place (`one_answer`); every reported place lies in the source (`places_are_within`).
+//!
+//! It knows bytes, tokens and their limits. It doesn't know what tokens stand for.
 #![tactic(auto)]
 
 mod bytes;

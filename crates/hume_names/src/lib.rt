@@ -1,12 +1,16 @@
-//! The rules on names: each name is declared once in its space, each name that is used is declared, no function calls itself
-//! and no data type holds itself, directly or through others, and no variable is bound twice in one place.
+//! The rules on names: each is declared once and known, no function calls itself, no data type holds itself, and no variable is
+//! bound twice in one place.
 //!
-//! Main calls: `first_misnamed`, the least broken rule of the first four, and `first_bound_twice` for the last; each rule
-//! also has a call of its own. `name_graph` gives the graphs by which functions and data types are numbered.
-//! Meaning: `specs/Misnamed.antt`, over `Repeated.antt`, `Unknown.antt`, `Leading.antt` and `Mentions.antt`, which has the
-//! names that a declaration mentions; and `specs/Twice.antt`.
-//! Knows: trees of declarations.
-//! Doesn't know: types, numbers of arguments, places in the source, and what is told of a broken rule.
+//! Main calls: `first_misnamed`, the least broken rule of 30 to 33, and `first_bound_twice` for 43; each rule also has a call
+//! of its own. `name_graph` gives the graphs by which functions and data types are numbered. `Misnamed.antt` defines the rules,
+//! over `Repeated.antt`, `Unknown.antt`, `Leading.antt` and `Mentions.antt`, the names that a declaration mentions;
+//! `Twice.antt` defines the last one.
+//!
+//! Proved: `first_misnamed` gives the least broken rule of 30 to 33, and each rule's own call the first declaration that breaks
+//! it; `first_bound_twice` gives the first declaration that breaks 43; `name_graph` says which declarations mention which.
+//!
+//! It knows trees of declarations. It doesn't know types, numbers of arguments, places in the source, or what is reported of a
+//! broken rule.
 #![tactic(auto)]
 
 mod adding;

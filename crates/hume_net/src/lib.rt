@@ -1,13 +1,19 @@
-//! A net of boxes and streams joined by wires, and how it goes on by supersteps: a plain, slow net that computes just what
-//! is defined.
+//! A net of boxes and streams joined by wires, its supersteps, and a plain, slow net that computes exactly what is defined.
 //!
-//! Main call: `Net::step`, one superstep; `net_make` begins with the initial values.
-//! Meaning: `specs/Lockstep.antt`, over the half steps of single nodes in `specs/HalfSteps.antt` and what each of these sees
-//! of a state in `specs/Sides.antt`.
-//! Laws: `src/laws.rt`. States keep types, places, orders of rules, depths and an entry for each output; and each node's part
-//! and each wire follow from one half step, which depends on that node's part and wires alone.
-//! Knows: cores, and the values on wires, pending, to come and taken.
-//! Doesn't know: sources, ports, schedules, threads, and how a box evaluates its rules beyond `first_firing`.
+//! Main calls: `net_make` makes the net in its first state, and `Net::step` makes one superstep. `HalfSteps.antt` defines the
+//! half steps of one node, `Sides.antt` what each node sees of a state, and `Lockstep.antt` supersteps over them.
+//!
+//! Proved: `net_make` gives the first state, and `Net::step` makes exactly one superstep. Laws: supersteps and their halves
+//! keep types, places, orders and the entries of outputs (`supersteps_keep_types`, `starts_have_types`, `locksteps_keep_types`,
+//! `locksteps_have_places`, `locksteps_have_all_outputs`); no wire holds more than its depth
+//! (`wires_keep_within_their_depths`); a node sees what is on its wires (`nodes_see_their_wires`); each node's part and each
+//! wire follow from one half step, which depends on that node's part and wires alone (`times_count_half_steps`,
+//! `times_follow_one_another`, `parts_follow_half_steps`, `wires_follow_half_steps`, `half_steps_see_their_sides`); the plan of
+//! a net joins nodes as its wires do (`plans_join_nodes`); a well-formed core whose wires agree is a typed net
+//! (`well_formed_nets_are_typed`).
+//!
+//! It knows cores, and the values on wires, pending, to come and taken. It doesn't know sources, ports, threads, or how a box
+//! evaluates its rules beyond `first_firing`.
 #![tactic(auto)]
 
 mod copying;

@@ -1,12 +1,14 @@
-//! The parser: from the tokens of a source to the one tree that they spell, or to the place where none goes on.
+//! The parser: from the tokens of a source to the one program that they stand for, or to the place where no program continues.
 //!
-//! Main call: `parse`. For which program tokens stand (`StandsFor`) is said in `hume_ast`, and what is reported where they stand
-//! for none in `syntax_errors`. Its laws are those of `syntax_errors` and `token_readers`: there is one answer, and one program at
-//! most. The functions are proved to do what the readers on lists of `token_readers` do: `specs/inner` has the views of the code
-//! that their contracts need.
+//! Main call: `parse`. `hume_ast` defines for which program tokens stand (`StandsFor`), and `syntax_errors` what is reported
+//! where they stand for none. The private definitions are views of the code that the contracts of its functions need.
 //!
-//! It knows slices of tokens with their places, and how deep a tree may be. It doesn't know bytes, names that are declared,
-//! or types of expressions.
+//! Proved: `parse` gives the program that the tokens stand for, and no other (`only`). Otherwise it reports the one wrong place
+//! (`IsWrongPlace` of `syntax_errors`), or `NoMemory`. Its functions do what the readers of `token_readers` do on lists. Its
+//! laws are those of `syntax_errors` and `token_readers`.
+//!
+//! It knows slices of tokens with their places, and how deep a tree may be. It doesn't know bytes, declared names, or types of
+//! expressions.
 #![tactic(auto)]
 
 mod boxes;

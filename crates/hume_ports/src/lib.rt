@@ -1,11 +1,15 @@
 //! The outside as the tool sees it: named ports that are read, written and finished, and calls on lists of them.
 //!
-//! The trait is `Port`; a list of ports is called by `read_at`, `fill_at`, `write_at` and `finish_at`, and searched by `find`.
-//! What a call does is said in `specs/Port.antt`, what calls on a list do together in `specs/Delivery.antt`.
-//! `MemPort`, the port of the tests, is known to the byte and to the call that fails (`specs/Memory.antt`). `FilePort`, `StdIn`
-//! and `StdOut` are the edge to the world: they keep the contract of the trait, and a file's calls do to the open file what
-//! they say (`specs/Files.antt`).
-//! It knows names, bytes, counts of faults and rooms; it doesn't know what is written to a port, or why.
+//! The trait is `Port`. `read_at`, `fill_at`, `write_at` and `finish_at` call a port in a list, and `find` searches one.
+//! `Port.antt` says what a call does, and `Delivery.antt` what calls on a list do together. `MemPort` is the port of the tests
+//! (`Memory.antt`). `FilePort`, `StdIn` and `StdOut` are the edge to the world (`Files.antt`).
+//!
+//! Proved: the calls on lists keep what the trait says of the one port, and touch no other. `MemPort` is proved to the byte and
+//! to the call that fails. `FilePort`, `StdIn` and `StdOut` keep the contract of the trait without telling bytes; what a call
+//! of `FilePort` does to the open file is a clause of its own (`file`), and so is where the bytes of `StdIn` come from
+//! (`input`).
+//!
+//! It knows names, bytes, counts of faults and rooms. It doesn't know what is written to a port, or why.
 #![tactic(auto)]
 
 mod file;

@@ -1,10 +1,13 @@
 //! From results of rules and handlers to their cores.
 //!
-//! `ResultElaboration::result` finds the core of a result for outputs of known types, just as `hume_typing` says it
-//! (`specs/Results.antt`, by its walk). Each form of result is a list of tasks (`result_tasks`), which stand on a stack: so the
-//! depth of a result takes no stack of calls.
+//! Main call: `ResultElaboration::result` finds the core of a result for outputs of known types (`Results.antt` of
+//! `hume_typing`, by its walk). Each form of result is a list of tasks (`result_tasks`) on a stack, so a deep result needs no
+//! deep stack of calls.
 //!
-//! It knows forms of results. It doesn't know forms of expressions, nor which names a rule's patterns bring into scope.
+//! Proved: `ResultElaboration::result` pushes exactly the core that the walk of `hume_typing` finds of the result, and answers
+//! `NoType` only where there is none.
+//!
+//! It knows forms of results. It doesn't know forms of expressions, or which names a rule's patterns bring into scope.
 #![tactic(auto)]
 
 mod elaboration;

@@ -1,9 +1,13 @@
 //! The top call: from the words, the source's bytes and the ports to the answer.
 //!
-//! The call is `hume`. Its contract is the promise of the tool: `specs/Headline.antt` says it, over what a call owes
-//! (`specs/Owed.antt`); `docs/PROMISE.md` lists every definition that it rests on.
-//! Law: no execute step of a run takes more than the table of bounds says (`runs_keep_bounds`).
-//! It knows ports, words and what is owed to them; it doesn't know files, command lines or exit statuses.
+//! Main call: `hume`. Its contract is the promise of the tool: `Headline.antt` defines it, over what a call owes (`Owed.antt`).
+//! `docs/PROMISE.md` lists every definition that it rests on.
+//!
+//! Proved: `hume` keeps the promise, which `docs/PROOFS.md` explains clause by clause. Law: whatever values come to the run of
+//! an accepted source, each execute step of a box takes at most the heap, stack and work that the table gives it
+//! (`runs_keep_bounds`).
+//!
+//! It knows ports, words and what is owed to them. It doesn't know files, command lines or exit statuses.
 #![tactic(auto)]
 
 mod check;

@@ -1,10 +1,12 @@
-//! The signatures of a program: its data types, its exceptions and its functions, each in the order of its numbers.
+//! The signatures of a program: its data types, exceptions and functions, each in the order of its numbers.
 //!
-//! `signatures_of` finds the one list of each that a program has, by `hume_check/specs/SignaturesOf.antt`, and the order in
-//! which its functions are numbered. There is none exactly where something that is written has no type, which never is so
-//! in a program of the grammar that breaks no rule on names and counts.
+//! Main call: `signatures_of` finds the signatures (`SignaturesOf.antt` of `hume_check`) and the order in which functions are
+//! numbered.
 //!
-//! It knows declarations and the types that they write down. It doesn't know expressions, boxes and wires, nor rules.
+//! Proved: `signatures_of` gives the signatures of a program and the order of its functions exactly where it has signatures
+//! (`AreSignatures`). A program of the grammar that breaks no rule on names and counts has some.
+//!
+//! It knows declarations and the types that they write down. It doesn't know expressions, boxes, wires or rules.
 #![tactic(auto)]
 
 mod data_types;

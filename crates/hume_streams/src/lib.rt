@@ -1,14 +1,22 @@
-//! The lines of a port as values, and values as lines of a port.
+//! The lines of a port as values, and values as lines of a port; neither takes memory once queue or log is made.
 //!
-//! `InQueue` reads the values of an input stream, as many as are wanted and no line more. Which lines of a text are bad, and which
-//! values the others have, is said by `specs/Good.antt`; for which text a queue is right by `specs/Queues.antt`; what a fill does
-//! by `specs/Fills.antt`. `OutLog` keeps the values of an output stream and writes each as a line (`specs/Logs.antt`).
-//! Neither takes memory once it is made.
-//! Laws: each text has its good values, once (`each_text_has_good_values`, `good_values_are_unique`), and few lines stand before a
-//! bad one (`bad_lines_have_small_numbers`); a queue holds the next ones
-//! (`queues_hold_the_next_values`), stays right for a port that tells what it has left (`fills_follow_ports_that_tell`), and holds
-//! the values of the whole lines that were taken, where a read has failed (`queues_hold_whole_lines`).
-//! It knows ports, lines and the words of values; it doesn't know cores, wires or streams.
+//! `InQueue` reads the values of an input stream, as many as are wanted and no line more. `Good.antt` says which lines of a
+//! text are bad and which values the others have, `Queues.antt` for which text a queue is right, and `Fills.antt` what a fill
+//! does. `OutLog` keeps the values of an output stream and writes each as a line (`Logs.antt`).
+//!
+//! Proved: `InQueue::fill` reads lines until the queue holds what is wanted, and no line more, or the port is at its end. For
+//! each text for which the queue was right, it is right again after the bytes that were read: what it gave and holds are the
+//! first good values of the text (`Fills`). It answers `BadValue` only where the text's first bad line comes before there are
+//! enough values, with that line's number; `Failed` only where a read of the port failed, with too few values and no whole line
+//! unread; `Ok` with too few values only where no line of the text is bad and nothing is left. It keeps what it held, and
+//! doesn't touch the port where there is enough. `drop_front` gives away the first value. `OutLog::drain` writes each value's
+//! line by a write of its own; where one fails the log stays as it was. Laws: each text has good values, once
+//! (`each_text_has_good_values`, `good_values_are_unique`), and few lines stand before a bad one
+//! (`bad_lines_have_small_numbers`); a queue holds the next values (`queues_hold_the_next_values`), follows a port that tells
+//! what it has left (`fills_follow_ports_that_tell`), and after a failed read holds the good values of the whole lines that
+//! were taken (`queues_hold_whole_lines`).
+//!
+//! It knows ports, lines and the words of values. It doesn't know cores, wires or streams.
 #![tactic(auto)]
 
 mod buffer;

@@ -1,7 +1,11 @@
-//! Tests of the crates below: what no clause of a contract says and no program shows.
+//! Tests of what no contract says and no program shows: places of tokens, and the calls of ports, in order, in pieces and where
+//! one fails.
 //!
-//! They stand at the top of all that they cross, so that no crate is proved a second time for its tests.
-//! Knows: the public calls of each crate. Doesn't know: files; what the program does from outside, `.ci/run` tries.
+//! They stand above all crates that they use, so that no crate is proved a second time for its tests.
+//!
+//! Proved: nothing; tests alone.
+//!
+//! It knows the public calls of each crate. It doesn't know files: `.ci/run` tests the program from outside.
 #![tactic(auto)]
 
 #[cfg(test)]

@@ -1,8 +1,12 @@
-//! Types by number, so that none is copied or compared part by part: sources can make types of 2^60 words in a page.
+//! Types by number, so that none is copied or compared part by part, and the state of an elaboration.
 //!
-//! `Context` is what an elaboration knows: the variables in scope, a stack of types, and the types that declarations wrote
-//! down. Contracts see types alone (`specs/Contexts.antt`); the numbers are inside of it. `TypeTable` gives each type its
-//! one number (`specs/Nodes.antt`). `Context::tree` gives a type as a tree again, of as many nodes as there is room for.
+//! A page of source can declare types of 2^60 words, so types are numbered. `Context` is the state of an elaboration: the
+//! variables in scope, a stack of types, and the types that declarations wrote down. Contracts speak of types alone
+//! (`Contexts.antt`). `TypeTable` gives each type its one number (`Nodes.antt`). `Context::tree` gives a type as a tree again,
+//! of as many nodes as there is room for.
+//!
+//! Proved: a type has one number in a table (`TypeTable::number`, `is_same`). Each call of `Context` changes the variables, the
+//! stack of types and the kept types exactly as it says of types; where a call fails, the kept types stay.
 //!
 //! It knows types. It doesn't know expressions, names of declarations, or which types are right.
 #![tactic(auto)]

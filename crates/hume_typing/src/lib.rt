@@ -1,13 +1,15 @@
-//! Types of a source, and the core that belongs to each of its parts.
+//! Which expressions, patterns, results and declarations have which type, and which core belongs to them; definitions and laws,
+//! nothing runs.
 //!
-//! `specs/Typing.antt` says which types an expression has and with which core, row by row; `Patterns.antt`, `Results.antt` and
-//! `Declarations.antt` say the same of patterns, of the results of rules and handlers, and of whole declarations.
+//! `Typing.antt` says, form by form, which types an expression has and with which core; `Patterns.antt`, `Results.antt` and
+//! `Declarations.antt` say it of patterns, of the results of rules and handlers, and of whole declarations.
 //!
-//! Nothing runs here: the functions are laws. `typing_is_unique` says that nothing has two types or two cores;
-//! `cores_are_typed`, `parts_are_typed` and `declarations_are_typed`, that cores have their types as `hume_model` says it; and
-//! `walk_is_typing`, that the walks of `specs/inner`, which code can follow, find just these types and cores.
+//! Proved: nothing has two types by itself, or two cores (`typing_is_unique`). What an expression has by itself it may be
+//! checked against (`own_type_is_accepted`), and an open one is checked against `int 32` (`open_is_int32`). The walk that code
+//! follows finds exactly these types and cores (`walk_is_typing`, `declaration_walk_is_typing`). Where no literal is out of
+//! range, cores are typed as the meaning requires (`cores_are_typed`, `parts_are_typed`, `declarations_are_typed`).
 //!
-//! This crate knows trees, types and the core. It doesn't know memory, names of boxes and streams, or how code finds a type.
+//! It knows trees, types and cores. It doesn't know memory, names of boxes and streams, or how code finds a type.
 #![tactic(auto)]
 
 mod laws;

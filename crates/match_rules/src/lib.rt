@@ -1,13 +1,18 @@
-//! Which rule of a box fires, what it takes and what is built of its inputs, by the words in the cells of the input wires.
+//! Which rule of a box fires, what it takes and what is built of its inputs, on the flat words in the cells of its inputs.
 //!
-//! `first_match` gives the first rule in an order that fits the oldest values, `build_inputs` builds those that the rule's patterns
-//! look into, in heap and stack, and `consume` takes those that the rule consumes. A `RuleOrder` is the order in which a box tries
-//! its rules. None of them takes memory. What fits and what is taken is said by `hume_model/specs/Matching.antt`, which cells are a
-//! box's inputs and what is built of them by `specs/Inputs.antt`.
-//! Laws: an order has each rule once (`orders_have_each_rule_once`), cells of the wires that lead to a box are those of its inputs
-//! (`cells_of_wires_are_inputs`), what is left in them are the values left on their wires (`cells_hold_what_is_left`), and what is
-//! built takes the words that a firing spends (`built_inputs_are_those_of_firings`).
-//! It knows patterns, types and flat words. It doesn't know results, handlers, code and times.
+//! `first_match` finds the first rule in an order that fits the oldest values, `build_inputs` builds those that the rule's
+//! patterns look into, in heap and stack, and `consume` takes those that the rule consumes. A `RuleOrder` is the order in which
+//! a box tries its rules. None of them takes memory. `Matching.antt` of `hume_model` says what fits and what is taken;
+//! `Inputs.antt` says which cells are a box's inputs and what is built of them.
+//!
+//! Proved: `first_match` gives the first rule in the order that fits the oldest values, none exactly where none does;
+//! `build_inputs` puts objects of exactly the words that a firing spends on its inputs, and pushes for each input with a
+//! pattern a word that stands for its value; `consume` takes the values that the rule consumes and no others; `fired` moves
+//! that rule last. Laws: an order has each rule once (`orders_have_each_rule_once`), cells of the wires that lead to a box are
+//! those of its inputs (`cells_of_wires_are_inputs`), and hold afterwards what is left on these wires
+//! (`cells_hold_what_is_left`), and what is built takes the words that a firing spends (`built_inputs_are_those_of_firings`).
+//!
+//! It knows patterns, types and flat words. It doesn't know results, handlers, code or times.
 #![tactic(auto)]
 
 mod building;

@@ -1,9 +1,11 @@
-//! Tables of names: what belongs to each name, found in about constant time.
+//! Tables of names with numbers, found in about constant time.
 //!
-//! `NameTable` holds names with numbers, each name once; `find` gives the number beside a name and `add` adds a name that
-//! isn't there (`specs/Names.antt`). The names are slices of the source's tree and aren't copied.
+//! `NameTable` holds each name once with its number; `find` gives the number of a name and `add` adds a name (`Names.antt`).
+//! The names are slices of the source's tree and aren't copied.
 //!
-//! It doesn't know what the names are of, nor what the numbers mean.
+//! Proved: a table finds the number of a name, and adds a name exactly where it isn't there (`find`, `has`, `add`).
+//!
+//! It doesn't know what the names are of, or what the numbers mean.
 #![tactic(auto)]
 
 mod table;

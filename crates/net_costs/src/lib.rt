@@ -1,11 +1,12 @@
-//! What the execute steps of a net take, and that each keeps the bound of its box.
+//! How much the execute steps of a net take, and that each keeps the bound of its box; definitions and laws, nothing runs.
 //!
-//! Nothing runs here: the functions are laws. `specs/Steps.antt` says what a node takes from a state, and what the peaks of so
-//! many supersteps are.
-//! Laws: in each state of a lockstep whose values are of their types no box takes more than its bound (`steps_keep_bounds`),
-//! and neither do the peaks (`peaks_keep_bounds`).
+//! `Steps.antt` says what a node takes from a state, and what the peaks of `count` supersteps are.
 //!
-//! It knows nets, their states and the costs of boxes. It doesn't know sources, ports, nor code.
+//! Proved: in every state of a net whose values have their types, and so in each state of a lockstep, no execute step of a box
+//! takes more than its bound (`steps_keep_bounds`). The greatest heap, stack and work over several supersteps keep it too
+//! (`peaks_keep_bounds`).
+//!
+//! It knows nets, their states and the costs of boxes. It doesn't know sources, ports, or code.
 #![tactic(auto)]
 
 mod laws;

@@ -1,10 +1,12 @@
-//! What a program has from the tokens of its source, whatever the rules ask.
+//! What a program has from the tokens of its source, whatever the rules say; laws, nothing runs.
 //!
-//! Nothing runs here: the functions are laws. Names and texts of a program that tokens within their limits stand for have a
-//! byte and no more than they may have, data types have few constructors, and there are few declarations
-//! (`hume_check/specs/OfTokens.antt`).
+//! `OfTokens.antt` of `hume_check` defines it: names and texts have at least one byte and at most as many as allowed, data
+//! types have few constructors, and there are few declarations.
 //!
-//! It knows tokens and trees. It doesn't know how they are read, nor rules.
+//! Proved: names, texts and constructors of a program that is read from a source are as its tokens make them
+//! (`read_programs_are_of_tokens`), and it has no more declarations than tokens (`read_programs_are_short`).
+//!
+//! It knows tokens and trees. It doesn't know how they are read, or rules.
 #![tactic(auto)]
 
 mod laws;

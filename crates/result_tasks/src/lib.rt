@@ -1,9 +1,9 @@
-//! Tasks of an elaboration of results, and what they do.
+//! The tasks by which results are elaborated, and that they do what the typing says; definitions and laws, nothing runs.
 //!
-//! `specs/ResultTasks.antt` says what each task does to a state. The laws of `proofs/` say that the tasks of each form of result
-//! come to just what the walk of `hume_typing` finds of the form.
+//! `ResultTasks.antt` says what each task does to a state.
 //!
-//! Law: `result_tasks_are_done_in_order`.
+//! Proved: the tasks of each form of result do exactly what the walk of `hume_typing` finds of the form. Law:
+//! `result_tasks_are_done_in_order`.
 //!
 //! It knows results, outputs and alternatives. What is done of expressions is a task of `elaboration_tasks`.
 #![tactic(auto)]

@@ -1,11 +1,14 @@
-//! The call that runs a rule of a compiled box, with what the meaning says of it.
+//! The call that runs a rule of a compiled box, with its contract in the words of the meaning.
 //!
-//! `run_rule` runs the code of a rule over the box's heap, stack and outputs. `specs/Runs.antt` says when a rule is ready for
-//! that, and what its run leaves: the outputs that the core means as flat words, the exception that was handled, and just the
-//! words of heap and stack and the instructions that the rule spends.
-//! Law: a rule that is ready to run ends in the room that there is (`ready_rules_end`).
+//! Main call: `run_rule`. `Runs.antt` says when a rule is ready to run (`IsReadyToRun`) and what its run leaves (`HasRun`).
 //!
-//! It knows what cores mean and spend, and the machine that runs code. It doesn't know how code is made, nor how inputs are
+//! Proved: `run_rule` runs a rule that fits its inputs, in a program that represents a box of a core whose parts are sound and
+//! that handles all that it raises, on a heap and a stack of the printed lengths that hold the built inputs. The outputs have
+//! the flat words of what the meaning gives and no others, the answer says which exception was handled, and the words of the
+//! heap, the peak of the stack and the number of instructions are exactly what the firing spends. Law: such a rule ends within
+//! the program's work, in the room that there is (`ready_rules_end`).
+//!
+//! It knows what cores mean and spend, and the machine that runs code. It doesn't know how code is made, or how inputs are
 //! built.
 #![tactic(auto)]
 

@@ -1,10 +1,12 @@
-//! What the names of data types, exceptions, functions and constructors stand for, found in about constant time.
+//! What the names of data types, constructors, exceptions and functions stand for, found in about constant time.
 //!
-//! `SignatureTable::make` makes tables of the names of a program's signatures, and `function`, `exception`, `constructor` and
-//! `data_type` find what a name stands for: just what `hume_typing` says of it, the first of a name where there are several.
-//! `specs/Numbered.antt` numbers all constructors of all data types.
+//! `SignatureTable::make` makes tables of the names of a program's signatures. `function`, `exception`, `constructor` and
+//! `data_type` find what a name stands for. `Numbered.antt` numbers all constructors of all data types.
 //!
-//! It knows signatures. It doesn't know programs, nor how signatures are made.
+//! Proved: `function`, `exception`, `constructor` and `data_type` find exactly what a name stands for in the signatures, the
+//! first where a name occurs several times, and a constructor with its number among those of all data types.
+//!
+//! It knows signatures. It doesn't know programs, or how signatures are made.
 #![tactic(auto)]
 
 mod constructors;

@@ -1,12 +1,12 @@
-//! The lines of a source's places, found in constant time.
+//! The line of each place of a source, found in constant time.
 //!
-//! `LineTable::make` goes once over the text of a source, and `line` looks up the line of a place: just the one that
-//! `hume_base/specs/Places.antt` says, and that of the end for a place behind it.
+//! `LineTable::make` goes once over the text of a source, and `line` looks up the line of a place (`Places.antt` of
+//! `hume_base`); a place past the end has the line of the end. The table borrows the text and takes four bytes for each byte of
+//! it (the private `Lines.antt`).
 //!
-//! A table has a number for each place of the text, and contracts see it as the text. It borrows the text, and what it takes of
-//! memory is four bytes for each of the text's (`specs/inner/Lines.antt`).
+//! Proved: `LineTable::line` gives the line of each place of a text, in constant time.
 //!
-//! It knows bytes and places. It doesn't know tokens, declarations, nor what is told of a line.
+//! It knows bytes and places. It doesn't know tokens, declarations, or what is reported of a line.
 #![tactic(auto)]
 
 mod table;

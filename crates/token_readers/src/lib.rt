@@ -1,14 +1,14 @@
-//! Readers of lists of tokens, proved to read exactly what is spelled. Nobody needs to believe them: the grammar stands in
-//! `hume_ast`, and the parser is proved to read slices of tokens as they read lists.
+//! Readers of lists of tokens, for the proofs of the parser alone: definitions and laws, nothing runs.
 //!
-//! Nothing runs here: the one function is a law.
+//! Nobody has to believe these readers: `hume_ast` defines the grammar, and the parser is proved to read slices of tokens as
+//! the readers read lists. `Readers.antt` says what a reader is and how readers are combined; `Programs.antt` has the reader of
+//! programs. Where no program continues, a reader says which token is wrong, and whether only depth forbids it.
 //!
-//! The readers are in `specs/inner/`: `Readers.antt` says what a reader is and how readers are put together, and
-//! `Programs.antt` has the one of programs, on top of the others.
-//! Where nothing goes on, a reader tells which token is wrong, and whether it is so only for want of depth.
-//! The law `one_spelling` says that trees with one spelling are one tree, and that tokens stand for one program at most.
+//! Proved: the readers read exactly what is spelled, and stop exactly at the first token with which nothing continues. Law
+//! (`one_spelling`): two trees of the grammar with one spelling are one tree, programs except for the places of their
+//! declarations; and tokens with their places stand for at most one program.
 //!
-//! This crate knows lists of tokens and trees. It doesn't know memory, slices or errors.
+//! It knows lists of tokens and trees. It doesn't know memory, slices or errors.
 #![tactic(auto)]
 
 mod laws;

@@ -1,10 +1,12 @@
-//! The lines that tell the bounds of boxes.
+//! The lines that report the bounds of boxes.
 //!
-//! `space_line` puts the line of one box into a chunk, and `total_line` that of all boxes together. Which lines those are is
-//! said in `specs/SpaceLines.antt`. Neither call takes memory.
-//! Law: none of the lines is longer than `LINE_BYTES` (`lines_are_short`).
+//! `space_line` appends the line of one box to a chunk, and `total_line` that of all boxes together (`SpaceLines.antt`).
+//! Neither takes memory.
 //!
-//! It knows names, bounds and chunks. It doesn't know cores, ports, nor when a line is told.
+//! Proved: `space_line` and `total_line` append exactly the line that `SpaceLines.antt` defines. Law: such a line has at most
+//! 128 bytes (`lines_are_short`).
+//!
+//! It knows names, bounds and chunks. It doesn't know cores, ports, or when a line is reported.
 #![tactic(auto)]
 
 mod laws;

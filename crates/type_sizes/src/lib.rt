@@ -1,10 +1,13 @@
-//! The rules on sizes: no type of a declaration has too many words, and neither have the wires of a program together.
+//! The rules on sizes: no type of a declaration has too many words, and neither have all wires of a program together.
 //!
-//! `first_large_type` gives the first declaration with too large a type, and `first_past_words` the first wire with which all
-//! wires have too many words, by `hume_check/specs/SizeRules.antt`. Sizes stop one word past what all wires may have
-//! (`specs/inner/Capped.antt`), so nothing overflows and both tests are exact.
+//! Main calls: `first_large_type` gives the first declaration with too large a type, and `first_past_words` the first wire with
+//! which all wires have too many words (`SizeRules.antt` of `hume_check`). Sizes stop one word past what all wires may have
+//! (the private `Capped.antt`), so nothing overflows.
 //!
-//! It knows declarations and the signatures of their program. It doesn't know values, nor how deep a wire may be.
+//! Proved: `first_large_type` gives the first declaration that breaks rule 73, and `first_past_words` the first wire that
+//! breaks rule 74, by the signatures of the program: both tests are exact.
+//!
+//! It knows declarations and the signatures of their program. It doesn't know values, or how deep a wire may be.
 #![tactic(auto)]
 
 mod casts;

@@ -1,12 +1,15 @@
-//! The values on wires as flat words: written from values, and kept in the queues of wires.
+//! The values on wires as flat words: `flatten` writes the words of a value, and a `WireCell` is the queue of one wire.
 //!
-//! `flatten` writes the words of a value into room for them, each once and in order. A `WireCell` holds the values of one wire, as
-//! many as its depth allows, in a ring that is made once; no other call takes memory. Which words are a value's is said by
-//! `hume_base/specs/Flat.antt`, and which values a cell holds by `specs/Cells.antt`.
-//! Laws: from the words that `flatten` writes, `value_of` of `hume_model` reads the value, and the other way round
-//! (`value_of_undoes_flatten`, `flatten_undoes_value_of`); a cell begins with its wire's initial value
-//! (`first_cells_hold_initial_values`), shows the oldest, and holds what is asserted and not taken (`cells_hold_values`).
-//! It knows types, values and the wires of a core; it doesn't know nodes, streams and times.
+//! `flatten` writes the words of a value into a slice, each once and in order. A `WireCell` holds the values of one wire, as
+//! many as its depth allows, in a ring that is made once; no other call takes memory. `Flat.antt` of `hume_base` says which
+//! words are a value's, and `Cells.antt` which values a cell holds.
+//!
+//! Proved: `flatten` writes exactly the flat words of a value. Each call of `WireCell` takes, adds or shows exactly the value
+//! that it says, the oldest first, up to the wire's depth. Laws: `value_of` of `hume_model` reads what `flatten` writes as the
+//! same value, and the other way round (`value_of_undoes_flatten`, `flatten_undoes_value_of`); a cell begins with its wire's
+//! initial value (`first_cells_hold_initial_values`), and shows and keeps its values (`cells_hold_values`).
+//!
+//! It knows types, values and the wires of a core. It doesn't know nodes, streams or times.
 #![tactic(auto)]
 
 mod cell;

@@ -1,10 +1,13 @@
-//! The types that declarations write down, and the types of wires.
+//! The types that declarations write down, and the types of wires, found by the names at their ends.
 //!
-//! `written` gives the type that is written. `WireTypes::make` writes down the types of all inputs and outputs of boxes once,
-//! and `between` finds the type of a wire by the names at its ends: just the one of `hume_check/specs/TypeRules.antt`, as the
-//! law `types_between_ends` says (`specs/NodeTypes.antt`).
+//! Main calls: `written` gives the type that is written. `WireTypes::make` records the types of all inputs and outputs once,
+//! and `between` finds the type of a wire (`TypeRules.antt` of `hume_check`, `NodeTypes.antt`).
 //!
-//! It knows boxes, streams and the types of data that names stand for. It doesn't know values, sizes, nor rules.
+//! Proved: `written` gives the type that is written exactly where it is one. `WireTypes::make` has the types of all inputs and
+//! outputs by the names of their nodes, and `between` finds the type at two ends. Law: that is the type of the wire between
+//! them (`types_between_ends`).
+//!
+//! It knows boxes, streams and the data types that names stand for. It doesn't know values, sizes or rules.
 #![tactic(auto)]
 
 mod laws;

@@ -1,9 +1,11 @@
-//! The rule on first values of wires: each is one of its wire's type.
+//! The rule on first values of wires: each has the type of its wire.
 //!
-//! `first_without_value` gives the first wire with a first value that isn't built as values are, or is none of the wire's
-//! type, by `hume_check/specs/TypeRules.antt`.
+//! Main call: `first_without_value` gives the first wire with a first value that isn't built as values are, or isn't of the
+//! wire's type (`TypeRules.antt` of `hume_check`).
 //!
-//! It knows declarations and the signatures of their program. It doesn't know sizes, nor which wires need a first value.
+//! Proved: `first_without_value` gives the first wire that breaks rule 45, by the signatures of the program.
+//!
+//! It knows declarations and the signatures of their program. It doesn't know sizes, or which wires need a first value.
 #![tactic(auto)]
 
 mod first;

@@ -1,8 +1,11 @@
-//! Whether each input and each output of a core has its one wire, and which wire that is.
+//! The rules on wires: whether each input and each output of a core has its one wire, and which wire that is.
 //!
 //! Main call: `check_wires`, which gives the `Wiring` of the core or refuses it; `Wiring::input` and `Wiring::output` name the
-//! wire at a position. The rules are said by `hume_model/specs/WireRules.antt`, and what a wiring is by `specs/Wires.antt`.
-//! Law: a well-formed core that breaks none of these rules is wired, and its wires agree (`fine_wires_are_wired`).
+//! wire at a position. `WireRules.antt` of `hume_model` defines the rules, and `Wires.antt` a wiring.
+//!
+//! Proved: `check_wires` gives the wiring of a core exactly where its wires break no rule, and otherwise the least rule that
+//! they break (`BreaksWires`); `Wiring::input` and `output` give the one wire at a place. Law: a well-formed core whose wires
+//! break no rule has one wire at each input and output, and wires that meet have one type (`fine_wires_are_wired`).
 //!
 //! It knows the nodes and the wires of cores. It doesn't know sources, what boxes do, or what is on the wires.
 #![tactic(auto)]
