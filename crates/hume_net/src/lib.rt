@@ -1,11 +1,13 @@
 //! A net of boxes and streams joined by wires, and how it goes on by supersteps: a plain, slow net that computes just what
 //! is defined.
 //!
-//! Main call: `Net::step`, one superstep; `net_make` begins with the initial values.
+//! Main call: `Net::step`, one superstep; `net_make` begins with the initial values. `find_plan` gives how the nodes are joined.
 //! Meaning: `specs/Lockstep.antt`, over the half steps of single nodes in `specs/HalfSteps.antt` and what each of these sees
-//! of a state in `specs/Sides.antt`.
-//! Laws: `src/laws.rt`. States keep types, places, orders of rules, depths and an entry for each output; and each node's part
-//! and each wire follow from one half step, which depends on that node's part and wires alone.
+//! of a state in `specs/Sides.antt`. `specs/Plan.antt` and `specs/Times.antt` have the words for nodes that make half steps each
+//! at its own time, `specs/Parts.antt` those for a state that is read part by part.
+//! Laws: `src/laws.rt`. States keep types, places, orders of rules, depths and an entry for each output; each node's part
+//! and each wire follow from one half step, which depends on that node's part and wires alone; and a state is no more than its
+//! parts and wires.
 //! Knows: cores, and the values on wires, pending, to come and taken.
 //! Doesn't know: sources, ports, schedules, threads, and how a box evaluates its rules beyond `first_firing`.
 #![tactic(auto)]
@@ -23,10 +25,12 @@ mod super_steps;
 
 pub use laws::{
     half_steps_see_their_sides, locksteps_have_all_outputs, locksteps_have_places,
-    locksteps_keep_types, nodes_see_their_wires, parts_follow_half_steps, plans_join_nodes,
-    starts_have_types, supersteps_keep_types, times_count_half_steps, times_follow_one_another,
-    well_formed_nets_are_typed, wires_follow_half_steps, wires_keep_within_their_depths,
+    locksteps_keep_types, made_states_have_their_parts, nodes_see_their_wires,
+    parts_follow_half_steps, plans_join_nodes, sound_cores_have_plans, starts_have_types,
+    states_are_made_of_their_parts, supersteps_keep_types, times_count_half_steps,
+    times_follow_one_another, well_formed_nets_are_typed, wires_follow_half_steps,
+    wires_keep_within_their_depths,
 };
 pub use net::{Net, net_make};
-pub use plan::Plan;
+pub use plan::{Plan, find_plan};
 pub use state::{HalfStep, Part, State};
