@@ -34,7 +34,8 @@ list_from f first (x ∷ xs) says =
     ap (λ y. y ∷ map f (range_with_len (first + 1) (length xs))) here ∙ ap (λ ys. x ∷ ys) rest
 
 -- a list is what it has at each place
-pub own_list : {X : Type 0} (bound : ℕ) (f : ℕ → X) (xs : List X) → length xs ≡ bound → ((i : ℕ) (x : X) → slice_get xs i ≡ Some x → f i ≡ x) → numbered bound f ≡ xs
+pub own_list : {X : Type 0} (bound : ℕ) (f : ℕ → X) (xs : List X) → length xs ≡ bound
+    → ((i : ℕ) (x : X) → slice_get xs i ≡ Some x → f i ≡ x) → numbered bound f ≡ xs
 own_list bound f xs long says =
     ap (λ count. numbered count f) (sym long) ∙ list_from f 0 xs (λ i x is. (let at : 0 + i ≡ i = omega arith in ap f at ∙ says i x is))
 

@@ -127,8 +127,10 @@ pub fn half_steps_see_their_sides()
 /// A state that is made of parts and wires has these parts and wires.
 pub fn made_states_have_their_parts()
     ensures places { (core : Core) (part : ℕ → Part) (values : ℕ → List Value) → IsStateOf core (state_of core part values) }
-    ensures parts { (core : Core) (part : ℕ → Part) (values : ℕ → List Value) (n : ℕ) → n < length core.nodes → part_of (state_of core part values) n ≡ part n }
-    ensures wires { (core : Core) (part : ℕ → Part) (values : ℕ → List Value) (w : ℕ) → w < length core.wires → on_wire (state_of core part values) w ≡ values w }
+    ensures parts { (core : Core) (part : ℕ → Part) (values : ℕ → List Value) (n : ℕ) → n < length core.nodes
+        → part_of (state_of core part values) n ≡ part n }
+    ensures wires { (core : Core) (part : ℕ → Part) (values : ℕ → List Value) (w : ℕ) → w < length core.wires
+        → on_wire (state_of core part values) w ≡ values w }
 {}
 
 /// Each state of a core is made of its own parts and wires. Two with the same parts and wires are the same state.
