@@ -5,7 +5,9 @@ pub mod SeenEnds
 pub mod FirstFound
 pub mod Gathered
 pub mod Orders
+pub mod Parts
 pub mod Pending
+pub mod Plans
 pub mod Ranges
 pub mod SideSteps
 pub mod SideTypes

@@ -16,7 +16,8 @@ use Rattle.hume_net.specs.declared.state.HalfStep.{HalfStep}
 use Rattle.hume_net.specs.declared.state.Part.{Part}
 use Rattle.hume_net.specs.declared.state.State.{State}
 use Rattle.hume_net.specs.HalfSteps.{oldest, moved_last, fired, idle, with_asserted, have_room, assert_pending}
-use Rattle.hume_net.specs.Sides.{part_of, inputs, outputs, rooms, each_node, executed, executed_at, stepped, stepped_at, left_on}
+use Rattle.hume_net.specs.Parts.{IsStateOf}
+use Rattle.hume_net.specs.Sides.{part_of, inputs, outputs, rooms, each_node, executed, executed_at, stepped, stepped_at, left_on, gathered}
 use Rattle.hume_net.specs.Lockstep.{mid, up, superstep, lockstep}
 use Rattle.hume_net.specs.Start.{start, written_order}
 use Rattle.hume_net.specs.StatePlaces.{IsOrder, HasPlaces}
@@ -69,9 +70,30 @@ module _ (b : BoxC) where
 
 -- states
 
--- what is gathered from a half step of each node has a place for each
 gathered_length : {X : Type 0} (core : Core) (says : ℕ → HalfStep) (f : HalfStep → X) → length (map f (each_node core says)) ≡ length core.nodes
 gathered_length core says f = length-map (each_node core says) f ∙ length-numbered (length core.nodes) says
+
+-- what is gathered from a half step of each node has a place for each
+gathered_state : (core : Core) (says : ℕ → HalfStep) (values : WireC → List Value) → IsStateOf core (gathered (each_node core says) (map values core.wires))
+gathered_state core says values = record {
+  wires = length-map core.wires values;
+  pending = gathered_length core says (λ (half : HalfStep). half.part.pending);
+  orders = gathered_length core says (λ (half : HalfStep). half.part.order);
+  coming = gathered_length core says (λ (half : HalfStep). half.part.coming);
+  taken = gathered_length core says (λ (half : HalfStep). half.part.taken);
+}
+
+module _ (core : Core) (s : State) where
+  mid_state : IsStateOf core (mid core s)
+  mid_state = gathered_state core (executed core s) (λ (wire : WireC). left_on (each_node core (executed core s)) wire.to wire.to_port)
+
+  up_state : IsStateOf core (up core s)
+  up_state = gathered_state core (stepped core s) (λ (wire : WireC). left_on (each_node core (stepped core s)) wire.from wire.from_port)
+
+pub lockstep_state : (core : Core) (s : State) → IsStateOf core s → (k : ℕ) → IsStateOf core (lockstep core s k)
+unfolding lockstep superstep
+lockstep_state core s is zero = is
+lockstep_state core s is (suc k) = up_state core (mid core (lockstep core s k))
 
 module _ (core : Core) (s : State) (places : HasPlaces core s) where
   executed_order : (n : ℕ) (b : BoxC) → slice_get core.nodes n ≡ Some (Rules b) → IsOrder (length b.rules) (part_of (mid core s) n).order
@@ -87,24 +109,10 @@ module _ (core : Core) (s : State) (places : HasPlaces core s) where
       (assert_order b core (part_of s n) (places.rules n b is_box) (outputs core s n (Rules b)) (rooms core s n (Rules b)) (part_of s n).pending))
 
   mid_places : HasPlaces core (mid core s)
-  mid_places = record {
-    wires = length-map core.wires (λ (wire : WireC). left_on (each_node core (executed core s)) wire.to wire.to_port);
-    pending = gathered_length core (executed core s) (λ (half : HalfStep). half.part.pending);
-    orders = gathered_length core (executed core s) (λ (half : HalfStep). half.part.order);
-    coming = gathered_length core (executed core s) (λ (half : HalfStep). half.part.coming);
-    taken = gathered_length core (executed core s) (λ (half : HalfStep). half.part.taken);
-    rules = executed_order;
-  }
+  mid_places = record { places = mid_state core s; rules = executed_order }
 
   up_places : HasPlaces core (up core s)
-  up_places = record {
-    wires = length-map core.wires (λ (wire : WireC). left_on (each_node core (stepped core s)) wire.from wire.from_port);
-    pending = gathered_length core (stepped core s) (λ (half : HalfStep). half.part.pending);
-    orders = gathered_length core (stepped core s) (λ (half : HalfStep). half.part.order);
-    coming = gathered_length core (stepped core s) (λ (half : HalfStep). half.part.coming);
-    taken = gathered_length core (stepped core s) (λ (half : HalfStep). half.part.taken);
-    rules = stepped_order;
-  }
+  up_places = record { places = up_state core s; rules = stepped_order }
 
 pub superstep_places : (core : Core) (s : State) → HasPlaces core s → HasPlaces core (superstep core s)
 unfolding superstep
@@ -112,11 +120,13 @@ superstep_places core s places = up_places core (mid core s) (mid_places core s 
 
 start_places : (core : Core) (coming : List (List Value)) → length coming ≡ length core.nodes → HasPlaces core (start core coming)
 start_places core coming many = record {
-  wires = length-map core.wires (λ (wire : WireC). option_to_list wire.initial);
-  pending = length-numbered (length core.nodes) _;
-  orders = length-map core.nodes written_order;
-  coming = many;
-  taken = length-numbered (length core.nodes) _;
+  places = record {
+    wires = length-map core.wires (λ (wire : WireC). option_to_list wire.initial);
+    pending = length-numbered (length core.nodes) _;
+    orders = length-map core.nodes written_order;
+    coming = many;
+    taken = length-numbered (length core.nodes) _;
+  };
   rules = λ n b is_box.
       subst (λ o. IsOrder (length b.rules) (unwrap_or o [])) (sym (slice_get-map written_order core.nodes n ∙ ap (option_map written_order) is_box))
       (first_order (length b.rules));

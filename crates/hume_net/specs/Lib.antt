@@ -3,8 +3,10 @@ pub mod Sides
 pub mod Lockstep
 pub mod Start
 pub mod Nodes
+pub mod Parts
 pub mod StatePlaces
 pub mod StateTyping
 pub mod Depths
 pub mod Plan
+pub mod Times
 pub mod inner

@@ -7,6 +7,7 @@ use Rattle.hume_model.specs.declared.core_tree.NodeC.TheVariants.{Rules}
 use Rattle.hume_model.specs.declared.core_tree.Core.{Core}
 use Rattle.hume_model.specs.Handling.{HandlesAll}
 use Rattle.hume_net.specs.declared.state.State.{State}
+use Rattle.hume_net.specs.Parts.{IsStateOf}
 use Rattle.hume_net.specs.Sides.{part_of}
 
 -- an order of so many numbers: each in it is below the count, and each below the count stands in it exactly once
@@ -16,11 +17,7 @@ pub record IsOrder (count : ℕ) (order : List ℕ) : Type 0 where
 
 -- each wire and each node has its place in the state, and a box has an order of its rules
 pub record HasPlaces (core : Core) (state : State) : Type 0 where
-  pub wires : length state.wires ≡ length core.wires
-  pub pending : length state.pending ≡ length core.nodes
-  pub orders : length state.orders ≡ length core.nodes
-  pub coming : length state.coming ≡ length core.nodes
-  pub taken : length state.taken ≡ length core.nodes
+  pub places : IsStateOf core state
   pub rules : (n : ℕ) (b : BoxC) → slice_get core.nodes n ≡ Some (Rules b) → IsOrder (length b.rules) (part_of state n).order
 
 -- a box's pending outputs have a value, or none, for each of its outputs

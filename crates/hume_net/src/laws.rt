@@ -1,16 +1,18 @@
 //! Laws of the definitions, as contracts of functions that do nothing.
-ghost use Rattle.std.specs.Prelude.{◌≡◌, ◌+◌, ◌%◌, ℕ, Bool, List, Some, length, slice_get};
+ghost use Rattle.std.specs.Prelude.{◌≡◌, ◌<◌, ◌+◌, ◌%◌, ℕ, Bool, List, Some, length, slice_get};
 ghost use Rattle.std.specs.List.{position};
 ghost use Rattle.hume_base.specs.declared.types.Value.{Value};
 ghost use Rattle.hume_model.specs.declared.core_tree.Core.{Core};
 ghost use Rattle.hume_model.specs.declared.core_tree.NodeC.{NodeC};
 ghost use Rattle.hume_model.specs.declared.core_tree.WireC.{WireC};
-ghost use Rattle.hume_model.specs.WellFormed.{IsWellFormed};
+ghost use Rattle.hume_model.specs.WellFormed.{HasSoundFrame, IsWellFormed};
 ghost use Rattle.hume_model.specs.Wiring.{IsTheWire, IsWired, WiresAgree};
+ghost use Rattle.hume_net.specs.declared.state.Part.{Part};
 ghost use Rattle.hume_net.specs.declared.state.State.{State};
 ghost use Rattle.hume_net.specs.Depths.{WiresHaveDepth, IsWithinDepths};
 ghost use Rattle.hume_net.specs.Lockstep.{mid, up, superstep, lockstep, at_time, node_at, wire_at, executes, supers};
-ghost use Rattle.hume_net.specs.Plan.{plan_of};
+ghost use Rattle.hume_net.specs.Parts.{IsStateOf, state_of};
+ghost use Rattle.hume_net.specs.Plan.{plan_of, wires_of, producer_of, consumer_of, IsPlan};
 ghost use Rattle.hume_net.specs.Sides.{on_found, on_wire, part_of, executed, stepped, left_by};
 ghost use Rattle.hume_net.specs.Start.{start};
 ghost use Rattle.hume_net.specs.StatePlaces.{HasPlaces, HaveAllOutputs, BoxesHandleAll};
@@ -35,6 +37,7 @@ pub fn locksteps_keep_types()
 
 /// Each wire and each node has its place in every state of a lockstep, and each box has an order of its rules.
 pub fn locksteps_have_places()
+    ensures states { (core : Core) (state : State) → IsStateOf core state → (k : ℕ) → IsStateOf core (lockstep core state k) }
     ensures supersteps { (core : Core) (state : State) → HasPlaces core state → HasPlaces core (superstep core state) }
     ensures locksteps { (core : Core) (coming : List (List Value)) → length coming ≡ length core.nodes
         → (k : ℕ) → HasPlaces core (lockstep core (start core coming) k) }
@@ -81,10 +84,18 @@ pub fn times_count_half_steps()
     ensures odd { (time : ℕ) → time % 2 ≡ 1 → (executes (time + 1) ≡ executes time) × (supers (time + 1) ≡ supers time + 1) }
 {}
 
-/// The plan of a core says of each wire where it comes from and where it leads.
+/// The plan of a core has its wires, and says of each where it comes from and where it leads.
 pub fn plans_join_nodes()
-    ensures { (core : Core) (w : ℕ) (wire : WireC) → slice_get core.wires w ≡ Some wire
+    ensures count { (core : Core) → wires_of (plan_of core) ≡ length core.wires }
+    ensures lists { (core : Core) (w : ℕ) (wire : WireC) → slice_get core.wires w ≡ Some wire
         → (slice_get (plan_of core).producer w ≡ Some wire.from) × (slice_get (plan_of core).consumer w ≡ Some wire.to) }
+    ensures ends { (core : Core) (w : ℕ) (wire : WireC) → slice_get core.wires w ≡ Some wire
+        → (producer_of (plan_of core) w ≡ wire.from) × (consumer_of (plan_of core) w ≡ wire.to) }
+{}
+
+/// A core whose frame is sound has a plan in which each wire joins two nodes.
+pub fn sound_cores_have_plans()
+    ensures { (core : Core) → HasSoundFrame core → IsPlan (plan_of core) }
 {}
 
 /// A node's part at the next time is what its half step makes of the state at a time.
@@ -111,4 +122,22 @@ pub fn half_steps_see_their_sides()
         → ((w : ℕ) (wire : WireC) → slice_get core.wires w ≡ Some wire → wire.to ≡ n → on_wire s w ≡ on_wire t w) → executed core s n ≡ executed core t n }
     ensures supers { (core : Core) (s t : State) (n : ℕ) → part_of s n ≡ part_of t n
         → ((w : ℕ) (wire : WireC) → slice_get core.wires w ≡ Some wire → wire.from ≡ n → on_wire s w ≡ on_wire t w) → stepped core s n ≡ stepped core t n }
+{}
+
+/// A state that is made of parts and wires has these parts and wires.
+pub fn made_states_have_their_parts()
+    ensures places { (core : Core) (part : ℕ → Part) (values : ℕ → List Value) → IsStateOf core (state_of core part values) }
+    ensures parts { (core : Core) (part : ℕ → Part) (values : ℕ → List Value) (n : ℕ) → n < length core.nodes
+        → part_of (state_of core part values) n ≡ part n }
+    ensures wires { (core : Core) (part : ℕ → Part) (values : ℕ → List Value) (w : ℕ) → w < length core.wires
+        → on_wire (state_of core part values) w ≡ values w }
+{}
+
+/// Each state of a core is made of its own parts and wires. Two with the same parts and wires are the same state.
+pub fn states_are_made_of_their_parts()
+    ensures own { (core : Core) (state : State) → IsStateOf core state → state_of core (part_of state) (on_wire state) ≡ state }
+    ensures same { (core : Core) (s t : State) → IsStateOf core s → IsStateOf core t → ((n : ℕ) → n < length core.nodes → part_of s n ≡ part_of t n)
+        → ((w : ℕ) → w < length core.wires → on_wire s w ≡ on_wire t w) → s ≡ t }
+    ensures made { (core : Core) (part part' : ℕ → Part) (values values' : ℕ → List Value) → ((n : ℕ) → n < length core.nodes → part n ≡ part' n)
+        → ((w : ℕ) → w < length core.wires → values w ≡ values' w) → state_of core part values ≡ state_of core part' values' }
 {}

@@ -29,10 +29,12 @@ mod super_steps;
 
 pub use laws::{
     half_steps_see_their_sides, locksteps_have_all_outputs, locksteps_have_places,
-    locksteps_keep_types, nodes_see_their_wires, parts_follow_half_steps, plans_join_nodes,
-    starts_have_types, supersteps_keep_types, times_count_half_steps, times_follow_one_another,
-    well_formed_nets_are_typed, wires_follow_half_steps, wires_keep_within_their_depths,
+    locksteps_keep_types, made_states_have_their_parts, nodes_see_their_wires,
+    parts_follow_half_steps, plans_join_nodes, sound_cores_have_plans, starts_have_types,
+    states_are_made_of_their_parts, supersteps_keep_types, times_count_half_steps,
+    times_follow_one_another, well_formed_nets_are_typed, wires_follow_half_steps,
+    wires_keep_within_their_depths,
 };
 pub use net::{Net, net_make};
-pub use plan::Plan;
+pub use plan::{Plan, find_plan};
 pub use state::{HalfStep, Part, State};
