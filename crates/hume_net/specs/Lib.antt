@@ -6,5 +6,6 @@ pub mod Nodes
 pub mod StatePlaces
 pub mod StateTyping
 pub mod Depths
+pub mod StreamSteps
 pub mod Plan
 pub mod inner

@@ -24,8 +24,10 @@ mod super_steps;
 pub use laws::{
     half_steps_see_their_sides, locksteps_have_all_outputs, locksteps_have_places,
     locksteps_keep_types, nodes_see_their_wires, parts_follow_half_steps, plans_join_nodes,
-    starts_have_types, supersteps_keep_types, times_count_half_steps, times_follow_one_another,
-    well_formed_nets_are_typed, wires_follow_half_steps, wires_keep_within_their_depths,
+    starts_have_types, states_keep_outputs_places_and_depths, states_keep_types_at_all_times,
+    streams_go_on_value_by_value, supersteps_keep_types, times_count_half_steps,
+    times_follow_one_another, well_formed_nets_are_typed, wired_cores_find_all_wires,
+    wires_are_found_at_their_ends, wires_follow_half_steps, wires_keep_within_their_depths,
 };
 pub use net::{Net, net_make};
 pub use plan::Plan;
