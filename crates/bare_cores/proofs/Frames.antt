@@ -28,14 +28,14 @@ use Rattle.hume_model.specs.Wiring.{inputs_of, outputs_of}
 use Rattle.bare_cores.specs.Bare.{bare_rule, bare_handler, bare_box, bare_node, bare_of}
 
 -- what is mapped and found was there before
-was_there : {X Y : Type 0} (f : X → Y) (xs : List X) (i : ℕ) (y : Y) → slice_get (map f xs) i ≡ Some y → (x : X) × (slice_get xs i ≡ Some x) × (f x ≡ y)
+pub was_there : {X Y : Type 0} (f : X → Y) (xs : List X) (i : ℕ) (y : Y) → slice_get (map f xs) i ≡ Some y → (x : X) × (slice_get xs i ≡ Some x) × (f x ≡ y)
 was_there f xs i y found = by (slice_get xs i) refl
   where
     by : (o : Option _) → slice_get xs i ≡ o → (x : _) × (slice_get xs i ≡ Some x) × (f x ≡ y)
     by None at = absurd (let both : None ≡ Some y = ap (option_map f) (sym at) ∙ sym (slice_get-map f xs i) ∙ found in cc)
     by (Some x) at = (x, at, (let both : Some (f x) ≡ Some y = ap (option_map f) (sym at) ∙ sym (slice_get-map f xs i) ∙ found in cc))
 
-there : {X Y : Type 0} (f : X → Y) (xs : List X) (i : ℕ) (x : X) → slice_get xs i ≡ Some x → slice_get (map f xs) i ≡ Some (f x)
+pub there : {X Y : Type 0} (f : X → Y) (xs : List X) (i : ℕ) (x : X) → slice_get xs i ≡ Some x → slice_get (map f xs) i ≡ Some (f x)
 there f xs i x at = slice_get-map f xs i ∙ ap (option_map f) at
 
 bare_box_frame : (core : Core) (b : BoxC) → BoxHasFrame core b → BoxHasFrame (bare_of core) (bare_box b)
@@ -54,12 +54,12 @@ bare_box_frame core b frame = record {
       frame.apart first second one.0 two.0 one.1 two.1 (ap (λ (h : HandC). h.exn) one.2 ∙ same ∙ sym (ap (λ (h : HandC). h.exn) two.2));
 }
 
-same_outputs : (node : NodeC) → outputs_of (bare_node node) ≡ outputs_of node
+pub same_outputs : (node : NodeC) → outputs_of (bare_node node) ≡ outputs_of node
 same_outputs (Rules b) = refl
 same_outputs (From stream) = refl
 same_outputs (To stream) = refl
 
-same_inputs : (node : NodeC) → inputs_of (bare_node node) ≡ inputs_of node
+pub same_inputs : (node : NodeC) → inputs_of (bare_node node) ≡ inputs_of node
 same_inputs (Rules b) = refl
 same_inputs (From stream) = refl
 same_inputs (To stream) = refl
@@ -74,7 +74,7 @@ same_input_type (Rules b) place = refl
 same_input_type (From stream) place = refl
 same_input_type (To stream) place = refl
 
-same_kind : (node : NodeC) → is_stream (bare_node node) ≡ is_stream node
+pub same_kind : (node : NodeC) → is_stream (bare_node node) ≡ is_stream node
 same_kind (Rules b) = refl
 same_kind (From stream) = refl
 same_kind (To stream) = refl

@@ -1,8 +1,10 @@
 pub mod Ahead
 pub mod AllOutputs
+pub mod AtTimes
 pub mod Depths
 pub mod SeenEnds
 pub mod FirstFound
+pub mod FoundWires
 pub mod Gathered
 pub mod Orders
 pub mod Parts
@@ -16,5 +18,6 @@ pub mod StartTypes
 pub mod Starts
 pub mod StatePlaces
 pub mod StateTypes
+pub mod StreamSteps
 pub mod Times
 pub mod WellFormedNets

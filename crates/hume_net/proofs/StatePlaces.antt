@@ -108,7 +108,7 @@ module _ (core : Core) (s : State) (places : HasPlaces core s) where
       (subst (λ o. IsOrder (length b.rules) (stepped_at core s n o).part.order) (sym is_box)
       (assert_order b core (part_of s n) (places.rules n b is_box) (outputs core s n (Rules b)) (rooms core s n (Rules b)) (part_of s n).pending))
 
-  mid_places : HasPlaces core (mid core s)
+  pub mid_places : HasPlaces core (mid core s)
   mid_places = record { places = mid_state core s; rules = executed_order }
 
   up_places : HasPlaces core (up core s)

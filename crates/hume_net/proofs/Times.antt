@@ -15,7 +15,7 @@ use Rattle.hume_net.proofs.Gathered.{mid_part, up_part, mid_wire, up_wire}
 -- times
 
 module _ (core : Core) (s : State) (time : ℕ) where
-  even_state : time % 2 ≡ 0 → at_time core s time ≡ lockstep core s (time / 2)
+  pub even_state : time % 2 ≡ 0 → at_time core s time ≡ lockstep core s (time / 2)
   even_state even = ap (λ b. if b then lockstep core s (time / 2) else mid core (lockstep core s (time / 2))) (eq-eqb (time % 2) 0 even)
 
   odd_state : time % 2 ≡ 1 → at_time core s time ≡ mid core (lockstep core s (time / 2))
@@ -73,7 +73,7 @@ module _ (core : Core) (s t : State) (n : ℕ) (same : part_of s n ≡ part_of t
         let found = position_at (leads_to n input) core.wires w here in
         alike w found.0 found.1 (eqb-true _ _ (and_parts _ _ found.2).0)
 
-    same_inputs : (node : NodeC) → inputs core s n node ≡ inputs core t n node
+    pub same_inputs : (node : NodeC) → inputs core s n node ≡ inputs core t n node
     same_inputs node = ap (λ f. numbered (inputs_of node) f) (λ i input. same_input input (wire_to core n input) refl i)
 
     executed_from : (o : Option NodeC) → executed_at core s n o ≡ executed_at core t n o

@@ -7,6 +7,7 @@ pub mod Parts
 pub mod StatePlaces
 pub mod StateTyping
 pub mod Depths
+pub mod StreamSteps
 pub mod Plan
 pub mod Times
 pub mod inner

@@ -1,22 +1,23 @@
 //! Laws of the definitions, as contracts of functions that do nothing.
-ghost use Rattle.std.specs.Prelude.{◌≡◌, ◌<◌, ◌+◌, ◌%◌, ℕ, Bool, List, Some, length, slice_get};
+ghost use Rattle.std.specs.Prelude.{◌≡◌, ◌<◌, ◌+◌, ◌-◌, ◌%◌, ℕ, Bool, List, Some, length, slice_get};
 ghost use Rattle.std.specs.List.{position};
 ghost use Rattle.hume_base.specs.declared.types.Value.{Value};
 ghost use Rattle.hume_model.specs.declared.core_tree.Core.{Core};
 ghost use Rattle.hume_model.specs.declared.core_tree.NodeC.{NodeC};
 ghost use Rattle.hume_model.specs.declared.core_tree.WireC.{WireC};
 ghost use Rattle.hume_model.specs.WellFormed.{HasSoundFrame, IsWellFormed};
-ghost use Rattle.hume_model.specs.Wiring.{IsTheWire, IsWired, WiresAgree};
+ghost use Rattle.hume_model.specs.Wiring.{IsTheWire, IsWired, WiresAgree, comes_from, inputs_of, leads_to, outputs_of};
 ghost use Rattle.hume_net.specs.declared.state.Part.{Part};
 ghost use Rattle.hume_net.specs.declared.state.State.{State};
 ghost use Rattle.hume_net.specs.Depths.{WiresHaveDepth, IsWithinDepths};
 ghost use Rattle.hume_net.specs.Lockstep.{mid, up, superstep, lockstep, at_time, node_at, wire_at, executes, supers};
 ghost use Rattle.hume_net.specs.Parts.{IsStateOf, state_of};
 ghost use Rattle.hume_net.specs.Plan.{plan_of, wires_of, producer_of, consumer_of, IsPlan};
-ghost use Rattle.hume_net.specs.Sides.{on_found, on_wire, part_of, executed, stepped, left_by};
+ghost use Rattle.hume_net.specs.Sides.{on_found, on_wire, part_of, executed, stepped, left_by, wire_from, wire_to};
 ghost use Rattle.hume_net.specs.Start.{start};
 ghost use Rattle.hume_net.specs.StatePlaces.{HasPlaces, HaveAllOutputs, BoxesHandleAll};
 ghost use Rattle.hume_net.specs.StateTyping.{IsTypedNet, IsTypedState, InitialsAreTyped, ComingAreTyped};
+ghost use Rattle.hume_net.specs.StreamSteps.{HasGrown, HasShrunk};
 
 /// A superstep keeps types: the values on wires, those that are yet to be asserted and those that are taken are of theirs.
 pub fn supersteps_keep_types()
@@ -33,6 +34,58 @@ pub fn starts_have_types()
 pub fn locksteps_keep_types()
     ensures { (core : Core) → IsTypedNet core → InitialsAreTyped core → (coming : List (List Value)) → ComingAreTyped core coming
         → (k : ℕ) → IsTypedState core (lockstep core (start core coming) k) }
+{}
+
+/// Values keep their types from any state on: after any number of supersteps, and at any time.
+pub fn states_keep_types_at_all_times()
+    ensures supersteps { (core : Core) → IsTypedNet core → (state : State) → IsTypedState core state
+        → (k : ℕ) → IsTypedState core (lockstep core state k) }
+    ensures times { (core : Core) → IsTypedNet core → (state : State) → IsTypedState core state
+        → (time : ℕ) → IsTypedState core (at_time core state time) }
+{}
+
+/// From any state on, pending outputs have an entry for each output at any time, each wire, node and box has its place and an
+/// order of its rules, and in a wired core no wire holds more values than its depth, if this holds of the state.
+pub fn states_keep_outputs_places_and_depths()
+    ensures outputs { (core : Core) → IsTypedNet core → BoxesHandleAll core → (state : State) → IsTypedState core state → HaveAllOutputs core state
+        → (time : ℕ) → HaveAllOutputs core (at_time core state time) }
+    ensures places { (core : Core) (state : State) → HasPlaces core state → (time : ℕ) → HasPlaces core (at_time core state time) }
+    ensures depths { (core : Core) → IsWired core → (state : State) → IsWithinDepths core state → (time : ℕ) → IsWithinDepths core (at_time core state time) }
+{}
+
+/// A node takes one value at most in each execute step, behind those that it has taken, and asserts one at most of those that
+/// come to it in each super step, the first one.
+pub fn streams_go_on_value_by_value()
+    ensures taken { (core : Core) (state : State) (n : ℕ) (node : NodeC) → slice_get core.nodes n ≡ Some node → (time count : ℕ)
+        → HasGrown (executes (time + count) - executes time) (node_at core state n time).taken (node_at core state n (time + count)).taken }
+    ensures coming { (core : Core) (state : State) (n : ℕ) (node : NodeC) → slice_get core.nodes n ≡ Some node → (time count : ℕ)
+        → HasShrunk (supers (time + count) - supers time) (node_at core state n time).coming (node_at core state n (time + count)).coming }
+    ensures supersteps_taken { (core : Core) (state : State) (n : ℕ) (node : NodeC) → slice_get core.nodes n ≡ Some node → (first more : ℕ)
+        → HasGrown more (part_of (lockstep core state first) n).taken (part_of (lockstep core state (first + more)) n).taken }
+    ensures supersteps_coming { (core : Core) (state : State) (n : ℕ) (node : NodeC) → slice_get core.nodes n ≡ Some node → (first more : ℕ)
+        → HasShrunk more (part_of (lockstep core state first) n).coming (part_of (lockstep core state (first + more)) n).coming }
+{}
+
+/// The one wire that leads to an input is the wire found there, and the wire found there leads to it; so it is at outputs.
+pub fn wires_are_found_at_their_ends()
+    ensures input { (core : Core) (n input w : ℕ) → IsTheWire (leads_to n input) core.wires w → wire_to core n input ≡ Some w }
+    ensures output { (core : Core) (n output w : ℕ) → IsTheWire (comes_from n output) core.wires w → wire_from core n output ≡ Some w }
+    ensures leads { (core : Core) (n input w : ℕ) → wire_to core n input ≡ Some w
+        → (wire : WireC) × (slice_get core.wires w ≡ Some wire) × (wire.to ≡ n) × (wire.to_port ≡ input) }
+    ensures comes { (core : Core) (n output w : ℕ) → wire_from core n output ≡ Some w
+        → (wire : WireC) × (slice_get core.wires w ≡ Some wire) × (wire.from ≡ n) × (wire.from_port ≡ output) }
+{}
+
+/// In a wired core a wire is found at each input and output of a node; and where the frame is sound, each wire at both its ends.
+pub fn wired_cores_find_all_wires()
+    ensures inputs { (core : Core) → IsWired core → (n input : ℕ) (node : NodeC) → slice_get core.nodes n ≡ Some node → input < inputs_of node
+        → (w : ℕ) × (wire_to core n input ≡ Some w) }
+    ensures outputs { (core : Core) → IsWired core → (n output : ℕ) (node : NodeC) → slice_get core.nodes n ≡ Some node → output < outputs_of node
+        → (w : ℕ) × (wire_from core n output ≡ Some w) }
+    ensures consumers { (core : Core) → IsWired core → HasSoundFrame core → (w : ℕ) (wire : WireC) → slice_get core.wires w ≡ Some wire
+        → wire_to core wire.to wire.to_port ≡ Some w }
+    ensures producers { (core : Core) → IsWired core → HasSoundFrame core → (w : ℕ) (wire : WireC) → slice_get core.wires w ≡ Some wire
+        → wire_from core wire.from wire.from_port ≡ Some w }
 {}
 
 /// Each wire and each node has its place in every state of a lockstep, and each box has an order of its rules.

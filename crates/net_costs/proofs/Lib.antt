@@ -1,1 +1,3 @@
+pub mod Peaks
+pub mod Spent
 pub mod StepBounds

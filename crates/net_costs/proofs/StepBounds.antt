@@ -1,10 +1,9 @@
 -- Steps and peaks keep the bounds of boxes.
-use Rattle.std.proofs.Common.{◌≡◌, ℕ, Bool, true, false, List, [], ◌∷◌, map, Option, Some, None, slice_get, sym, subst, cond, arith}
+use Rattle.std.proofs.Common.{◌≡◌, ℕ, Bool, true, false, List, [], ◌∷◌, map, Some, slice_get, sym, subst, cond, arith}
 use Rattle.std.specs.List.{range_with_len}
 use Rattle.std.specs.Option.{is_some}
 use Rattle.hume_base.specs.declared.types.Value.{Value}
 use Rattle.hume_model.specs.declared.core_tree.BoxC.{BoxC}
-use Rattle.hume_model.specs.declared.core_tree.NodeC.{NodeC}
 use Rattle.hume_model.specs.declared.core_tree.NodeC.TheVariants.{Rules}
 use Rattle.hume_model.specs.declared.core_tree.Core.{Core}
 use Rattle.hume_net.specs.declared.state.State.{State}
@@ -13,6 +12,7 @@ use Rattle.hume_net.specs.Lockstep.{lockstep}
 use Rattle.hume_net.specs.Sides.{inputs, part_of}
 use Rattle.hume_net.specs.Start.{start}
 use Rattle.hume_net.specs.StateTyping.{IsTypedNet, IsTypedState, InitialsAreTyped, ComingAreTyped}
+use Rattle.hume_net.proofs.AtTimes.{types_after}
 use Rattle.hume_net.proofs.StateTypes.{inputs_typed}
 use Rattle.hume_net.proofs.StartTypes.{lockstep_typed}
 use Rattle.box_costs.specs.declared.cost.Cost.{Cost}
@@ -47,6 +47,13 @@ several_within cost bound each (x ∷ xs) =
     let here = each x in
     let later = several_within cost bound each xs in
     record { heap = omega (arith, here.heap, later.heap); stack = omega (arith, here.stack, later.stack); work = omega (arith, here.work, later.work) }
+
+-- peaks from any state whose values are of their types
+pub typed_peaks_within : (core : Core) → IsTypedNet core → (state : State) → IsTypedState core state
+    → (steps n : ℕ) (b : BoxC) → slice_get core.nodes n ≡ Some (Rules b) → IsAtMost (peaks core state steps n) (box_bound core b)
+typed_peaks_within core net state typed steps n b is =
+    several_within (λ k. step_spent core (lockstep core state k) n) (box_bound core b)
+    (λ k. step_within core net (lockstep core state k) (types_after core net state typed k) n b is) (range_with_len 0 steps)
 
 pub peaks_within : (core : Core) → IsTypedNet core → InitialsAreTyped core → (coming : List (List Value)) → ComingAreTyped core coming
     → (steps n : ℕ) (b : BoxC) → slice_get core.nodes n ≡ Some (Rules b) → IsAtMost (peaks core (start core coming) steps n) (box_bound core b)
