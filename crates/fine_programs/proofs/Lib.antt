@@ -2,5 +2,8 @@ mod Orders
 mod Places
 mod Ends
 mod Wires
-mod Signatures
-mod Cores
+pub mod Signatures
+pub mod Cores
+pub mod Decided
+mod Cycles
+pub mod LeastRules

@@ -1,6 +1,7 @@
-//! What breaks no rule stands for something.
-ghost use Rattle.std.specs.Prelude.{ℕ, List, Contains};
+//! Each program breaks a least rule or none, and what breaks none stands for something.
+ghost use Rattle.std.specs.Prelude.{ℕ, List, Option, Contains};
 ghost use Rattle.hume_base.specs.declared.finding.Finding.{Finding};
+ghost use Rattle.hume_base.specs.Least.{IsLeast};
 ghost use Rattle.hume_ast.specs.declared.tree.Program.{Program};
 ghost use Rattle.hume_ast.specs.Fits.{DeclsFit, IsFit};
 ghost use Rattle.hume_model.specs.declared.core_tree.NodeC.{NodeC};
@@ -12,7 +13,7 @@ ghost use Rattle.hume_typing.specs.declared.signatures.Signatures.{Signatures};
 ghost use Rattle.hume_check.specs.Declared.{Decls, Numbered, nodes_in, WireDecl, wires_in};
 ghost use Rattle.hume_check.specs.SignaturesOf.{AreSignatures};
 ghost use Rattle.hume_check.specs.CoreOf.{IsNodeOf, IsWireOf, IsCoreOf};
-ghost use Rattle.hume_check.specs.CheckRules.{BreaksCounts, IsFine};
+ghost use Rattle.hume_check.specs.CheckRules.{BreaksCounts, BreaksCheck, IsFine};
 
 /// The declarations of a program that breaks no rule on names and counts have their signatures.
 pub fn fine_names_have_signatures()
@@ -34,4 +35,9 @@ pub fn fine_wires_have_cores()
 pub fn fine_programs_have_cores()
     ensures { (text : List ℕ) (program : Program) → IsFit program → IsFine program.decls
         → (core : Core) × IsCoreOf text program core }
+{}
+
+/// Each program of the grammar breaks a least rule of names, counts, types and limits, or none.
+pub fn each_program_breaks_a_least_rule_or_none()
+    ensures { (program : Program) → IsFit program → (least : Option Finding) × IsLeast (BreaksCheck program.decls) least }
 {}

@@ -3,3 +3,4 @@ pub mod FirstWires
 pub mod SameTypes
 pub mod SlotSteps
 pub mod TheWires
+pub mod SomeWiring

@@ -4,8 +4,9 @@
 //! wire at a position. `WireRules.antt` of `hume_model` defines the rules, and `Wires.antt` a wiring.
 //!
 //! Proved: `check_wires` gives the wiring of a core exactly where its wires break no rule, and otherwise the least rule that
-//! they break (`BreaksWires`); `Wiring::input` and `output` give the one wire at a place. Law: a well-formed core whose wires
-//! break no rule has one wire at each input and output, and wires that meet have one type (`fine_wires_are_wired`).
+//! they break (`BreaksWires`); `Wiring::input` and `output` give the one wire at a place. Laws: a core whose wires break no
+//! rule has a wiring (`fine_wires_have_a_wiring`); a well-formed one has one wire at each input and output, and wires that meet
+//! have one type (`fine_wires_are_wired`).
 //!
 //! It knows the nodes and the wires of cores. It doesn't know sources, what boxes do, or what is on the wires.
 #![tactic(auto)]
@@ -19,5 +20,5 @@ mod slots;
 mod wiring;
 
 pub use check::{WireError, check_wires};
-pub use laws::fine_wires_are_wired;
+pub use laws::{fine_wires_are_wired, fine_wires_have_a_wiring};
 pub use wiring::Wiring;
