@@ -63,7 +63,8 @@ def all_misfits():
     """A line for each edit that doesn't fit the sources."""
     clauses = {}
     for it in functions(only_public=False):
-        clauses.setdefault(it.full_name(), set()).update(it.named_clauses())
+        for name in {it.full_name(), it.public_name()}:
+            clauses.setdefault(name, set()).update(it.named_clauses())
     gate = [it for it in crates() if of_gate(it)]
     if len(gate) > GATE_HAS_AT_MOST:
         yield f"{len(gate)} crates have a folder must-fail/, more than {GATE_HAS_AT_MOST}: move some edits to wrong-bodies/"

@@ -51,11 +51,14 @@ def crate_table():
 
 
 def proofs_table():
-    """What is proved of each crate, by the paragraph of its head that says so."""
+    """What is proved of each crate and module, by the paragraph of its head that says so. A crate that only has modules needs none."""
     print("| crate | proved, and the contract that carries it |\n|---|---|")
     for _, crate in groups():
-        for name, paragraphs in heads(crate):
+        parts = list(heads(crate))
+        for name, paragraphs in parts:
             proved = [it for it in paragraphs if it.startswith(PROVED)]
+            if not proved and name == crate and len(parts) > 1:
+                continue
             if len(proved) != 1:
                 sys.exit(f"the head of {name} has {len(proved)} paragraphs that begin with '{PROVED.strip()}'")
             said = proved[0][len(PROVED) :]

@@ -132,12 +132,14 @@ def crates():
 
 
 def roots(crate):
-    """The root files of a crate: src/lib.rt or src/main.rt, and below it the file of each public module, with the folder of its files."""
+    """The root files of a crate: src/lib.rt or src/main.rt, and below it the file of each module that is public or has files of its
+    own, with the folder of its files."""
     source = os.path.join(TOP, "crates", crate, "src")
     found = [(os.path.join(source, it), source) for it in ("lib.rt", "main.rt") if os.path.isfile(os.path.join(source, it))]
     for path, folder in found:
-        for name in re.findall(r"^pub mod (\w+);", read(path), re.M):
-            found.append((os.path.join(folder, name) + ".rt", os.path.join(folder, name)))
+        for public, name in re.findall(r"^(pub )?mod (\w+);", read(path), re.M):
+            if public or os.path.isdir(os.path.join(folder, name)):
+                found.append((os.path.join(folder, name) + ".rt", os.path.join(folder, name)))
     return found
 
 

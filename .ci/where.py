@@ -112,7 +112,7 @@ def lemma_files(word, found, known):
 
 
 def edits_of(word, deciding):
-    functions_of = {it.full_name() for it, _ in deciding}
+    functions_of = {name for it, _ in deciding for name in (it.full_name(), it.public_name())}
     for crate in crates():
         for edit in of_gate(crate) + of_others(crate):
             changed = {name for _, old, new in edit.changes for name in re.findall(r"\w+", old + " " + new)}
