@@ -1,0 +1,4 @@
+pub mod Schedules
+pub mod Playing
+pub mod Turns
+pub mod inner
