@@ -1,4 +1,5 @@
 pub mod RowCuts
+pub mod RowWidths
 pub mod Newlines
 pub mod WholeLines
 pub mod NextLines

@@ -1,18 +1,22 @@
 //! Laws of the definitions, as contracts of functions that do nothing.
-ghost use Rattle.std.specs.Prelude.{◌≡◌, ◌≤◌, ◌+◌, ◌*◌, ℕ, List, length, ◌++◌, map, Option, None, Some, true, Result};
+ghost use Rattle.std.specs.Prelude.{◌≡◌, ◌≤◌, ◌+◌, ◌*◌, ℕ, List, length, ◌++◌, map, Option, None, Some, true, Result, slice_get};
 ghost use Rattle.hume_base.specs.declared.limits.TheConstants.{MAX_EMPTY_LINES};
 ghost use Rattle.hume_base.specs.declared.types.Ty.{Ty};
 ghost use Rattle.hume_base.specs.declared.types.Types.{Types};
 ghost use Rattle.hume_base.specs.declared.types.Value.{Value};
 ghost use Rattle.hume_base.specs.Flat.{flat};
-ghost use Rattle.hume_base.specs.Sizes.{HaveTheirSizes};
+ghost use Rattle.hume_base.specs.Sizes.{HaveTheirSizes, size_of};
 ghost use Rattle.hume_text.specs.Bounds.{IsPrintable};
 ghost use Rattle.hume_text.specs.Names.{HaveNames};
+ghost use Rattle.hume_text.specs.Printed.{AreWordsOf};
 ghost use Rattle.hume_ports.specs.Port.{PortView};
+ghost use Rattle.hume_streams.specs.declared.log.OutLog.{OutLog};
 ghost use Rattle.hume_streams.specs.declared.queue.FillError.{FillError};
+ghost use Rattle.hume_streams.specs.declared.queue.InQueue.{InQueue};
 ghost use Rattle.hume_streams.specs.Lines.{whole_lines};
 ghost use Rattle.hume_streams.specs.Good.{IsGoodUntil};
-ghost use Rattle.hume_streams.specs.Queues.{QueueView, IsQueueOf};
+ghost use Rattle.hume_streams.specs.Logs.{log_view};
+ghost use Rattle.hume_streams.specs.Queues.{QueueView, IsQueueOf, queue_view};
 ghost use Rattle.hume_streams.specs.Fills.{Fills, HasReadWholeLines};
 
 /// Each text has good values and a first bad line, or none.
@@ -53,4 +57,20 @@ pub fn queues_hold_whole_lines()
     ensures { (types : Types) (ty : Ty) (queue : QueueView) (taken : List ℕ) (given : List Value) → HasReadWholeLines queue
         → ((rest : List ℕ) → IsQueueOf types ty queue (taken ++ rest) given rest)
         → (held : List Value) × (queue.values ≡ map (flat types ty) held) × IsGoodUntil types ty (whole_lines taken) (given ++ held) None }
+{}
+
+/// Each row of a queue and of a log has as many words as its values have.
+pub fn rows_have_one_width()
+    ensures queues { (queue : InQueue) (place : ℕ) (words : List ℕ) → slice_get (queue_view queue).values place ≡ Some words
+        → length words ≡ (queue_view queue).width }
+    ensures logs { (log : OutLog) (place : ℕ) (words : List ℕ) → slice_get (log_view log).values place ≡ Some words
+        → length words ≡ (log_view log).width }
+{}
+
+/// The rows of a queue that is right for a text are the words of values of its type, as many in each as the type's size.
+pub fn queues_hold_words_of_their_type()
+    ensures values { (types : Types) (ty : Ty) (queue : QueueView) (text rest : List ℕ) (given : List Value) → IsQueueOf types ty queue text given rest
+        → (place : ℕ) (words : List ℕ) → slice_get queue.values place ≡ Some words → (value : Value) × AreWordsOf types ty words value }
+    ensures width { (types : Types) (ty : Ty) (queue : QueueView) (text rest : List ℕ) (given : List Value) → IsQueueOf types ty queue text given rest
+        → (place : ℕ) (words : List ℕ) → slice_get queue.values place ≡ Some words → length words ≡ size_of types ty }
 {}
