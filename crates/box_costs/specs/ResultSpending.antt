@@ -112,6 +112,17 @@ abbrev pub handled : Core → List HandC → Outputs → Spent (List (Option Val
 handled core handlers (Asserts outs) = spends nothing outs
 handled core handlers (Throws exn carried) = handled_by core carried (find (λ (handler : HandC). handler.exn == exn) handlers)
 
+-- the value that is built at a position: that of an input with a pattern
+abbrev pub built_value : InPat → Option Value → List Value
+built_value (Built pattern) (Some value) = value ∷ []
+built_value _ input = []
+
+-- the values that are built, position by position
+abbrev pub built_values : List InPat → List (Option Value) → List Value
+built_values [] ins = []
+built_values (pat ∷ pats) [] = []
+built_values (pat ∷ pats) (input ∷ ins) = built_value pat input ++ built_values pats ins
+
 -- the words that build the input at a position
 abbrev pub position_built : InPat → Option Value → ℕ
 position_built (Built pattern) (Some value) = built_of value

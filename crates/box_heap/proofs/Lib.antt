@@ -4,3 +4,4 @@ pub mod Staying
 pub mod Changing
 pub mod Outputs
 pub mod StandingStill
+pub mod FieldChanges

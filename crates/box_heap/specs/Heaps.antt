@@ -1,5 +1,5 @@
 -- What a heap holds.
-use Rattle.std.specs.Prelude.{◌≡◌, ℕ, ◌+◌, ◌-◌, ◌*◌, ◌<◌, ◌==◌, nat_lt, max, All, List, [], ◌∷◌, ◌++◌, length, Option, Some, None, if◌then◌else◌}
+use Rattle.std.specs.Prelude.{◌≡◌, ℕ, ◌+◌, ◌-◌, ◌*◌, ◌<◌, ◌==◌, nat_lt, max, All, List, [], ◌∷◌, ◌++◌, length, slice_set, Option, Some, None, if◌then◌else◌}
 use Rattle.std.specs.List.{flat_map}
 
 -- its words, those of the first object first; the most that there were; and for how many there is room
@@ -39,3 +39,10 @@ object_at [] place = None
 object_at (object ∷ objects) place =
     if place == 0 then Some object
     else (if nat_lt place (1 + length object.1) then None else object_at objects (place - (1 + length object.1)))
+
+-- the objects once a field of the object at a place has another word
+abbrev pub with_field : List Object → ℕ → ℕ → ℕ → List Object
+with_field [] place i word = []
+with_field (object ∷ objects) place i word =
+    if place == 0 then (object.0, slice_set object.1 i word) ∷ objects
+    else object ∷ with_field objects (place - (1 + length object.1)) i word

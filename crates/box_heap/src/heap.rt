@@ -1,6 +1,6 @@
 ghost use Rattle.std.specs.Prelude.{◌≡◌, ◌<◌, ◌≤◌, ◌+◌, ◌*◌, ◌++◌, ◌∷◌, [], ℕ, List, length, take, drop, replicate, max, Some, slice_get, slice_set, IfOk};
 ghost use Rattle.hume_base.specs.declared.limits.TheConstants.{MAX_HEAP_WORDS as MOST_WORDS};
-ghost use Rattle.box_heap.specs.Heaps.{HasObjects, Object, object_at, with_object};
+ghost use Rattle.box_heap.specs.Heaps.{HasObjects, Object, object_at, with_field, with_object};
 
 use std::alloc::{AllocError, Global};
 use std::marker::Model;
@@ -88,11 +88,15 @@ impl BoxHeap {
         place as u64
     }
 
-    /// Gives a field of an object another word. It is for who puts an object, before anybody else is told its place.
+    /// Gives a field of an object another word. All else stays: every other field and object, and the tag and the number of fields
+    /// of this one, if an object is at the place and has that field. Whoever calls it puts an object part by part: no word that
+    /// leads to the object is handed on before its last field is set, so that no value changes that a word stands for.
     #[inline(always)]
     pub fn set_field(&mut self, at: u64, i: usize, word: u64)
         requires { at + 1 + i < length self.old.words }
-        ensures { self.new ≡ record self.old { words = slice_set self.old.words (at + 1 + i) word } }
+        ensures words { self.new ≡ record self.old { words = slice_set self.old.words (at + 1 + i) word } }
+        ensures objects { (objects : List Object) (object : Object) → HasObjects self.old objects → object_at objects at ≡ Some object → i < length object.1
+            → HasObjects self.new (with_field objects at i word) }
     {
         self.words[at as usize + 1 + i] = word;
     }

@@ -99,9 +99,9 @@ impl BoxStack {
         self.put_back(word);
     }
 
-    /// Takes the last words away.
+    // Takes the last words away.
     #[inline(always)]
-    pub fn drop_last(&mut self, count: u32)
+    fn drop_last(&mut self, count: u32)
         requires { count ≤ length self.old.words }
         ensures { self.new ≡ record self.old { words = under count self.old.words } }
     {
@@ -125,7 +125,7 @@ impl BoxStack {
         self.top += 1;
     }
 
-    /// Lends all words of its room, those on the stack first. Then all of them are on the stack, until `set` is told how many.
+    /// Lends all words of its room, those on the stack first. Then all of them are on the stack, until `set` says how many.
     pub fn lend(&mut self) -> &mut [u64]
         ensures* writes_back { sem 𝓛 (LendsRoom self.entry result) }
         ensures front { take (length self.old.words) result.now ≡ self.old.words }
@@ -135,7 +135,9 @@ impl BoxStack {
         self.words.as_mut_slice()
     }
 
-    /// Leaves only the first words, and sets the most that there were. It is for who was lent the words.
+    /// Leaves only the first `count` words, and sets the most that there were to `peak`; nothing else changes. It is called once
+    /// after `lend`, by who wrote the words: `peak` has to be the most words that were in use at any time since the stack was made,
+    /// so no less than `count`, and no less than before `lend`.
     pub fn set(&mut self, count: usize, peak: usize)
         requires count { count ≤ length self.old.words }
         requires peak { peak ≤ self.old.room }

@@ -6,7 +6,7 @@ ghost use Rattle.hume_types.specs.Contexts.{top, below, with_found, shape_of as 
 
 use crate::node::Node;
 use crate::shape::{Shape, shape_of_node};
-use crate::stack::Stack;
+use crate::stack::NumberStack;
 use crate::table::TypeTable;
 use crate::trees::{number_of, tree};
 use crate::variables::Variables;
@@ -21,7 +21,7 @@ use std::marker::Model;
 pub struct Context<'a> {
     types: TypeTable,
     vars: Variables<'a>,
-    held: Stack,
+    held: NumberStack,
     kept: Vec<u32>,
 }
 
@@ -48,7 +48,7 @@ impl<'a> Context<'a> {
         Context {
             types: TypeTable::new(alloc),
             vars: Variables::new(alloc),
-            held: Stack::new(alloc),
+            held: NumberStack::new(alloc),
             kept: Vec::new(alloc),
         }
     }

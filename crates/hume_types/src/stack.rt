@@ -5,11 +5,11 @@ use std::marker::Model;
 
 /// Numbers, the last one first.
 #[derive(Drop)]
-pub(crate) struct Stack {
+pub(crate) struct NumberStack {
     numbers: Vec<u32>,
 }
 
-impl Model for Stack {
+impl Model for NumberStack {
     ghost use Rattle.std.specs.Prelude.{List, ℕ, reverse};
 
     ghost Value = { List ℕ };
@@ -17,11 +17,11 @@ impl Model for Stack {
     ghost view = { λ stack. reverse stack.numbers.items };
 }
 
-impl Stack {
-    pub(crate) fn new(alloc: Global) -> Stack
+impl NumberStack {
+    pub(crate) fn new(alloc: Global) -> NumberStack
         ensures { result ≡ [] }
     {
-        Stack {
+        NumberStack {
             numbers: Vec::new(alloc),
         }
     }

@@ -29,6 +29,7 @@ use Rattle.wire_cells.specs.Cells.{CellView}
 use Rattle.match_rules.specs.Inputs.{IsCellOf, AreCellsOf}
 use Rattle.match_rules.specs.inner.WordTests.{word_test, first_passes, positions_test, rule_test}
 use Rattle.match_rules.proofs.Testing.{AreSmall, FieldsAreSmall, pattern_tested}
+use Rattle.match_rules.proofs.TypedCells.{words_held, typed_held}
 
 all_get : {X : Type 0} (P : X → Type 0) (xs : List X) (i : ℕ) (x : X) → All P xs → slice_get xs i ≡ Some x → P x
 all_get P [] i x all found = cc
@@ -72,11 +73,11 @@ module _ (core : Core) (frame : HasSoundFrame core) where
   positions_fit (PositionsHave.star rest) (AreCellsOf.more one others) = positions_fit rest others
   positions_fit (PositionsHave.any_star rest) (AreCellsOf.more one others) = positions_fit rest others
   positions_fit (PositionsHave.any {ty = type} {tys = tys} {pats = pats} rest) (AreCellsOf.more {cell = cell} {cells = cells} {held = held} one others) =
-      ap (λ b. b && positions_test core.types pats tys cells) (any_fits cell held type one.holds.words)
+      ap (λ b. b && positions_test core.types pats tys cells) (any_fits cell held type (words_held one))
       ∙ ap (λ b. is_some (oldest held) && b) (positions_fit rest others)
   positions_fit (PositionsHave.built {ty = type} {tys = tys} {p = p} {pats = pats} is rest)
       (AreCellsOf.more {cell = cell} {cells = cells} {held = held} one others) =
-      ap (λ b. b && positions_test core.types pats tys cells) (built_fits is cell held (type_small type cell held one) one.holds.words one.holds.typed)
+      ap (λ b. b && positions_test core.types pats tys cells) (built_fits is cell held (type_small type cell held one) (words_held one) (typed_held one))
       ∙ ap (λ b. fits_at (Built p) (oldest held) && b) (positions_fit rest others)
 
   module _ (b : BoxC) (typed : BoxHasFrame core b) (cells : List CellView) (values : List (List Value))

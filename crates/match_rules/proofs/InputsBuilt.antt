@@ -18,7 +18,7 @@ use Rattle.hume_model.specs.WellFormed.{HasSoundFrame}
 use Rattle.hume_net.specs.HalfSteps.{oldest}
 use Rattle.box_costs.specs.Building.{built_of}
 use Rattle.box_costs.specs.Bounds.{built_patterns}
-use Rattle.box_costs.specs.ResultSpending.{position_built, inputs_built}
+use Rattle.box_costs.specs.ResultSpending.{built_value, built_values, inputs_built, position_built}
 use Rattle.box_costs.proofs.CostSteps.{sum_more}
 use Rattle.box_heap.specs.Heaps.{HeapView, HasObjects, Object, words_of_object, with_object, with_objects}
 use Rattle.box_heap.specs.Stacks.{StackView, with_word, with_words}
@@ -26,12 +26,13 @@ use Rattle.box_heap.specs.Standing.{Stands, AllStand}
 use Rattle.box_heap.proofs.StandingStill.{all_stand_still}
 use Rattle.wire_cells.specs.Cells.{CellView}
 use Rattle.wire_cells.proofs.Frames.{readable}
-use Rattle.match_rules.specs.Inputs.{IsCellOf, AreCellsOf, built_value, built_values, AreBuilt}
+use Rattle.match_rules.specs.Inputs.{IsCellOf, AreCellsOf, AreBuilt}
 use Rattle.match_rules.specs.inner.Builders as b
 use Rattle.match_rules.specs.inner.Builders.{build_with, build_named, grown}
 use Rattle.match_rules.specs.inner.Putting.{IsPut}
 use Rattle.match_rules.proofs.Objects.{grown_some, grown_words}
 use Rattle.match_rules.proofs.ValuesBuilt.{AreTagged, IsBuilt, value_built}
+use Rattle.match_rules.proofs.TypedCells.{words_held, typed_held}
 
 -- objects one after another
 
@@ -87,14 +88,14 @@ module _ (core : Core) (frame : HasSoundFrame core) (type : Ty) (cell : CellView
   same_type = (let same : wire ≡ is.wire = (let both : Some wire ≡ Some is.wire = sym found ∙ is.there in cc) in ap (λ (w : WireC). w.ty) same) ∙ is.ty
 
   same_words : words ≡ flat core.types type v
-  same_words = let both : Some words ≡ Some (flat core.types type v) = sym shown ∙ ap (λ vs. slice_get vs 0) is.holds.words in cc
+  same_words = let both : Some words ≡ Some (flat core.types type v) = sym shown ∙ ap (λ vs. slice_get vs 0) (words_held is) in cc
 
   oldest_built : IsBuilt v (length heap.words) [] built
   oldest_built =
       subst (λ t. IsBuilt v (length heap.words) [] (build_with (build_named core.types (length core.types.sums)) t (length heap.words) words)) (sym same_type)
       (subst (λ ws. IsBuilt v (length heap.words) [] (build_with (build_named core.types (length core.types.sums)) type (length heap.words) ws))
       (sym same_words)
-      (value_built core.types frame.sizes (readable core frame) type v (length heap.words) (and_parts _ _ is.holds.typed).0))
+      (value_built core.types frame.sizes (readable core frame) type v (length heap.words) (and_parts _ _ (typed_held is)).0))
 
   pub oldest_takes : length built.put ≡ built_of v
   oldest_takes = oldest_built.takes

@@ -1,4 +1,5 @@
 pub mod Tests
+pub mod TypedCells
 pub mod Orders
 pub mod Taking
 pub mod FieldWords
@@ -7,4 +8,5 @@ pub mod Fitting
 pub mod Objects
 pub mod ValuesBuilt
 pub mod InputsBuilt
-pub mod WireInputs
+pub mod SideCells
+pub mod Asserting

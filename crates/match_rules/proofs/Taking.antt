@@ -7,7 +7,7 @@ use Rattle.hume_model.specs.declared.core_tree.InPat.{InPat}
 use Rattle.hume_model.specs.declared.core_tree.InPat.TheVariants.{Star, AnyStar, Any, Built}
 use Rattle.hume_model.specs.Matching.{taken_by, taken_at}
 use Rattle.hume_net.specs.HalfSteps.{oldest, without_oldest, without_taken}
-use Rattle.wire_cells.specs.Cells.{CellView}
+use Rattle.wire_cells.specs.Cells.{CellView, without_values}
 use Rattle.wire_cells.proofs.Holding.{less_held}
 use Rattle.match_rules.specs.Inputs.{IsCellOf, AreCellsOf, left_in}
 use Rattle.match_rules.specs.inner.Consuming.{consumed_at, consumed}
@@ -32,6 +32,19 @@ consumed_all [] cells n is = ap (λ k. consumed (take k []) (take k cells) ++ dr
 consumed_all (pat ∷ pats) [] n is = ap (λ k. consumed (take k (pat ∷ pats)) (take k []) ++ drop k []) (let e : n ≡ 0 = omega (arith, is) in e)
 consumed_all (pat ∷ pats) (cell ∷ cells) zero is = absurd (omega (arith, is))
 consumed_all (pat ∷ pats) (cell ∷ cells) (suc n) is = ap (λ cs. consumed_at pat cell ∷ cs) (consumed_all pats cells n (omega (arith, is)))
+
+one_kept : (pat : InPat) (cell : CellView) → without_values (consumed_at pat cell) ≡ without_values cell
+one_kept Star cell = refl
+one_kept AnyStar cell = refl
+one_kept Any cell = refl
+one_kept (Built p) cell = refl
+
+-- all but the values stays
+pub consumed_kept : (pats : List InPat) (cells : List CellView) → map without_values (consumed pats cells) ≡ map without_values cells
+consumed_kept pats [] = refl
+consumed_kept [] (cell ∷ cells) = refl
+consumed_kept (pat ∷ pats) (cell ∷ cells) =
+    ap (λ c. c ∷ map without_values (consumed pats cells)) (one_kept pat cell) ∙ ap (λ cs. without_values cell ∷ cs) (consumed_kept pats cells)
 
 -- without a value there is nothing to drop
 none_there : (cell : CellView) → cell.values ≡ [] → record cell { values = drop 1 cell.values } ≡ cell
@@ -64,7 +77,7 @@ less_of core type cell (v ∷ held) is = record {
   wire = is.wire;
   there = is.there;
   ty = is.ty;
-  holds = less_held core.types type cell v held is.holds;
+  holds = less_held core.types is.wire cell v held is.holds;
 }
 
 left_one : (core : Core) (type : Ty) (cell : CellView) (held : List Value) (taken : Bool) → IsCellOf core type cell held

@@ -1,14 +1,12 @@
--- The inputs of a box in cells: which cells they are, which values are built of them, and what is left once some are taken.
+-- Cells of the wires on a side of a node: which they are, which values are built of a box's inputs, and what is left once some are taken.
 use Rattle.std.specs.Prelude.{◌≡◌, ℕ, Bool, List, [], ◌∷◌, ◌++◌, map, length, drop, sum, Option, Some, if◌then◌else◌, slice_get}
 use Rattle.std.specs.List.{flat_map}
 use Rattle.hume_base.specs.declared.types.Ty.{Ty}
 use Rattle.hume_base.specs.declared.types.Value.{Value}
-use Rattle.hume_model.specs.declared.core_tree.InPat.{InPat}
-use Rattle.hume_model.specs.declared.core_tree.InPat.TheVariants.{Built}
 use Rattle.hume_model.specs.declared.core_tree.WireC.{WireC}
 use Rattle.hume_model.specs.declared.core_tree.Core.{Core}
 use Rattle.hume_net.specs.declared.state.State.{State}
-use Rattle.hume_net.specs.Sides.{on_wire, wire_to}
+use Rattle.hume_net.specs.Sides.{on_wire}
 use Rattle.box_costs.specs.Building.{built_of}
 use Rattle.box_heap.specs.Heaps.{HeapView, HasObjects, Object, words_of_object, with_objects}
 use Rattle.box_heap.specs.Stacks.{StackView, with_words}
@@ -20,7 +18,7 @@ pub record IsCellOf (core : Core) (type : Ty) (cell : CellView) (held : List Val
   pub wire : WireC
   pub there : slice_get core.wires cell.number ≡ Some wire
   pub ty : wire.ty ≡ type
-  pub holds : Holds core.types type cell held
+  pub holds : Holds core.types wire cell held
 
 -- each cell is one of a wire of the type in its place, and holds the values in its place
 pub data AreCellsOf (core : Core) : List Ty → List CellView → List (List Value) → Type 0 where
@@ -28,23 +26,12 @@ pub data AreCellsOf (core : Core) : List Ty → List CellView → List (List Val
   more : {type : Ty} {types : List Ty} {cell : CellView} {cells : List CellView} {held : List Value} {others : List (List Value)}
       → IsCellOf core type cell held → AreCellsOf core types cells others → AreCellsOf core (type ∷ types) (cell ∷ cells) (held ∷ others)
 
--- the cell is that of the wire that leads to an input of a node, and holds the values that a state has on it
-pub record IsCellAt (core : Core) (state : State) (node input : ℕ) (cell : CellView) : Type 0 where
-  pub leads : wire_to core node input ≡ Some cell.number
+-- the cell is that of the wire that was found, if one was, and holds the values that a state has on it
+pub record IsCellAt (core : Core) (state : State) (found : Option ℕ) (cell : CellView) : Type 0 where
+  pub is : found ≡ Some cell.number
   pub wire : WireC
   pub there : slice_get core.wires cell.number ≡ Some wire
-  pub holds : Holds core.types wire.ty cell (on_wire state cell.number)
-
--- the value that is built at a position: that of an input with a pattern
-abbrev pub built_value : InPat → Option Value → List Value
-built_value (Built pattern) (Some value) = value ∷ []
-built_value _ input = []
-
--- the values that are built, position by position
-abbrev pub built_values : List InPat → List (Option Value) → List Value
-built_values [] ins = []
-built_values (pat ∷ pats) [] = []
-built_values (pat ∷ pats) (input ∷ ins) = built_value pat input ++ built_values pats ins
+  pub holds : Holds core.types wire cell (on_wire state cell.number)
 
 -- Heap and stack once values are built: objects are put, just so many words as build the values, and for each value a word is
 -- pushed that stands for it.

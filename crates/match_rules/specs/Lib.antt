@@ -1,2 +1,4 @@
+pub mod Choosing
 pub mod Inputs
+pub mod Outputs
 pub mod inner

@@ -4,9 +4,9 @@ ghost use Rattle.std.specs.List.{find};
 ghost use Rattle.hume_base.specs.declared.types.Value.{Value};
 ghost use Rattle.hume_base.specs.Sizes.{HaveTheirSizes};
 ghost use Rattle.hume_model.specs.BoxTyping.{BoxHasFrame, port_types};
-ghost use Rattle.hume_model.specs.Firing.{rule_fits};
 ghost use Rattle.hume_model.specs.WellFormed.{HasSoundFrame};
 ghost use Rattle.hume_net.specs.HalfSteps.{oldest};
+ghost use Rattle.match_rules.specs.Choosing.{first_fitting};
 ghost use Rattle.match_rules.specs.Inputs.{AreCellsOf};
 ghost use Rattle.match_rules.specs.inner.WordTests.{position_test, positions_test, rule_test};
 
@@ -21,7 +21,7 @@ pub fn first_match(core: &Core, b: &BoxC, order: &RuleOrder, ins: &[WireCell]) -
     requires core { HasSoundFrame core.now }
     requires typed { BoxHasFrame core.now b.now }
     ensures { (values : List (List Value)) → AreCellsOf core.now (port_types b.now.ins) ins.now values
-        → result ≡ find (λ number. rule_fits (map oldest values) (slice_get b.now.rules number)) order.now }
+        → result ≡ first_fitting b.now order.now (map oldest values) }
 {
     first_passing(&core.types, b, order, ins)
 }

@@ -7,8 +7,8 @@ ghost use Rattle.hume_model.specs.WellFormed.{HasSoundFrame};
 ghost use Rattle.hume_net.specs.HalfSteps.{oldest};
 ghost use Rattle.box_costs.specs.Building.{built_of};
 ghost use Rattle.box_costs.specs.Bounds.{built_patterns};
-ghost use Rattle.box_costs.specs.ResultSpending.{position_built, inputs_built};
-ghost use Rattle.match_rules.specs.Inputs.{IsCellOf, AreCellsOf, built_value, built_values, AreBuilt};
+ghost use Rattle.box_costs.specs.ResultSpending.{built_value, built_values, inputs_built, position_built};
+ghost use Rattle.match_rules.specs.Inputs.{IsCellOf, AreCellsOf, AreBuilt};
 ghost use Rattle.match_rules.specs.inner.Putting.{IsPut};
 
 use crate::building::build_front;

@@ -1,5 +1,5 @@
 //! The cell of a wire: a queue of values as flat words.
-ghost use Rattle.std.specs.Prelude.{◌≡◌, ◌<◌, ◌≤◌, ◌+◌, ◌*◌, ◌↔◌, ◌∷◌, ◌++◌, [], length, take, drop, Some, slice_get, IsTrue, IfOk, true};
+ghost use Rattle.std.specs.Prelude.{◌≡◌, ◌<◌, ◌≤◌, ◌+◌, ◌*◌, ◌^◌, ◌↔◌, ◌∷◌, ◌++◌, [], length, take, drop, Some, slice_get, IsTrue, IfOk, true};
 ghost use Rattle.hume_base.specs.declared.types.Value.{Value};
 ghost use Rattle.hume_base.specs.Sizes.{size_of, HaveTheirSizes};
 ghost use Rattle.hume_base.specs.Values.{is_value};
@@ -21,6 +21,7 @@ use std::marker::Model;
 #[derive(Drop)]
 pub struct WireCell {
     number: u32,
+    time: u64,
     words: Vec<u64>,
     size: usize,
     depth: usize,
@@ -38,6 +39,7 @@ impl Model for WireCell {
 
     ghost view = { λ cell. record {
       number = cell.number;
+      time = cell.time;
       values = take cell.count (from_first cell.first (rows cell.depth cell.size cell.words.items));
       size = cell.size;
       depth = cell.depth;
@@ -73,6 +75,7 @@ impl WireCell {
         let count = write_first(&core.types, &wire.ty, &wire.initial, size, &mut words);
         Ok(WireCell {
             number,
+            time: 0,
             words,
             size,
             depth,
@@ -85,6 +88,30 @@ impl WireCell {
         ensures { result ≡ self.now.number }
     {
         self.number
+    }
+
+    /// How many half steps of the nodes at the ends of its wire it has gone through.
+    #[inline(always)]
+    pub fn time(&self) -> u64
+        ensures { result ≡ self.now.time }
+    {
+        self.time
+    }
+
+    /// Goes on by one half step.
+    #[inline(always)]
+    pub fn tick(&mut self)
+        requires { self.old.time < 2 ^ 40 }
+        ensures { self.new ≡ record self.old { time = self.old.time + 1 } }
+    {
+        self.time += 1;
+    }
+
+    /// Goes back to time 0, and keeps all else.
+    pub fn begin(&mut self)
+        ensures { self.new ≡ record self.old { time = 0 } }
+    {
+        self.time = 0;
     }
 
     /// Whether it holds a value.

@@ -45,7 +45,7 @@ build_items-loop-i-preserved t c =
           (omega (arith, c.loop-i-test.true))
           (length-replicate c.args.count builder) builder (item_at c.args.count c.loop-i.i builder
           (omega (arith, c.loop-i-test.true))) c.put_zeros-place.result c.build_front-word.result.0 c.build_front-word.result.1.now
-          c.build_front-word.new.heap c.set_field.new.self c.loop-i.invariant.0 c.build_front-word.ensures.heap c.build_front-word.ensures.word c.build_front-word.ensures.rest c.set_field.ensures,
+          c.build_front-word.new.heap c.set_field.new.self c.loop-i.invariant.0 c.build_front-word.ensures.heap c.build_front-word.ensures.word c.build_front-word.ensures.rest c.set_field.ensures.words,
     )
 
 pub build_parts-put_zeros-place-requires : goal.build_parts-put_zeros-place-requires
@@ -76,5 +76,5 @@ build_parts-loop-i-preserved t c =
       next_underway c.args.heap.now c.args.tag (length c.args.tys.now) builders c.args.words.now c.loop-i.i c.loop-i.heap c.loop-i.rest.now c.loop-i.invariant.1 less
           (length-map c.args.tys.now builder) (builder c.index-tys-i.result)
           (part_at builder c.args.tys.now c.loop-i.i c.index-tys-i.result less c.index-tys-i.is) c.put_zeros-place.result c.build_front-word.result.0
-          c.build_front-word.result.1.now c.build_front-word.new.heap c.set_field.new.self c.loop-i.invariant.0 c.build_front-word.ensures.heap c.build_front-word.ensures.word c.build_front-word.ensures.rest c.set_field.ensures,
+          c.build_front-word.result.1.now c.build_front-word.new.heap c.set_field.new.self c.loop-i.invariant.0 c.build_front-word.ensures.heap c.build_front-word.ensures.word c.build_front-word.ensures.rest c.set_field.ensures.words,
     )

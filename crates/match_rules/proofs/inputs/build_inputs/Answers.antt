@@ -2,7 +2,8 @@ use Rattle.std.proofs.Common.{◌≡◌, List, length, map, take, get_or, ap, sy
 use Rattle.std.proofs.lemmas.List.{take_all}
 use Rattle.hume_model.specs.declared.core_tree.InPat.{InPat}
 use Rattle.hume_net.specs.HalfSteps.{oldest}
-use Rattle.match_rules.specs.Inputs.{built_value, built_values, AreBuilt}
+use Rattle.box_costs.specs.ResultSpending.{built_value, built_values}
+use Rattle.match_rules.specs.Inputs.{AreBuilt}
 use Rattle.match_rules.proofs.InputsBuilt.{IsAt, position_at, none_built, built_both, more_words, same_room, more_pushed, same_stack_room, fits_long}
 use Rattle.match_rules.proofs.inputs.build_inputs.Goals as goal
 

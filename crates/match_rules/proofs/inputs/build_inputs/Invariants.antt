@@ -3,7 +3,8 @@ use Rattle.hume_base.specs.declared.types.Ty.{Ty}
 use Rattle.hume_base.specs.declared.types.Value.{Value}
 use Rattle.hume_model.specs.Matching.{fits}
 use Rattle.hume_net.specs.HalfSteps.{oldest}
-use Rattle.match_rules.specs.Inputs.{AreCellsOf, built_values, AreBuilt}
+use Rattle.box_costs.specs.ResultSpending.{built_values}
+use Rattle.match_rules.specs.Inputs.{AreCellsOf, AreBuilt}
 use Rattle.match_rules.proofs.inputs.build_inputs.Given as goal
 
 abbrev pub invariant-loop-i : goal.invariant-loop-i

@@ -1,6 +1,7 @@
 use Rattle.std.proofs.Common.{sym, subst}
 use Rattle.hume_net.specs.HalfSteps.{oldest}
-use Rattle.match_rules.specs.Inputs.{built_value, AreBuilt}
+use Rattle.box_costs.specs.ResultSpending.{built_value}
+use Rattle.match_rules.specs.Inputs.{AreBuilt}
 use Rattle.match_rules.proofs.InputsBuilt.{none_built, built_by}
 use Rattle.match_rules.proofs.inputs.build_position.Goals as goal
 

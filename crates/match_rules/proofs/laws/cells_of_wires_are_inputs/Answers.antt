@@ -1,5 +1,5 @@
-use Rattle.match_rules.proofs.WireInputs.{inputs_of_wires}
+use Rattle.match_rules.proofs.SideCells.{input_cells}
 use Rattle.match_rules.proofs.laws.cells_of_wires_are_inputs.Goals as goal
 
 pub returns : goal.returns
-returns c = λ core state node b cells agree found long each. inputs_of_wires core state node b agree found cells long each
+returns c = λ core state node b cells agree there long each. input_cells core state node b agree there cells long each

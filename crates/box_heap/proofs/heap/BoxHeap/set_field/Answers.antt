@@ -3,10 +3,11 @@ use Rattle.std.proofs.lemmas.List.{length-set}
 use Rattle.std.proofs.Math.Seq.{take-set-lt}
 use Rattle.std.proofs.lemmas.List.{length-take-le}
 use Rattle.box_heap.specs.Heaps.{HeapView}
+use Rattle.box_heap.proofs.FieldChanges.{field_changed}
 use Rattle.box_heap.proofs.heap.BoxHeap.set_field.Goals as goal
 
-pub returns : goal.returns
-returns c =
+pub returns-clause-words : goal.returns-clause-words
+returns-clause-words c =
     let heap = c.args.self.now in
     let inside = c.self.inside in
     let place = c.args.at + 1 + c.args.i in
@@ -20,3 +21,7 @@ returns c =
     ap (λ ws. record { words = ws; peak = inside.peak; room = length items }) set
     ∙ ap (λ n. record { words = slice_set heap.words place c.args.word; peak = inside.peak; room = n }) room
     ∙ ap (λ n. record { words = slice_set heap.words place c.args.word; peak = n; room = heap.room }) (ap (λ (h : HeapView). h.peak) view)
+
+pub returns-clause-objects : goal.returns-clause-objects
+returns-clause-objects c = λ objects object has found within.
+    field_changed c.args.self.now _ objects c.args.at object c.args.i c.args.word has found within (returns-clause-words c)

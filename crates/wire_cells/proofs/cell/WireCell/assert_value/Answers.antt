@@ -54,5 +54,5 @@ returns c =
     ∙ held_more cell.first cell.count cell.depth cell.size cell.words.items c.self.invariant.0 c.self.invariant.1 row start
     (omega (arith, count, same, depth, c.requires.room)) long
     (omega (arith, c.self.invariant.2)) (ap (λ n. n * cell.size) c.wrapped.ensures) in
-    ap (λ (vs : List (List ℕ)). record { number = cell.number; values = vs; size = cell.size; depth = cell.depth }) values
+    ap (λ (vs : List (List ℕ)). record { number = cell.number; time = cell.time; values = vs; size = cell.size; depth = cell.depth }) values
     ∙ ap (λ (v : CellView). record v { values = v.values ++ row ∷ [] }) c.self.view_is

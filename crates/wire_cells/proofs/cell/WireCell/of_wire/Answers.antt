@@ -59,9 +59,10 @@ returns c =
     ap (λ ws. take c.write_first-count.result (from_first 0 (rows depth c.size-size.result ws))) new
     ∙ first_values (flat c.args.core.now.types c.args.wire.now.ty) c.args.wire.now.initial depth c.size-size.result c.write_first-count.result c.write_first-count.new.into ends.some_depth
     c.write_first-count.ensures.count c.write_first-count.ensures.words in
-    ap (λ (vs : List (List ℕ)). record { number = c.args.number; values = vs; size = c.size-size.result; depth = depth }) values
+    ap (λ (vs : List (List ℕ)). record { number = c.args.number; time = 0; values = vs; size = c.size-size.result; depth = depth }) values
     ∙ ap (λ n. record {
       number = c.args.number;
+      time = 0;
       values = map (flat c.args.core.now.types c.args.wire.now.ty)
           (option_to_list c.args.wire.now.initial);
       size = n;

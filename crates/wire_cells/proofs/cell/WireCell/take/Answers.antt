@@ -13,5 +13,5 @@ returns c =
     ≡ drop 1 (take cell.count (from_first cell.first (rows cell.depth cell.size cell.words.items))) =
     ap (λ n. take (cell.count - 1) (from_first n (rows cell.depth cell.size cell.words.items))) c.wrapped-self-inside.ensures
     ∙ held_less cell.first cell.count cell.depth cell.size cell.words.items c.self.invariant.0 c.self.invariant.1 (omega (arith, count, same, c.requires)) in
-    ap (λ (vs : List (List ℕ)). record { number = cell.number; values = vs; size = cell.size; depth = cell.depth }) values
+    ap (λ (vs : List (List ℕ)). record { number = cell.number; time = cell.time; values = vs; size = cell.size; depth = cell.depth }) values
     ∙ ap (λ (v : CellView). record v { values = drop 1 v.values }) c.self.view_is

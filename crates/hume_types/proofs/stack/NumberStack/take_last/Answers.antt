@@ -1,7 +1,7 @@
 use Rattle.std.proofs.Common.{◌≡◌, ◌++◌, length, sym, ap, ◌∙◌, reverse, take, drop, arith}
 use Rattle.std.proofs.lemmas.List.{take-append-drop}
 use Rattle.hume_types.proofs.Held.{last_taken, last_left}
-use Rattle.hume_types.proofs.stack.Stack.take_last.Goals as goal
+use Rattle.hume_types.proofs.stack.NumberStack.take_last.Goals as goal
 
 pub returns-clause-taken : goal.returns-clause-taken
 returns-clause-taken c =

@@ -1,0 +1,5 @@
+use Rattle.match_rules.proofs.SideCells.{output_cells}
+use Rattle.match_rules.proofs.laws.cells_of_wires_are_outputs.Goals as goal
+
+pub returns : goal.returns
+returns c = λ core state node b cells agree there long each. output_cells core state node b agree there cells long each
