@@ -86,6 +86,7 @@ result_bound_step bound (Res-F.Case part ty arms) = both (bound part) (above 1 (
 result_bound_step bound (Res-F.Let part body) = both (bound part) (above 1 body)
 result_bound_step bound (Res-F.Raise exn part) = raise_bound (option_map bound part)
 
+-- the bound of a result, by those of expressions
 abbrev pub result_bound_with : (Expr → Cost) → Res → Cost
 result_bound_with bound = fold-Res Cost (result_bound_step bound)
 
@@ -112,6 +113,7 @@ built_pattern AnyStar = None
 built_pattern Any = None
 built_pattern (Built pattern) = Some pattern
 
+-- the patterns of all positions that build their inputs
 abbrev pub built_patterns : List InPat → List PatC
 built_patterns pats = filter_map built_pattern pats
 

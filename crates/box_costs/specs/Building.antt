@@ -19,6 +19,7 @@ build_step named (Ty-F.Tuple parts) = (1 + length parts) + sum parts
 build_step named (Ty-F.Vector count item) = (1 + count) + count * item
 build_step named (Ty-F.Named number) = named number
 
+-- the most words that build a value of the type, by those of each data type
 abbrev pub build_with : (ℕ → ℕ) → Ty → ℕ
 build_with named = fold-Ty ℕ (build_step named)
 

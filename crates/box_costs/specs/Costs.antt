@@ -2,9 +2,11 @@
 use Rattle.std.specs.Prelude.{ℕ, ◌+◌, ◌≤◌, max, List, [], ◌∷◌, map, sum}
 use Rattle.box_costs.specs.declared.cost.Cost.{Cost}
 
+-- so many words of heap, words of stack, and instructions
 abbrev pub cost : ℕ → ℕ → ℕ → Cost
 cost heap stack work = record { heap = heap; stack = stack; work = work }
 
+-- no words and no instructions
 abbrev pub nothing : Cost
 nothing = cost 0 0 0
 
@@ -51,9 +53,11 @@ pub record Way : Type 0 where
   pub tests : ℕ
   pub taken : Cost
 
+-- the tests of a way
 abbrev pub tests_of_way : Way → ℕ
 tests_of_way way = way.tests
 
+-- what a way takes behind its tests
 abbrev pub taken_by_way : Way → Cost
 taken_by_way way = way.taken
 

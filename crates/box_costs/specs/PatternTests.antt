@@ -17,6 +17,7 @@ variables_step (PatC-F.Tuple parts) = sum parts
 abbrev pub variables_of : PatC → ℕ
 variables_of = fold-PatC ℕ variables_step
 
+-- how many variables several patterns have together
 abbrev pub variables_of_all : List PatC → ℕ
 variables_of_all pats = sum (map variables_of pats)
 
@@ -32,6 +33,7 @@ tests_step (PatC-F.Tuple parts) = sum parts
 abbrev pub tests_of : PatC → ℕ
 tests_of = fold-PatC ℕ tests_step
 
+-- how many tests several patterns have together
 abbrev pub tests_of_all : List PatC → ℕ
 tests_of_all pats = sum (map tests_of pats)
 

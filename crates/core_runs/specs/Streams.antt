@@ -11,6 +11,7 @@ use Rattle.gathered_writes.specs.Places.{IsPlaceOf}
 abbrev pub std_out : List ℕ
 std_out = codes "std_out"
 
+-- the stream of a node that is one
 abbrev pub stream_of : NodeC → Option StreamC
 stream_of (Rules b) = None
 stream_of (From stream) = Some stream
@@ -20,22 +21,27 @@ stream_of (To stream) = Some stream
 abbrev pub streams : Core → List StreamC
 streams core = filter_map stream_of core.nodes
 
+-- the stream of a node that is an input stream
 abbrev pub input_of : NodeC → Option StreamC
 input_of (Rules b) = None
 input_of (From stream) = Some stream
 input_of (To stream) = None
 
+-- the input streams of a core, in source order
 abbrev pub inputs : Core → List StreamC
 inputs core = filter_map input_of core.nodes
 
+-- the stream of a node that is an output stream
 abbrev pub output_of : NodeC → Option StreamC
 output_of (Rules b) = None
 output_of (From stream) = None
 output_of (To stream) = Some stream
 
+-- the output streams of a core, in source order
 abbrev pub outputs : Core → List StreamC
 outputs core = filter_map output_of core.nodes
 
+-- the ports of the streams
 abbrev pub ports_of : List StreamC → List (List ℕ)
 ports_of list = map (λ stream. stream.port) list
 

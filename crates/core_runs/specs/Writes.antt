@@ -35,10 +35,12 @@ round_writes core good span steps round =
 abbrev pub rounds_writes : Core → List (List Value) → ℕ → ℕ → ℕ → Pairs
 rounds_writes core good span steps rounds = flat_map (round_writes core good span steps) (range_with_len 1 rounds)
 
+-- the name of an input stream
 abbrev pub name_of : Option NodeC → List ℕ
 name_of (Some (From stream)) = stream.name
 name_of _ = []
 
+-- bad value STREAM line LINE
 abbrev pub bad_value_line : List ℕ → ℕ → List ℕ
 bad_value_line name line = codes "bad value " ++ name ++ codes " line " ++ decimal line ++ 10 ∷ []
 
@@ -51,6 +53,7 @@ bad_value_writes core inputs (Some n) = (std_out, bad_value_line (name_of (slice
 abbrev pub blocked_round : Core → Inputs → ℕ → ℕ → Option ℕ
 blocked_round core inputs span steps = first_blocked core inputs.good (is_bad inputs) span steps
 
+-- what a run writes, by its first blocked round
 abbrev pub writes_until : Core → Inputs → ℕ → ℕ → Option ℕ → Pairs
 writes_until core inputs span steps None = rounds_writes core inputs.good span steps (rounds_of span steps)
 writes_until core inputs span steps (Some round) =

@@ -106,6 +106,7 @@ exp_level (Exp-F.Num false amount) = 10
 exp_level Exp-F.Star = 9
 exp_level _ = 10
 
+-- the tokens don't begin with a number
 abbrev pub NoNumberFirst : List Kind → Type 0
 NoNumberFirst (Number amount ∷ tokens) = ⊥
 NoNumberFirst _ = Unit {0}
@@ -142,6 +143,7 @@ IsCarried (Pat-F.Name name) = Unit {0}
 IsCarried Pat-F.Any = Unit {0}
 IsCarried _ = ⊥
 
+-- what a handler says of what its exception carries, if it says something
 abbrev pub CarriedFits : Option Pat → Type 0
 CarriedFits None = Unit {0}
 CarriedFits (Some pattern) = IsCarried (out-Pat pattern)
@@ -155,15 +157,19 @@ IfThere P (Some x) = P x
 abbrev pub OneOrMore : {A : Type 0} → (A → Type 0) → List A → Type 0
 OneOrMore P xs = (1 ≤ length xs) × Each P xs
 
+-- an input or an output of the grammar: its type is one
 abbrev pub TypedNameFits : ℕ → List ℕ × TyExp → Type 0
 TypedNameFits bound typed_name = TypeFits bound typed_name.1
 
+-- an equation of the grammar: one pattern or more, and an expression
 abbrev pub EquationFits : ℕ → List ℕ × List Pat × Exp → Type 0
 EquationFits bound equation = OneOrMore (PatFits bound 2) equation.1 × ExpFits bound bound 1 equation.2
 
+-- a rule of the grammar: one input pattern or more, and an expression
 abbrev pub RuleFits : ℕ → List Pat × Exp → Type 0
 RuleFits bound rule = OneOrMore (PatFits bound 0) rule.0 × ExpFits bound bound 1 rule.1
 
+-- a handler of the grammar: what the exception carries, and an expression
 abbrev pub HandlerFits : ℕ → List ℕ × Option Pat × Exp → Type 0
 HandlerFits bound handler = CarriedFits handler.1 × ExpFits bound bound 1 handler.2
 

@@ -7,6 +7,7 @@ use Rattle.hume_ast.specs.declared.tree.Program.{Program}
 use Rattle.hume_ast.specs.Spelling.{spelled_decl, spelled}
 use Rattle.hume_ast.specs.Fits.{IsFit}
 
+-- the tokens without their places
 abbrev pub kinds : List Token → List Kind
 kinds tokens = map (λ (token : Token). token.kind) tokens
 

@@ -32,13 +32,16 @@ separated sign (tokens ∷ parts) = tokens ++ preceded sign parts
 abbrev pub beside : List (List Kind) → List Kind
 beside parts = flat_map (λ tokens. tokens) parts
 
+-- the tokens in parentheses
 abbrev pub in_parens : List Kind → List Kind
 in_parens tokens = Sign symbol.OpenParen ∷ (tokens ++ Sign symbol.CloseParen ∷ [])
 
+-- a number, with a minus sign where it is negative
 abbrev pub number_spelled : Bool → ℕ → List Kind
 number_spelled false amount = Number amount ∷ []
 number_spelled true amount = Sign symbol.Minus ∷ Number amount ∷ []
 
+-- the keyword of `true` or `false`
 abbrev pub truth_word : Bool → Keyword
 truth_word true = word.True
 truth_word false = word.False
@@ -74,6 +77,7 @@ spell_pat Pat-F.AnyStar = Sign symbol.UnderscoreStar ∷ []
 abbrev pub spelled_pat : Pat → List Kind
 spelled_pat = fold-Pat (List Kind) spell_pat
 
+-- the token of an operator
 abbrev pub operator_token : BinOp → Kind
 operator_token op.Or = Word word.Or
 operator_token op.And = Word word.And
@@ -138,24 +142,30 @@ spelled_typed_name typed_name = Lower typed_name.0 ∷ Sign symbol.DoubleColon �
 abbrev pub spelled_side : List (List ℕ × TyExp) → List Kind
 spelled_side typed_names = in_parens (separated symbol.Comma (map spelled_typed_name typed_names))
 
+-- a rule of a box: its patterns, and its result
 abbrev pub spelled_rule : List Pat × Exp → List Kind
 spelled_rule rule = in_parens (separated symbol.Comma (map spelled_pat rule.0)) ++ Sign symbol.Arrow ∷ spelled_exp rule.1
 
+-- what a handler says of what its exception carries, if it says something
 abbrev pub spelled_carried : Option Pat → List Kind
 spelled_carried None = []
 spelled_carried (Some pattern) = spelled_pat pattern
 
+-- a handler: its exception, what that carries, and its result
 abbrev pub spelled_handler : List ℕ × Option Pat × Exp → List Kind
 spelled_handler handler = Upper handler.0 ∷ (spelled_carried handler.1 ++ Sign symbol.Arrow ∷ spelled_exp handler.2)
 
+-- the handlers of a box, if it has some
 abbrev pub spelled_handlers : List (List ℕ × Option Pat × Exp) → List Kind
 spelled_handlers [] = []
 spelled_handlers (first ∷ handlers) = Word word.Handle ∷ separated symbol.Bar (map spelled_handler (first ∷ handlers))
 
+-- the keyword of a box: `fair` or `match`
 abbrev pub order_word : Bool → Keyword
 order_word true = word.Fair
 order_word false = word.Match
 
+-- the keyword of a stream: `from` or `to`
 abbrev pub way_word : Bool → Keyword
 way_word true = word.From
 way_word false = word.To
@@ -170,10 +180,12 @@ abbrev pub spelled_wire_depth : Option ℕ → List Kind
 spelled_wire_depth None = []
 spelled_wire_depth (Some depth) = Sign symbol.At ∷ Number depth ∷ []
 
+-- the first value of a wire, if one is written
 abbrev pub spelled_initial : Option Exp → List Kind
 spelled_initial None = []
 spelled_initial (Some value) = Word word.Initial ∷ spelled_exp value
 
+-- the type of what an exception carries, if it carries something
 abbrev pub spelled_carries : Option TyExp → List Kind
 spelled_carries None = []
 spelled_carries (Some type) = spelled_ty type

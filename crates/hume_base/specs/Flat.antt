@@ -22,6 +22,7 @@ word_in (Value-F.Word word) = word
 word_in (Value-F.Con place values) = place
 word_in _ = 0
 
+-- the parts of a value, in order; a word has none
 abbrev pub parts_in : Value-F Value → List Value
 parts_in (Value-F.Word word) = []
 parts_in (Value-F.Tuple values) = values

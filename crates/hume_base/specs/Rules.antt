@@ -3,6 +3,7 @@ use Rattle.std.specs.Prelude.{ℕ}
 use Rattle.hume_base.specs.declared.rule.Rule.{Rule}
 use Rattle.hume_base.specs.declared.rule.Rule.TheVariants.{C10, C11, C12, C20, C30, C31, C32, C33, C40, C41, C42, C43, C44, C45, C50, C51, C52, C53, C54, C55, C60, C61, C70, C71, C72, C73, C74, C75, C76, C77, C78, C79}
 
+-- the code of a rule, which never changes
 abbrev pub code_of : Rule → ℕ
 code_of C10 = 10
 code_of C11 = 11

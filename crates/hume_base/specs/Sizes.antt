@@ -17,6 +17,7 @@ size_step named (Ty-F.Tuple parts) = sum parts
 size_step named (Ty-F.Vector count item) = count * item
 size_step named (Ty-F.Named number) = named number
 
+-- the size of a type, by the size of each data type
 abbrev pub size_with : (ℕ → ℕ) → Ty → ℕ
 size_with named = fold-Ty ℕ (size_step named)
 
@@ -24,6 +25,7 @@ size_with named = fold-Ty ℕ (size_step named)
 abbrev pub sizes_with : (ℕ → ℕ) → List Ty → ℕ
 sizes_with named tys = sum (map (size_with named) tys)
 
+-- the greatest of the numbers; 0 of none
 abbrev pub greatest : List ℕ → ℕ
 greatest [] = 0
 greatest (n ∷ ns) = max n (greatest ns)

@@ -35,10 +35,12 @@ all_pass [] (value ∷ values) = false
 all_pass (test ∷ tests) [] = false
 all_pass (test ∷ tests) (value ∷ values) = test value && all_pass tests values
 
+-- the value is a tuple of parts that pass the tests
 abbrev pub is_tuple_of : List (Value → Bool) → Value-F Value → Bool
 is_tuple_of tests (Value-F.Tuple values) = all_pass tests values
 is_tuple_of tests _ = false
 
+-- the value is a vector of so many elements that pass the test
 abbrev pub is_vector_of : ℕ → (Value → Bool) → Value-F Value → Bool
 is_vector_of count test (Value-F.Vector values) = (length values == count) && list_all test values
 is_vector_of count test _ = false
@@ -53,9 +55,11 @@ value_step named (Ty-F.Tuple tests) value = is_tuple_of tests (out-Value value)
 value_step named (Ty-F.Vector count test) value = is_vector_of count test (out-Value value)
 value_step named (Ty-F.Named number) value = named number value
 
+-- the value is one of the type, by the test of each data type
 abbrev pub is_value_with : (ℕ → Value → Bool) → Ty → Value → Bool
 is_value_with named = fold-Ty (Value → Bool) (value_step named)
 
+-- the types of the fields of a constructor; none where there is none
 abbrev pub fields_of : Option ConDef → List Ty
 fields_of None = []
 fields_of (Some con) = con.fields
@@ -64,10 +68,12 @@ fields_of (Some con) = con.fields
 abbrev pub fields_at : SumDef → ℕ → List Ty
 fields_at sum place = fields_of (slice_get sum.cons place)
 
+-- the value is a constructor of the data type with fields of its types
 abbrev pub is_con_of : (Ty → Value → Bool) → SumDef → Value-F Value → Bool
 is_con_of test sum (Value-F.Con place values) = nat_lt place (length sum.cons) && all_pass (map test (fields_at sum place)) values
 is_con_of test sum _ = false
 
+-- the value is one of the data type, if there is one
 abbrev pub is_sum_value : (Ty → Value → Bool) → Option SumDef → Value → Bool
 is_sum_value test None value = false
 is_sum_value test (Some sum) value = is_con_of test sum (out-Value value)

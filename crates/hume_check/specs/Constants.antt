@@ -12,6 +12,7 @@ use Rattle.hume_typing.specs.Signatures.{Constructor, con_named}
 use Rattle.hume_typing.specs.Patterns.{literal_number, literal_word, is_number_of, word_of_truth, is_bool, is_char, is_named}
 use Rattle.hume_typing.specs.declared.signatures.Signatures.{Signatures}
 
+-- one level of an expression: its form is allowed, and its parts are built so
 abbrev pub built_step : Exp-F Bool → Bool
 built_step (Exp-F.Num negative amount) = true
 built_step (Exp-F.Letter byte) = true
@@ -38,14 +39,17 @@ abbrev pub values_alike : List (Ty → Option Value) → Ty → Option (List Val
 values_alike [] ty = Some []
 values_alike (part ∷ parts) ty = given (part ty) (λ first. given (values_alike parts ty) (λ others. Some (first ∷ others)))
 
+-- a constructor with its fields, if the type is its data type
 abbrev pub con_value : Option Constructor → List (Ty → Option Value) → Ty → Option Value
 con_value None parts ty = None
 con_value (Some con) parts ty = when (is_named con.sum (out-Ty ty)) (given (values_of parts con.fields) (λ values. Some (Con con.place values)))
 
+-- a tuple, if the type is one of as many parts
 abbrev pub tuple_value : List (Ty → Option Value) → Ty-F Ty → Option Value
 tuple_value parts (Ty-F.Tuple tys) = given (values_of parts tys) (λ values. Some (Tuple values))
 tuple_value parts _ = None
 
+-- a vector, if the type is one of as many elements
 abbrev pub vector_value : List (Ty → Option Value) → Ty-F Ty → Option Value
 vector_value parts (Ty-F.Vector count item) = when (length parts == count) (given (values_alike parts item) (λ values. Some (Vector values)))
 vector_value parts _ = None

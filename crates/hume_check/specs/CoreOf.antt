@@ -56,6 +56,7 @@ pub record IsBoxOf (text : List ℕ) (signatures : Signatures) (d : Numbered) (t
   pub rules_are : b.rules ≡ map (λ (c : CoredRule). c.0) rule_cores
   pub handlers_are : b.handlers ≡ map (λ (c : CoredHandler). c.0) handler_cores
 
+-- a stream has its name, its line, its declaration and its port
 abbrev pub stream_core : List ℕ → Numbered → List ℕ → List ℕ → StreamC
 stream_core text d title outside = record { name = title; line = line_at text d.place; declaration = d.number; port = outside }
 
@@ -67,11 +68,13 @@ IsNodeOf text signatures d (Stream name true port) node = node ≡ From (stream_
 IsNodeOf text signatures d (Stream name false port) node = node ≡ To (stream_core text d name port)
 IsNodeOf text signatures d _ node = ⊥
 
+-- the name of a box or a stream
 abbrev pub node_name : NodeC → List ℕ
 node_name (Rules b) = b.name
 node_name (From stream) = stream.name
 node_name (To stream) = stream.name
 
+-- the place of the first input or output of that name
 abbrev pub port_place : List ℕ → List PortC → Option ℕ
 port_place name ports = given (first_named (λ (port : PortC). port.name) name ports) (λ found. Some found.0)
 
@@ -81,6 +84,7 @@ output_place (Some name) (Rules b) = port_place name b.outs
 output_place None (From stream) = Some 0
 output_place _ _ = None
 
+-- the place of an input of a node, which of a stream has no name
 abbrev pub input_place : Option (List ℕ) → NodeC → Option ℕ
 input_place (Some name) (Rules b) = port_place name b.ins
 input_place None (To stream) = Some 0
@@ -102,6 +106,7 @@ abbrev pub Initial : Signatures → Ty → Option Exp → Option Value → Type 
 Initial signatures ty None value = value ≡ None
 Initial signatures ty (Some e) value = (v : Value) × (constant signatures e ty ≡ Some v) × (value ≡ Some v)
 
+-- the first value of a wire, by whether the wire joins two streams
 abbrev pub InitialBetween : Bool → Signatures → Ty → Option Exp → Option Value → Type 0
 InitialBetween true signatures ty e value = value ≡ None
 InitialBetween false signatures ty e value = Initial signatures ty e value

@@ -16,6 +16,7 @@ Decls = List (ℕ × Decl)
 abbrev pub DataDecl : Type 0
 DataDecl = List ℕ × List (List ℕ × List TyExp)
 
+-- the data type that a declaration declares, if it does
 abbrev pub data_of : ℕ × Decl → Option DataDecl
 data_of (place, Sum name cons) = Some (name, cons)
 data_of (place, _) = None
@@ -24,6 +25,7 @@ data_of (place, _) = None
 abbrev pub ExceptionDecl : Type 0
 ExceptionDecl = List ℕ × Option TyExp
 
+-- the exception that a declaration declares, if it does
 abbrev pub exception_of : ℕ × Decl → Option ExceptionDecl
 exception_of (place, Exn name ty) = Some (name, ty)
 exception_of (place, _) = None
@@ -35,6 +37,7 @@ pub record FunctionDecl : Type 0 where
   pub types : List TyExp
   pub equations : List WrittenEquation
 
+-- the function that a declaration declares, if it does
 abbrev pub function_of : ℕ × Decl → Option FunctionDecl
 function_of (p, Fun n tys eqs) = Some (record { place = p; name = n; types = tys; equations = eqs })
 function_of (p, _) = None
@@ -49,10 +52,12 @@ pub record Numbered : Type 0 where
   pub place : ℕ
   pub decl : Decl
 
+-- the declarations with their numbers, of which the first is n
 abbrev pub numbered_from : ℕ → Decls → List Numbered
 numbered_from n [] = []
 numbered_from n (d ∷ decls) = record { number = n; place = d.0; decl = d.1 } ∷ numbered_from (suc n) decls
 
+-- the declaration, if it is that of a box or a stream
 abbrev pub if_node : Numbered → Decl → Option Numbered
 if_node d (BoxD name ins outs fair rules handlers) = Some d
 if_node d (Stream name from port) = Some d
@@ -71,10 +76,12 @@ pub record WireDecl : Type 0 where
   pub depth : Option ℕ
   pub initial : Option Exp
 
+-- the wire that a declaration declares, if it does
 abbrev pub wire_of : Numbered → Decl → Option WireDecl
 wire_of d (Wire source target count value) =
     Some (record { number = d.number; place = d.place; from = source; to = target; depth = count; initial = value })
 wire_of d _ = None
 
+-- the wires, in the order of their declarations
 abbrev pub wires_in : Decls → List WireDecl
 wires_in decls = filter_map (λ (d : Numbered). wire_of d d.decl) (numbered_from 0 decls)

@@ -40,6 +40,7 @@ abbrev pub Carries : Types → Option TyExp → Option Ty → Type 0
 Carries types None carried = carried ≡ None
 Carries types (Some ty) carried = (t : Ty) × (written types ty ≡ Some t) × (carried ≡ Some t)
 
+-- an exception has its name and what it carries
 pub record IsException (types : Types) (exn_decl : ExceptionDecl) (exn : ExnDef) : Type 0 where
   pub name : exn.name ≡ exn_decl.0
   pub carries : Carries types exn_decl.1 exn.carries

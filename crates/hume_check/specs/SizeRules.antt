@@ -21,10 +21,12 @@ use Rattle.hume_check.specs.SignaturesOf.{AreSignatures}
 use Rattle.hume_check.specs.TypeRules.{wire_type}
 use Rattle.hume_check.specs.CoreOf.{depth_or_one}
 
+-- all lists, one after another
 abbrev pub all_of : List (List TyExp) → List TyExp
 all_of [] = []
 all_of (part ∷ parts) = part ++ all_of parts
 
+-- the types of a part, if there is one
 abbrev pub if_there : Option (List TyExp) → List TyExp
 if_there None = []
 if_there (Some part) = part
@@ -54,10 +56,12 @@ written_in_step Exp-F.Star = []
 abbrev pub written_in : Exp → List TyExp
 written_in = fold-Exp (List TyExp) written_in_step
 
+-- the type of what an exception carries, if it carries something
 abbrev pub carried_type : Option TyExp → List TyExp
 carried_type None = []
 carried_type (Some ty) = ty ∷ []
 
+-- the types that are written in a first value, if there is one
 abbrev pub initial_types : Option Exp → List TyExp
 initial_types None = []
 initial_types (Some e) = written_in e
@@ -93,6 +97,7 @@ pub record HasLargeType (decls : Decls) (number : ℕ) : Type 0 where
   pub of : IsTypeOf signatures.types decl.1 ty
   pub large : MAX_TYPE_WORDS < size_of signatures.types ty
 
+-- the words of so many values of a type; none where there is no type
 abbrev pub words_of : Types → Option Ty → ℕ → ℕ
 words_of types None depth = 0
 words_of types (Some ty) depth = size_of types ty * depth

@@ -31,6 +31,7 @@ pub record HasLiteralOutOfRange (decls : Decls) (number : ℕ) : Type 0 where
   pub there : slice_get decls number ≡ Some decl
   pub wide : HasWideLiteral signatures decl.1
 
+-- the name of a box or a stream
 abbrev pub declared_name : Decl → List ℕ
 declared_name (BoxD name ins outs fair rules handlers) = name
 declared_name (Stream name from port) = name
@@ -40,6 +41,7 @@ declared_name _ = []
 abbrev pub node_named : List ℕ → Decls → Option Decl
 node_named name decls = given (first_named (λ (d : Numbered). declared_name d.decl) name (nodes_in decls)) (λ found. Some found.1.decl)
 
+-- the type that is written at the input or output of that name
 abbrev pub type_named : Types → Option (List ℕ) → List (List ℕ × TyExp) → Option Ty
 type_named types None places = None
 type_named types (Some name) places = given (first_named (λ (place : List ℕ × TyExp). place.0) name places) (λ found. written types found.1.1)
@@ -49,10 +51,12 @@ abbrev pub output_of : Types → Option (List ℕ) → Decl → Option Ty
 output_of types port (BoxD name ins outs fair rules handlers) = type_named types port outs
 output_of types port _ = None
 
+-- the type of an input of a box; a stream has none of its own
 abbrev pub input_of : Types → Option (List ℕ) → Decl → Option Ty
 input_of types port (BoxD name ins outs fair rules handlers) = type_named types port ins
 input_of types port _ = None
 
+-- the first one, if it is there, and else the second
 abbrev pub or_else : {A : Type 0} → Option A → Option A → Option A
 or_else (Some x) other = Some x
 or_else None other = other

@@ -23,6 +23,7 @@ abbrev pub rule_miscounts : Counts → ℕ → ℕ → List Pat × Exp → Bool
 rule_miscounts counts inputs outputs rule =
     not (length rule.0 == inputs) || (list_any (pattern_miscounts counts) rule.0 || result_miscounts counts outputs rule.1)
 
+-- how many values a handler says something of: one or none
 abbrev pub bound_values : Option Pat → ℕ
 bound_values None = 0
 bound_values (Some pat) = 1
@@ -32,18 +33,22 @@ abbrev pub handler_miscounts : Counts → ℕ → List ℕ × Option Pat × Exp 
 handler_miscounts counts outputs handler =
     is_other counts.exceptions handler.0 (bound_values handler.1) || result_miscounts counts outputs handler.2
 
+-- the depth of a wire is none that a wire may have
 abbrev pub depth_is_outside : Option ℕ → Bool
 depth_is_outside None = false
 depth_is_outside (Some depth) = is_outside MAX_WIRE_DEPTH depth
 
+-- in the first value of a wire there are too many or too few of something
 abbrev pub initial_miscounts : Counts → Option Exp → Bool
 initial_miscounts counts None = false
 initial_miscounts counts (Some initial) = miscounts counts initial
 
+-- so it is in the type, if there is one
 abbrev pub type_if_there : Option TyExp → Bool
 type_if_there None = false
 type_if_there (Some ty) = type_miscounts ty
 
+-- in one of the types a number is one that no type has
 abbrev pub some_type_miscounts : List TyExp → Bool
 some_type_miscounts tys = list_any type_miscounts tys
 
@@ -66,6 +71,7 @@ declaration_miscounts counts (Wire from to depth initial) = depth_is_outside dep
 abbrev pub Miscounts : Decls → ℕ → Type 0
 Miscounts decls number = OfDecl decls number (λ decl. IsTrue (declaration_miscounts (counted decls) decl))
 
+-- a `*` stands in the expression, if there is one
 abbrev pub star_if_there : Option Exp → Bool
 star_if_there None = false
 star_if_there (Some e) = has_star e

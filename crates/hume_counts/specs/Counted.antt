@@ -16,6 +16,7 @@ Decls = List (ℕ × Decl)
 abbrev pub parameters : List TyExp → ℕ
 parameters tys = length tys - 1
 
+-- how many values an exception carries: one or none
 abbrev pub carried : Option TyExp → ℕ
 carried None = 0
 carried (Some ty) = 1
@@ -39,6 +40,7 @@ exceptions_of _ = []
 abbrev pub own_exceptions : List (List ℕ × ℕ)
 own_exceptions = map (λ name. (name, 0)) given_exceptions
 
+-- what all declarations declare, one after another
 abbrev pub all_declared : (Decl → List (List ℕ × ℕ)) → Decls → List (List ℕ × ℕ)
 all_declared declared decls = flat_map (λ (d : ℕ × Decl). declared d.1) decls
 
@@ -50,6 +52,7 @@ counted decls = record {
   exceptions = with_names [] (own_exceptions ++ all_declared exceptions_of decls);
 }
 
+-- there is another count, and it is not this one
 abbrev pub differs : Option ℕ → ℕ → Bool
 differs None count = false
 differs (Some other) count = not (count == other)

@@ -10,10 +10,12 @@ use Rattle.hume_counts.specs.declared.tally.Tally.{Tally}
 use Rattle.hume_counts.specs.Counted.{Decls, parameters}
 use Rattle.hume_counts.specs.Miscounts.{has_many}
 
+-- the declaration is that of a function
 abbrev pub is_function : Decl → Bool
 is_function (Fun name tys equations) = true
 is_function _ = false
 
+-- the declaration is that of an exception
 abbrev pub is_exception : Decl → Bool
 is_exception (Exn name ty) = true
 is_exception _ = false
@@ -24,10 +26,12 @@ is_node (BoxD name ins outs fair rules handlers) = true
 is_node (Stream name from port) = true
 is_node _ = false
 
+-- the declaration is that of a wire
 abbrev pub is_wire : Decl → Bool
 is_wire (Wire from to depth initial) = true
 is_wire _ = false
 
+-- how many declarations pass the test
 abbrev pub how_many : (Decl → Bool) → Decls → ℕ
 how_many test decls = count_by (λ (d : ℕ × Decl). test d.1) decls
 

@@ -16,6 +16,7 @@ use Rattle.hume_counts.specs.Counted.{is_other}
 abbrev pub is_outside : ℕ → ℕ → Bool
 is_outside greatest number = not (nat_le 1 number && nat_le number greatest)
 
+-- there are more of them than the greatest number
 abbrev pub has_many : {A : Type 0} → ℕ → List A → Bool
 has_many greatest items = nat_lt greatest (length items)
 
@@ -33,6 +34,7 @@ type_step (TyExp-F.Tuple parts) = has_many MAX_PARTS parts || any_true parts
 abbrev pub type_miscounts : TyExp → Bool
 type_miscounts = fold-TyExp Bool type_step
 
+-- one level of a pattern, with what holds of its parts
 abbrev pub pattern_step : Counts → Pat-F Bool → Bool
 pattern_step counts (Pat-F.Name name) = false
 pattern_step counts Pat-F.Any = false
@@ -49,6 +51,7 @@ pattern_step counts Pat-F.AnyStar = false
 abbrev pub pattern_miscounts : Counts → Pat → Bool
 pattern_miscounts counts = fold-Pat Bool (pattern_step counts)
 
+-- so it is in the pattern of an alternative, or in its expression
 abbrev pub arm_miscounts : Counts → Pat × Bool → Bool
 arm_miscounts counts arm = pattern_miscounts counts arm.0 || arm.1
 
@@ -57,6 +60,7 @@ abbrev pub call_miscounts : Counts → List ℕ → List Bool → Bool
 call_miscounts counts name [] = false
 call_miscounts counts name (part ∷ parts) = is_other counts.functions name (length (part ∷ parts)) || any_true (part ∷ parts)
 
+-- an exception is raised without the value that it carries, or with one where it carries none, or so it is in that value
 abbrev pub raise_miscounts : Counts → List ℕ → Option Bool → Bool
 raise_miscounts counts name None = is_other counts.exceptions name 0
 raise_miscounts counts name (Some part) = is_other counts.exceptions name 1 || part
@@ -86,6 +90,7 @@ expression_step counts Exp-F.Star = false
 abbrev pub miscounts : Counts → Exp → Bool
 miscounts counts = fold-Exp Bool (expression_step counts)
 
+-- so it is in the expression of one of the alternatives
 abbrev pub arm_leaves : List (Pat × Bool) → Bool
 arm_leaves [] = false
 arm_leaves (arm ∷ arms) = arm.1 || arm_leaves arms

@@ -12,17 +12,21 @@ pub record Stray : Type 0 where
   pub single : Bool
   pub several : Bool
 
+-- it is the same wherever the expression stands
 abbrev pub all_alike : Bool → Stray
 all_alike stray = record { inner = stray; output = stray; single = stray; several = stray }
 
+-- a `*` stands in one of the parts
 abbrev pub any_inner : List Stray → Bool
 any_inner [] = false
 any_inner (part ∷ parts) = part.inner || any_inner parts
 
+-- in one of the outputs a `*` is none
 abbrev pub any_output : List Stray → Bool
 any_output [] = false
 any_output (part ∷ parts) = part.output || any_output parts
 
+-- so it is in one of the alternatives
 abbrev pub any_arm : (Stray → Bool) → List (Pat × Stray) → Bool
 any_arm of [] = false
 any_arm of (arm ∷ arms) = of arm.1 || any_arm of arms
@@ -36,6 +40,7 @@ followed others through = record {
   several = others || through (λ part. part.several);
 }
 
+-- a `*` stands in the part, if there is one
 abbrev pub inner_if_there : Option Stray → Bool
 inner_if_there None = false
 inner_if_there (Some part) = part.inner
@@ -61,6 +66,7 @@ star_step (Exp-F.Cast part type) = all_alike part.inner
 star_step (Exp-F.Vect parts) = all_alike (any_inner parts)
 star_step Exp-F.Star = record { inner = true; output = false; single = false; several = true }
 
+-- whether a `*` of the expression is no output, wherever the expression stands
 abbrev pub strays : Exp → Stray
 strays = fold-Exp Stray star_step
 

@@ -1,5 +1,5 @@
 -- The least rule that a core breaks: the rules on wires come before those on exceptions, and these before those on costs.
-use Rattle.std.proofs.Common.{◌≡◌, ℕ, ◌<◌, ◌⊎◌, inl, inr, Option, Some, None, refl, ap, arith}
+use Rattle.std.proofs.Common.{◌≡◌, ℕ, ◌<◌, ◌⊎◌, inl, inr, Option, Some, None, ap, arith}
 use Rattle.hume_base.specs.declared.finding.Finding.{Finding}
 use Rattle.hume_base.specs.declared.rule.Refusal.{Refusal}
 use Rattle.hume_base.specs.Rules.{phase_of}
@@ -10,8 +10,10 @@ use Rattle.hume_model.specs.Declarations.{IsRefusal}
 use Rattle.hume_model.specs.WireRules.{BreaksWires}
 use Rattle.hume_model.specs.HandlerRules.{BreaksHandlers}
 use Rattle.box_costs.specs.CostRules.{BreaksCosts}
+use Rattle.fine_programs.proofs.Decided.{HasLeast, least_as, least_of_phases}
 use Rattle.hume_front.specs.Accepted as front
 use Rattle.hume_front.specs.Accepted.{BreaksCore}
+use Rattle.hume_front.proofs.LeastCoreRules.{least_wire, least_handler, least_cost}
 
 module _ (core : Core) where
   pub wires_phase : (f : Finding) → BreaksWires core f → phase_of f.rule ≡ 8
@@ -94,3 +96,10 @@ module _ (core : Core) where
 
   pub fine_costs : IsLeast (BreaksCore core) None → IsLeast (BreaksCosts core) None
   fine_costs p = λ f x. p f (front.costs x)
+
+  -- there is a least rule that the core breaks, or it breaks none
+  pub least_of_core : HasLeast (BreaksCore core)
+  least_of_core = least_as to_core from_core (least_of_phases (least_wire core)
+      (λ wired. least_of_phases (least_handler core) (λ handled. least_cost core)
+      (λ x f p q. smaller (phase_of x.rule) (phase_of f.rule) 9 10 (handlers_phase x p) (costs_phase f q) (omega arith)))
+      later_phase)

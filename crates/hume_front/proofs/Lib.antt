@@ -5,3 +5,5 @@ pub mod OneProgram
 pub mod ProgramRules
 pub mod Sources
 pub mod OneRefusal
+pub mod LeastCoreRules
+pub mod SomeAnswer

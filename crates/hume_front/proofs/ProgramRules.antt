@@ -1,21 +1,24 @@
 -- The least rule that a program breaks: the rules on the program come before those on its core.
-use Rattle.std.proofs.Common.{◌≡◌, ℕ, ◌<◌, ◌⊎◌, inl, inr, List, Option, Some, None, refl, ap, sym, subst, ◌∙◌, arith}
+use Rattle.std.proofs.Common.{◌≡◌, ℕ, ◌<◌, ◌⊎◌, inl, inr, List, Option, Some, None, subst, arith}
 use Rattle.hume_base.specs.declared.finding.Finding.{Finding}
 use Rattle.hume_base.specs.declared.rule.Refusal.{Refusal}
 use Rattle.hume_base.specs.Rules.{phase_of}
 use Rattle.hume_base.specs.Least.{IsLeast}
 use Rattle.hume_base.proofs.Least.{IsLeast-same, IsLeast-phase, IsLeast-later}
 use Rattle.hume_ast.specs.declared.tree.Program.{Program}
+use Rattle.hume_ast.specs.Fits.{IsFit}
 use Rattle.hume_model.specs.declared.core_tree.Core.{Core}
 use Rattle.hume_model.specs.Declarations.{IsRefusal}
 use Rattle.hume_check.specs.CheckRules.{BreaksCheck}
 use Rattle.hume_check.specs.CoreOf.{IsCoreOf}
 use Rattle.hume_check.proofs.CoresOnce.{the_core}
-use Rattle.program_check.specs.Refused.{IsRefusedFor, line_of_declaration}
+use Rattle.fine_programs.proofs.LeastRules.{least_broken}
+use Rattle.fine_programs.proofs.Cores.{some_core}
+use Rattle.program_check.specs.Refused.{IsRefusedFor}
 use Rattle.program_check.proofs.Phases.{check_phase}
 use Rattle.hume_front.specs.Accepted as front
 use Rattle.hume_front.specs.Accepted.{BreaksCore, BreaksProgram}
-use Rattle.hume_front.proofs.CoreRules.{wires_phase, handlers_phase, costs_phase}
+use Rattle.hume_front.proofs.CoreRules.{wires_phase, handlers_phase, costs_phase, least_of_core}
 use Rattle.hume_front.proofs.Lines.{line_is}
 
 above : (p m : ℕ) → p ≡ m → 7 < m → 7 < p
@@ -67,3 +70,19 @@ module _ (text : List ℕ) (program : Program) where
       least = least_core (Some h.finding) h.least;
       is = λ i. record { rule = h.rule i; line = line_is text program core is h.finding.declaration r.line h.line i };
     }
+
+  -- the least rule that the program breaks, or else its core
+  abbrev pub Checked : Type 0
+  Checked = ((x : Finding) × IsLeast (BreaksProgram text program) (Some x))
+      ⊎ ((core : Core) × IsCoreOf text program core × IsLeast (BreaksProgram text program) None)
+
+  of_core : (core : Core) → IsCoreOf text program core → IsLeast (BreaksCheck program.decls) None → (o : Option Finding) → IsLeast (BreaksCore core) o → Checked
+  of_core core is fine None p = inr (core, is, least_core core is fine None p)
+  of_core core is fine (Some x) p = inl (x, least_core core is fine (Some x) p)
+
+  of_check : IsFit program → (o : Option Finding) → IsLeast (BreaksCheck program.decls) o → Checked
+  of_check fit (Some x) p = inl (x, least_check x p)
+  of_check fit None fine = let c = some_core text program fit fine in let least = least_of_core c.0 in of_core c.0 c.1 fine least.0 least.1
+
+  pub checked : IsFit program → Checked
+  checked fit = let least = least_broken program fit in of_check fit least.0 least.1

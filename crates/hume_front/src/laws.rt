@@ -1,5 +1,5 @@
 //! Laws of the definitions, as contracts of functions that do nothing.
-ghost use Rattle.std.specs.Prelude.{◌≡◌, ℕ, List, Some, None, slice_get};
+ghost use Rattle.std.specs.Prelude.{◌≡◌, ◌⊎◌, ℕ, List, Some, None, slice_get};
 ghost use Rattle.hume_base.specs.Least.{IsLeast};
 ghost use Rattle.hume_base.specs.declared.rule.Refusal.{Refusal};
 ghost use Rattle.hume_ast.specs.declared.tree.Program.{Program};
@@ -18,8 +18,9 @@ pub fn one_program()
     ensures core { (text : List ℕ) (first second : Accepted) → IsAccepted text first → IsAccepted text second → first.core ≡ second.core }
 {}
 
-/// A source that breaks a rule breaks one, at one line, and is not accepted.
+/// Each source is accepted or breaks a rule. One that breaks a rule breaks one, at one line, and is not accepted.
 pub fn one_answer()
+    ensures some { (text : List ℕ) → ((accepted : Accepted) × IsAccepted text accepted) ⊎ ((refusal : Refusal) × Breaks text refusal) }
     ensures refusal { (text : List ℕ) (first second : Refusal) → Breaks text first → Breaks text second → first ≡ second }
     ensures apart { (text : List ℕ) (accepted : Accepted) (refusal : Refusal) → IsAccepted text accepted → Breaks text refusal → ⊥ }
 {}

@@ -5,8 +5,8 @@
 //! source has and of which rule another source breaks: it names each phase, in the words of the crate that decides it.
 //!
 //! Proved: `accept` gives the program with core, wiring and costs exactly where the source breaks no rule, or `NoMemory`, and
-//! otherwise the least rule that it breaks with its line. Laws: a source is accepted as at most one program with one core
-//! (`one_program`), or refused for one rule at one line (`one_answer`), never both; the core of an accepted source is
+//! otherwise the least rule that it breaks with its line. Laws: each source is accepted, or refused for one rule at one line,
+//! never both (`one_answer`), and it is accepted as one program with one core (`one_program`); the core of an accepted source is
 //! well-formed and wired, handles all that it raises and keeps the limits on its boxes (`accepted_cores_are_sound`).
 //!
 //! It knows sources and the crates of the phases. It doesn't know runs, ports, or how a refusal is reported.

@@ -27,6 +27,7 @@ IsTaken (kind.Upper name) = length name ≤ MAX_NAME_BYTES
 IsTaken (kind.Number n) = n < 2 ^ 64
 IsTaken _ = Unit {0}
 
+-- no more tokens than are allowed, none too wide or too long
 abbrev pub AreWithinLimits : List Token → Type 0
 AreWithinLimits tokens = (length tokens ≤ MAX_TOKENS) × All (λ token. IsTaken token.kind) tokens
 
@@ -61,9 +62,11 @@ pub record IsBadToken (IsWrong : List Token → Kind → Type 0) (source : List 
   pub longest : IsLongest bytes left
   pub wrong : IsWrong tokens kind
 
+-- a number past 64 bits, where one more token is allowed
 abbrev pub IsBadNumber : List Token → Kind → Type 0
 IsBadNumber tokens kind = (length tokens < MAX_TOKENS) × IsTooWide kind
 
+-- a name past its limit, where one more token is allowed
 abbrev pub IsLongName : List Token → Kind → Type 0
 IsLongName tokens kind = (length tokens < MAX_TOKENS) × IsTooLong kind
 

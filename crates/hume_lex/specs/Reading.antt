@@ -9,10 +9,12 @@ pub data Piece : Type 0 where
   gap : List ℕ → Piece
   token : Kind → List ℕ → Piece
 
+-- the bytes of a piece
 abbrev pub bytes_of : Piece → List ℕ
 bytes_of (gap bytes) = bytes
 bytes_of (token kind bytes) = bytes
 
+-- one byte of space
 abbrev pub IsSpace : List ℕ → Type 0
 IsSpace bytes = (byte : ℕ) × (bytes ≡ byte ∷ []) × (is_space byte ≡ true)
 
@@ -20,6 +22,7 @@ IsSpace bytes = (byte : ℕ) × (bytes ≡ byte ∷ []) × (is_space byte ≡ tr
 abbrev pub IsComment : List ℕ → Type 0
 IsComment bytes = (text : List ℕ) × (bytes ≡ dash ∷ (dash ∷ text)) × Each is_no_newline text
 
+-- a gap is a space or a comment, and a token has a spelling of its kind
 abbrev pub IsPiece : Piece → Type 0
 IsPiece (gap bytes) = IsSpace bytes ⊎ IsComment bytes
 IsPiece (token kind bytes) = Spells kind bytes
@@ -33,6 +36,7 @@ IsLongest bytes rest = (piece : Piece) (byte : ℕ) (more left : List ℕ) → I
 abbrev pub NoPiece : List ℕ → Type 0
 NoPiece bytes = (piece : Piece) (left : List ℕ) → IsPiece piece → bytes ≡ bytes_of piece ++ left → ⊥
 
+-- the bytes of the pieces, one after another
 abbrev pub source_of : List Piece → List ℕ
 source_of [] = []
 source_of (piece ∷ pieces) = bytes_of piece ++ source_of pieces

@@ -12,30 +12,39 @@ use Rattle.hume_base.specs.declared.token.Kind.TheVariants as kind
 abbrev pub tab : ℕ
 tab = 9
 
+-- the byte of a newline
 abbrev pub newline : ℕ
 newline = 10
 
+-- the byte of a carriage return
 abbrev pub carriage_return : ℕ
 carriage_return = 13
 
+-- the byte of a blank
 abbrev pub blank : ℕ
 blank = 32
 
+-- the byte of a double quote
 abbrev pub double_quote : ℕ
 double_quote = 34
 
+-- the byte of a single quote
 abbrev pub single_quote : ℕ
 single_quote = 39
 
+-- the byte of `-`
 abbrev pub dash : ℕ
 dash = 45
 
+-- the byte of a backslash
 abbrev pub backslash : ℕ
 backslash = 92
 
+-- the byte of `_`
 abbrev pub underscore : ℕ
 underscore = 95
 
+-- the byte is one from low to high
 abbrev pub between : ℕ → ℕ → ℕ → Bool
 between low high byte = nat_le low byte && nat_le byte high
 
@@ -67,6 +76,7 @@ is_printable byte = between 32 126 byte
 abbrev pub is_quotable : ℕ → Bool
 is_quotable byte = is_printable byte && not (byte == double_quote)
 
+-- any byte but a newline
 abbrev pub is_no_newline : ℕ → Bool
 is_no_newline byte = not (byte == newline)
 

@@ -17,9 +17,11 @@ Meaning = List Value → Outcome
 abbrev pub div_zero : Outcome
 div_zero = Raises DIV_ZERO None
 
+-- the exception of an index outside of a vector
 abbrev pub out_of_range : Outcome
 out_of_range = Raises RANGE None
 
+-- the exception of a `case` or a call that nothing matches
 abbrev pub no_case : Outcome
 no_case = Raises NO_CASE None
 

@@ -66,6 +66,7 @@ raises_step types called exn (Expr-F.Call function parts) = seen (some_raise par
 raises_step types called exn (Expr-F.Raise other None) = seen (other == exn)
 raises_step types called exn (Expr-F.Raise other (Some part)) = seen (part.raises || (other == exn))
 
+-- what is seen of an expression, by which functions may raise the exception
 abbrev pub seen_with : Types → (ℕ → Bool) → ℕ → Expr → Seen
 seen_with types called exn = fold-Expr Seen (raises_step types called exn)
 

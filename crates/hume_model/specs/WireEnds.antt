@@ -26,6 +26,7 @@ output_type (Rules b) place = option_map (λ (port : PortC). port.ty) (slice_get
 output_type (From stream) place = None
 output_type (To stream) place = None
 
+-- the type of an input of a node; a stream has none of its own
 abbrev pub input_type : NodeC → ℕ → Option Ty
 input_type (Rules b) place = option_map (λ (port : PortC). port.ty) (slice_get b.ins place)
 input_type (From stream) place = None

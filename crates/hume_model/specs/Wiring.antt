@@ -13,6 +13,7 @@ inputs_of (Rules b) = length b.ins
 inputs_of (From stream) = 0
 inputs_of (To stream) = 1
 
+-- how many outputs a node has
 abbrev pub outputs_of : NodeC → ℕ
 outputs_of (Rules b) = length b.outs
 outputs_of (From stream) = 1

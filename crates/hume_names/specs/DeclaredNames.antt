@@ -3,6 +3,7 @@ use Rattle.std.specs.Prelude.{ℕ, List, [], ◌∷◌, ◌++◌, map, codes}
 use Rattle.hume_ast.specs.declared.tree.Decl.{Decl}
 use Rattle.hume_ast.specs.declared.tree.Decl.TheVariants.{Sum, Exn, Fun, BoxD, Stream}
 
+-- the names of the data types that a declaration declares
 abbrev pub types_of : Decl → List (List ℕ)
 types_of (Sum name constructors) = name ∷ []
 types_of _ = []
@@ -12,10 +13,12 @@ abbrev pub constructors_of : Decl → List (List ℕ)
 constructors_of (Sum name constructors) = map (λ constructor. constructor.0) constructors
 constructors_of _ = []
 
+-- the names of the exceptions that a declaration declares
 abbrev pub exceptions_of : Decl → List (List ℕ)
 exceptions_of (Exn name carried) = name ∷ []
 exceptions_of _ = []
 
+-- the names of the functions that a declaration declares
 abbrev pub functions_of : Decl → List (List ℕ)
 functions_of (Fun name types equations) = name ∷ []
 functions_of _ = []

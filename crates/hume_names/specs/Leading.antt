@@ -27,6 +27,7 @@ abbrev pub numbers_of : List ℕ → List (List ℕ × ℕ) → List ℕ
 numbers_of name [] = []
 numbers_of name (owner ∷ owners) = if bytes_eq name owner.0 then owner.1 ∷ numbers_of name owners else numbers_of name owners
 
+-- both are the same kind of name
 abbrev pub same_kind : NameKind → NameKind → Bool
 same_kind DataType DataType = true
 same_kind Constructor Constructor = true

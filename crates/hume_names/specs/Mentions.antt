@@ -24,12 +24,15 @@ type_step (TyExp-F.Named name) = (DataType, name) ∷ []
 type_step (TyExp-F.Tuple parts) = joined parts
 type_step _ = []
 
+-- the names that a type mentions
 abbrev pub type_mentions : TyExp → List Mention
 type_mentions = fold-TyExp (List Mention) type_step
 
+-- the names that several types mention
 abbrev pub types_mentions : List TyExp → List Mention
 types_mentions types = joined (map type_mentions types)
 
+-- one level of a pattern, with the variables of its parts in their places
 abbrev pub variables_step : Pat-F (List (List ℕ)) → List (List ℕ)
 variables_step (Pat-F.Name name) = name ∷ []
 variables_step (Pat-F.Con name parts) = joined parts
@@ -41,18 +44,22 @@ variables_step _ = []
 abbrev pub variables_of : Pat → List (List ℕ)
 variables_of = fold-Pat (List (List ℕ)) variables_step
 
+-- the variables that several patterns bind, from left to right
 abbrev pub bound_by : List Pat → List (List ℕ)
 bound_by patterns = joined (map variables_of patterns)
 
+-- one level of a pattern, with the mentions of its parts in their places
 abbrev pub pattern_step : Pat-F (List Mention) → List Mention
 pattern_step (Pat-F.Con name parts) = (Constructor, name) ∷ joined parts
 pattern_step (Pat-F.Paren inner) = inner
 pattern_step (Pat-F.Tuple parts) = joined parts
 pattern_step _ = []
 
+-- the names that a pattern mentions
 abbrev pub pattern_mentions : Pat → List Mention
 pattern_mentions = fold-Pat (List Mention) pattern_step
 
+-- the names that several patterns mention
 abbrev pub patterns_mentions : List Pat → List Mention
 patterns_mentions patterns = joined (map pattern_mentions patterns)
 
@@ -60,6 +67,7 @@ patterns_mentions patterns = joined (map pattern_mentions patterns)
 abbrev pub ByScope : Type 0
 ByScope = List (List ℕ) → List Mention
 
+-- the names that several parts mention, in the same scope
 abbrev pub all_in : List ByScope → ByScope
 all_in [] scope = []
 all_in (part ∷ parts) scope = part scope ++ all_in parts scope
@@ -94,6 +102,7 @@ exp_step (Exp-F.Cast inner type) scope = inner scope ++ type_mentions type
 exp_step (Exp-F.Vect items) scope = all_in items scope
 exp_step _ scope = []
 
+-- the names that an expression mentions, by the variables in scope
 abbrev pub mentions : Exp → ByScope
 mentions = fold-Exp ByScope exp_step
 
@@ -101,10 +110,12 @@ mentions = fold-Exp ByScope exp_step
 abbrev pub clause_mentions : List Pat → Exp → List Mention
 clause_mentions patterns exp = patterns_mentions patterns ++ mentions exp (bound_by patterns)
 
+-- the variable of a handler, if it binds one
 abbrev pub handler_variables : Option Pat → List (List ℕ)
 handler_variables None = []
 handler_variables (Some pattern) = variables_of pattern
 
+-- the names that a handler mentions: its exception, and those in its result
 abbrev pub handler_mentions : List ℕ × Option Pat × Exp → List Mention
 handler_mentions handler = (Exception, handler.0) ∷ mentions handler.2 (handler_variables handler.1)
 

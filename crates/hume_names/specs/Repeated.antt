@@ -12,6 +12,7 @@ pub record Spaces : Type 0 where
   pub functions : List (List ℕ)
   pub nodes : List (List ℕ)
 
+-- the constructors and exceptions that a declaration declares
 abbrev pub capitals_of : Decl → List (List ℕ)
 capitals_of decl = constructors_of decl ++ exceptions_of decl
 

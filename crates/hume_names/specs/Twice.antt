@@ -9,6 +9,7 @@ use Rattle.hume_ast.specs.declared.tree.Decl.TheVariants.{Fun, BoxD, Wire}
 use Rattle.hume_names.specs.Names.{repeats, OfDecl}
 use Rattle.hume_names.specs.Mentions.{variables_of, bound_by}
 
+-- one of them is true
 abbrev pub any_true : List Bool → Bool
 any_true [] = false
 any_true (part ∷ parts) = part || any_true parts
@@ -45,6 +46,7 @@ exp_binds_twice = fold-Exp Bool twice_step
 abbrev pub clause_binds_twice : List Pat → Exp → Bool
 clause_binds_twice patterns exp = repeats [] (bound_by patterns) || exp_binds_twice exp
 
+-- a rule, an equation or a `case` in the declaration binds a variable twice
 abbrev pub decl_binds_twice : Decl → Bool
 decl_binds_twice (Fun name types equations) = list_any (λ equation. clause_binds_twice equation.1 equation.2) equations
 decl_binds_twice (BoxD name inputs outputs fair rules handlers) =

@@ -18,6 +18,7 @@ pub record Known : Type 0 where
   pub exceptions : List (List ℕ)
   pub functions : List (List ℕ)
 
+-- all names that the declarations declare, with the exceptions that nothing declares
 abbrev pub known_in : List (ℕ × Decl) → Known
 known_in decls = record {
   types = flat_map (λ d. types_of d.1) decls;
@@ -26,6 +27,7 @@ known_in decls = record {
   functions = flat_map (λ d. functions_of d.1) decls;
 }
 
+-- the name is none of those of its kind; a variable that is mentioned is none in scope
 abbrev pub is_unknown : Known → NameKind → List ℕ → Bool
 is_unknown known DataType name = not (among name known.types)
 is_unknown known Constructor name = not (among name known.constructors)
@@ -33,6 +35,7 @@ is_unknown known Exception name = not (among name known.exceptions)
 is_unknown known Function name = not (among name known.functions)
 is_unknown known Unbound name = true
 
+-- one of the names that are mentioned is unknown
 abbrev pub mentions_unknown : Known → List Mention → Bool
 mentions_unknown known mentions = list_any (λ mention. is_unknown known mention.0 mention.1) mentions
 
@@ -45,14 +48,17 @@ names_otherwise _ = false
 abbrev pub End : Type 0
 End = List ℕ × Option (List ℕ)
 
+-- both name the same input or output, or none
 abbrev pub same_port : Option (List ℕ) → Option (List ℕ) → Bool
 same_port None None = true
 same_port (Some a) (Some b) = bytes_eq a b
 same_port _ _ = false
 
+-- two ends are the same
 abbrev pub same_end : End → End → Bool
 same_end a b = bytes_eq a.0 b.0 && same_port a.1 b.1
 
+-- the end is one of these
 abbrev pub is_end : End → List End → Bool
 is_end end ends = list_any (same_end end) ends
 

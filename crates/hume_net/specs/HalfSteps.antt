@@ -37,6 +37,7 @@ without_taken (is_taken ∷ taken) (wire ∷ wires) = (if is_taken then without_
 abbrev pub moved_last : ℕ → List ℕ → List ℕ
 moved_last rule order = filter (λ other. not (other == rule)) order ++ rule ∷ []
 
+-- a box fires: its outputs are pending, and the values that its rule takes are gone from the wires
 abbrev pub fired : BoxC → Part → List (List Value) → Option Firing → HalfStep
 fired b part wires None = idle part wires
 fired b part wires (Some firing) = record {
@@ -79,10 +80,12 @@ abbrev pub asserted : Part → Part → List (Option Value) → List Bool → Li
 asserted before next values rooms wires =
     if have_room values rooms then record { part = next; side = with_asserted values wires } else idle before wires
 
+-- a box asserts its pending outputs, if it has some
 abbrev pub assert_pending : Part → List Bool → List (List Value) → Option (List (Option Value)) → HalfStep
 assert_pending part rooms wires None = idle part wires
 assert_pending part rooms wires (Some values) = asserted part (record part { pending = None }) values rooms wires
 
+-- an input stream asserts the next value that comes, if one does
 abbrev pub assert_next : Part → List Bool → List (List Value) → List Value → HalfStep
 assert_next part rooms wires [] = idle part wires
 assert_next part rooms wires (value ∷ later) = asserted part (record part { coming = later }) (Some value ∷ []) rooms wires

@@ -14,6 +14,7 @@ mid core state = let halves = each_node core (executed core state) in gathered h
 abbrev pub up : Core → State → State
 up core state = let halves = each_node core (stepped core state) in gathered halves (produced core halves)
 
+-- all nodes make their execute steps, and then all make their super steps
 unfoldable pub superstep : Core → State → State
 superstep core state = up core (mid core state)
 

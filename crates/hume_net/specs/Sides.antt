@@ -48,6 +48,7 @@ room_on core state (Some wire) = has_room (slice_get core.wires wire) (on_wire s
 abbrev pub wire_to : Core → ℕ → ℕ → Option ℕ
 wire_to core node input = position (leads_to node input) core.wires
 
+-- the number of the wire that comes from an output of a node
 abbrev pub wire_from : Core → ℕ → ℕ → Option ℕ
 wire_from core node output = position (comes_from node output) core.wires
 
@@ -55,12 +56,15 @@ wire_from core node output = position (comes_from node output) core.wires
 abbrev pub inputs : Core → State → ℕ → NodeC → List (List Value)
 inputs core state number node = numbered (inputs_of node) (λ input. on_found state (wire_to core number input))
 
+-- the values on the wires of a node's outputs
 abbrev pub outputs : Core → State → ℕ → NodeC → List (List Value)
 outputs core state number node = numbered (outputs_of node) (λ output. on_found state (wire_from core number output))
 
+-- which of the wires of a node's outputs have room
 abbrev pub rooms : Core → State → ℕ → NodeC → List Bool
 rooms core state number node = numbered (outputs_of node) (λ output. room_on core state (wire_from core number output))
 
+-- what the node of a number makes of a state in its execute step; nothing changes where there is none
 abbrev pub executed_at : Core → State → ℕ → Option NodeC → HalfStep
 executed_at core state number None = idle (part_of state number) []
 executed_at core state number (Some node) = execute core node (part_of state number) (inputs core state number node)
@@ -69,6 +73,7 @@ executed_at core state number (Some node) = execute core node (part_of state num
 abbrev pub executed : Core → State → ℕ → HalfStep
 executed core state number = executed_at core state number (slice_get core.nodes number)
 
+-- what the node of a number makes of a state in its super step; nothing changes where there is none
 abbrev pub stepped_at : Core → State → ℕ → Option NodeC → HalfStep
 stepped_at core state number None = idle (part_of state number) []
 stepped_at core state number (Some node) = super_step node (part_of state number) (rooms core state number node) (outputs core state number node)
@@ -85,6 +90,7 @@ each_node core says = numbered (length core.nodes) says
 abbrev pub left_by : HalfStep → ℕ → List Value
 left_by half place = unwrap_or (slice_get half.side place) []
 
+-- what the half step of a node leaves at a place of its side; nothing where there is no node
 abbrev pub side_at : Option HalfStep → ℕ → List Value
 side_at None place = []
 side_at (Some half) place = left_by half place

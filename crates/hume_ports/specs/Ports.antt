@@ -5,6 +5,7 @@ use Rattle.std.specs.List.{list_any}
 use Rattle.std.specs.Str.{bytes_eq}
 use Rattle.hume_ports.specs.Port.{PortView}
 
+-- the names of the ports, in order
 abbrev pub names : List PortView → List (List ℕ)
 names ports = map (λ port. port.name) ports
 

@@ -42,9 +42,11 @@ pub data IsRefusal (text : List ℕ) (names : List (List ℕ)) (source : List �
   unfit : (accepted : Accepted) → IsAccepted text accepted → (line : ℕ) → unfit_line names source [] (streams accepted.core) ≡ Some line
       → IsRefusal text names source (record { rule = C55; line = line })
 
+-- refused CODE line LINE
 abbrev pub refused_line : Refusal → List ℕ
 refused_line refusal = codes "refused " ++ decimal (code_of refusal.rule) ++ codes " line " ++ decimal refusal.line ++ 10 ∷ []
 
+-- a refused call reads its source, and writes one line
 abbrev pub owed_refused : List ℕ → Refusal → Owed
 owed_refused source refusal = record {
   status = Refused;
@@ -69,6 +71,7 @@ run_finishes core = other_names std_out (ports_of (outputs core)) ++ std_out ∷
 abbrev pub table_writes : Core → Pairs
 table_writes core = map (λ line. (std_out, line)) (space_table core)
 
+-- a run reads its source and its input streams, and writes the table and then what the meaning gives
 abbrev pub owed_run : ℕ → List ℕ → Core → Inputs → Owed
 owed_run steps source core coming = record {
   status = run_status (blocked_round core coming SPAN steps);

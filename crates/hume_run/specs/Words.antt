@@ -11,6 +11,7 @@ use Rattle.hume_run.specs.declared.order.Order.TheVariants.{Run, Check}
 abbrev pub is_number : List ℕ → Bool
 is_number word = nat_le 1 (length word) && nat_le (length word) 9 && all_ascii_digits word
 
+-- the number that a word writes, if it is one
 abbrev pub number_of : List ℕ → Option ℕ
 number_of word = if is_number word then Some (digits_value 10 word) else None
 

@@ -18,6 +18,7 @@ letter_bytes byte =
     else (if byte == 39 then codes "\\'"
     else byte ∷ [])))
 
+-- the bytes of a token, or of the space between two
 abbrev pub piece_bytes : Piece → List ℕ
 piece_bytes Space = codes " "
 piece_bytes Open = codes "("

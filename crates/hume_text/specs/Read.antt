@@ -11,6 +11,7 @@ use Rattle.hume_text.specs.Spelling.{Piece, Space, Open, Close, OpenVector, Clos
 abbrev pub is_blank : ℕ → Bool
 is_blank byte = (byte == 32) || (byte == 9)
 
+-- a digit 0 to 9
 abbrev pub is_digit : ℕ → Bool
 is_digit byte = nat_le 48 byte && nat_le byte 57
 
@@ -59,10 +60,12 @@ escaped byte =
     else (if (byte == 92) || (byte == 39) then Some byte
     else None))
 
+-- the character, if a quote follows it
 abbrev pub closed_letter : Option ℕ → List ℕ → Cut
 closed_letter None bytes = None
 closed_letter (Some letter) bytes = second 39 (Letter letter) bytes
 
+-- the character of an escape, and the quote behind it
 abbrev pub escape_at : List ℕ → Cut
 escape_at [] = None
 escape_at (byte ∷ bytes) = closed_letter (escaped byte) bytes

@@ -24,6 +24,7 @@ pub data Piece : Type 0 where
   Number : ℤ → Piece
   Letter : ℕ → Piece
 
+-- the name of a truth value
 abbrev pub bool_name : ℕ → List ℕ
 bool_name word = if word == 0 then codes "false" else codes "true"
 
@@ -47,6 +48,7 @@ has_fields _ = false
 abbrev pub as_field : (Value → List Piece) → Value → List Piece
 as_field spelled value = if has_fields (out-Value value) then Space ∷ (Open ∷ (spelled value ++ Close ∷ [])) else Space ∷ spelled value
 
+-- the name of a constructor; nothing where there is none
 abbrev pub name_of : Option ConDef → List ℕ
 name_of None = []
 name_of (Some con) = con.name
@@ -61,6 +63,7 @@ con_spelled spelled sum value =
     Name (name_at sum (word_in value))
     ∷ flat_map (λ part. part) (each_spelled (map (λ ty. as_field (spelled ty)) (fields_at sum (word_in value))) (parts_in value))
 
+-- a value of a data type, if there is one
 abbrev pub sum_spelled : (Ty → Value → List Piece) → Option SumDef → Value → List Piece
 sum_spelled spelled None value = []
 sum_spelled spelled (Some sum) value = con_spelled spelled sum (out-Value value)
@@ -75,6 +78,7 @@ spelling_step named (Ty-F.Tuple parts) value = Open ∷ (with_commas (each_spell
 spelling_step named (Ty-F.Vector count item) value = OpenVector ∷ (with_commas (map item (parts_in (out-Value value))) ++ CloseVector ∷ [])
 spelling_step named (Ty-F.Named number) value = named number value
 
+-- how a value of a type is spelled, by how those of data types are
 abbrev pub spelling_with : (ℕ → Value → List Piece) → Ty → Value → List Piece
 spelling_with named = fold-Ty (Value → List Piece) (spelling_step named)
 

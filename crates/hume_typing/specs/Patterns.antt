@@ -129,6 +129,7 @@ position_step bound Pat-F.AnyStar = Some ([], (in_pat.AnyStar, false))
 position_step bound Pat-F.Any = Some ([], (in_pat.Any, false))
 position_step bound _ = built bound
 
+-- a position of a rule, against the type of the input
 abbrev pub position : Signatures → Pat → Ty → Option (Scope × CoredPosition)
 position signatures pat ty = position_step (pattern signatures pat ty) (out-Pat pat)
 

@@ -30,6 +30,7 @@ pub record Arm : Type 1 where
   pub pat : Pat
   pub body : Judged
 
+-- the type of an open expression where no type is expected
 abbrev pub int32 : Ty
 int32 = Int 32
 

@@ -6,7 +6,7 @@ use Rattle.hume_base.specs.declared.types.Ty.{Ty}
 use Rattle.hume_base.specs.declared.types.Value.{Value}
 use Rattle.hume_base.specs.Flat.{flat}
 use Rattle.hume_base.specs.Values.{is_value}
-use Rattle.hume_text.proofs.FlatLengths.{flat_long}
+use Rattle.hume_base.proofs.FlatLengths.{flat_long}
 use Rattle.hume_model.specs.declared.core_tree.Core.{Core}
 use Rattle.hume_model.specs.ResultTyping.{are_outputs}
 use Rattle.hume_net.specs.declared.state.Part.{Part}

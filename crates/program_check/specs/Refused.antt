@@ -10,6 +10,7 @@ use Rattle.hume_check.specs.CheckRules.{BreaksCheck}
 use Rattle.program_check.specs.declared.checking.CheckError.{CheckError}
 use Rattle.program_check.specs.declared.checking.CheckError.TheVariants.{Refused, NoMemory}
 
+-- the place of a declaration; 0 where there is none
 abbrev pub place_of : Option (ℕ × Decl) → ℕ
 place_of None = 0
 place_of (Some decl) = decl.0

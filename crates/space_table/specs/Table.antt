@@ -22,5 +22,6 @@ total_heap core = sum (map (λ node. (node_bound core node).heap) core.nodes)
 abbrev pub total_stack : Core → ℕ
 total_stack core = sum (map (λ node. (node_bound core node).stack) core.nodes)
 
+-- a line for each box in source order, and one for all of them
 abbrev pub space_table : Core → List (List ℕ)
 space_table core = filter_map (box_line core) core.nodes ++ total_line (total_heap core) (total_stack core) ∷ []

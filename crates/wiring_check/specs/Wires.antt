@@ -19,6 +19,7 @@ abbrev pub wire_in : Option (List ℕ) → ℕ → Option ℕ
 wire_in None position = None
 wire_in (Some wires) position = slice_get wires position
 
+-- the wire at a position of the node of that number, if there is such a position
 abbrev pub wire_at : List (List ℕ) → ℕ → ℕ → Option ℕ
 wire_at wires node position = wire_in (slice_get wires node) position
 
