@@ -1,12 +1,22 @@
 //! Nodes that make their half steps one by one, in any order that their wires allow: each ends where all nodes at once end.
 //!
 //! Main calls: `Turns::enabled`, `Turns::apply` and `Turns::some_enabled`, a machine that knows the times of nodes alone.
-//! Meaning: `specs/Schedules.antt` (which nodes are enabled, and schedules), `specs/Playing.antt` (half steps of single nodes on a
-//! state), over the words of `hume_net/specs/Plan.antt` and `Times.antt`.
-//! Laws: `src/laws.rt`. A schedule keeps each node's part and each wire as the lockstep has it at its own time, and a complete
-//! one ends in the lockstep; a node of the least time is enabled; times are those of a schedule exactly where they are balanced.
-//! Knows: plans, times and states.
-//! Doesn't know: cells, threads, and how a half step is computed.
+//! `Schedules.antt` says which nodes are enabled and what a schedule is, `Playing.antt` what half steps of single nodes do to a
+//! state, over the words of `Plan.antt` and `Times.antt` of `hume_net`.
+//!
+//! Proved: After any schedule of half steps each node's part and each wire is as the lockstep has it at its own time
+//! (`schedules_keep_items_on_time`). Complete schedules end in the state of the lockstep
+//! (`complete_schedules_end_in_the_lockstep`), and so do parts and wires that are each at its end, whatever brought them there
+//! (`items_at_their_end_are_the_lockstep`). A half step changes only its node's part and the wires of its side
+//! (`half_steps_change_their_side_alone`), and takes exactly these wires one time further (`wires_go_on_with_their_side`). While
+//! the times are balanced, a node of the least time is enabled unless it is at its end (`some_node_is_enabled`); half steps of
+//! enabled nodes keep times balanced (`half_steps_keep_times_balanced`, `times_of_schedules_are_balanced`). Times are those of a
+//! schedule exactly where they are balanced and none is beyond the end (`balanced_times_are_scheduled`). `Turns` is exact:
+//! `node_time` and `wire_time` give these times, `enabled` is true exactly where the node is enabled, `apply` takes its time one
+//! further, and `some_enabled` gives an enabled node, or none exactly where all are at their end. Its one condition is that the
+//! plan joins nodes (`IsPlan`). Nothing runs by it yet.
+//!
+//! It knows plans, times and states. It doesn't know cells, threads, or how a half step is computed.
 #![tactic(auto)]
 
 mod laws;
