@@ -1,5 +1,5 @@
 -- Words that begin with those of a value are read as the value, and those after it are left.
-use Rattle.std.proofs.Common.{◌≡◌, ℕ, zero, suc, ◌+◌, ◌-◌, ◌^◌, ◌<◌, ◌≤◌, nat_lt, ◌==◌, Bool, true, false, if◌then◌else◌, List, [], ◌∷◌, ◌++◌, map, length, drop, replicate, Option, Some, None, slice_get, refl, ap, sym, ◌∙◌, subst, append_assoc, length-append, arith, inl, inr}
+use Rattle.std.proofs.Common.{◌≡◌, ℕ, zero, suc, ◌+◌, ◌-◌, ◌^◌, ◌<◌, ◌≤◌, nat_lt, ◌==◌, Bool, true, false, if◌then◌else◌, List, [], ◌∷◌, ◌++◌, map, length, drop, replicate, Option, Some, None, slice_get, refl, ap, sym, ◌∙◌, subst, append_assoc, append-nil, length-append, arith, inl, inr}
 use Rattle.std.proofs.Math.Seq.{drop-append_seam}
 use Rattle.std.proofs.lemmas.Bool.{and_parts, eqb-true, ltb-true, lt-ltb, cases_eq, eq-eqb, ne_eqb}
 use Rattle.std.proofs.lemmas.List.{length-replicate}
@@ -15,7 +15,7 @@ use Rattle.hume_base.specs.Sizes.{HaveTheirSizes, size_of_sum, named_size, writt
 use Rattle.hume_base.specs.Values.{is_value, is_word_of, is_char_word, is_int_word, all_pass, is_tuple_of, is_vector_of, value_step, is_value_with, is_con_of, is_sum_value, is_named_value, fields_at}
 use Rattle.hume_base.specs.Flat.{flat, joined, word_in, parts_in, flat_step, flat_with, padded, con_words, flat_sum, named_words}
 use Rattle.hume_model.specs.Reading.{HasReadableSize, HaveReadableSizes}
-use Rattle.hume_model.specs.inner.Readers.{Reader, read_word, read_several, made_of, read_con, read_sum, read_step, read_with, read_named}
+use Rattle.hume_model.specs.Readers.{Reader, read_word, read_several, made_of, read_con, read_sum, read_step, read_with, read_named, value_in}
 
 -- the values that pass a test are read from their words
 abbrev Reads : (Value → Bool) → (Value → List ℕ) → Reader → Type 0
@@ -178,6 +178,18 @@ module _ (types : Types) (sizes : HaveTheirSizes types) (readable : HaveReadable
       either_reads (k == bound) _ _ _ _
       (λ words. read_sum (read_with (read_named types bound)) (slice_get types.sums bound) words) (λ words. read_named types bound k words) (λ same. sum_reads bound (omega arith) (named_reads bound (omega arith)) (slice_get types.sums bound) refl) (named_reads bound (omega arith) k)
 
+  -- words that begin with those of a value are read as the value, and the others are left
+  pub front_read : (ty : Ty) (v : Value) → is_value types ty v ≡ true → (rest : List ℕ)
+      → read_with (read_named types (length types.sums)) ty (flat types ty v ++ rest) ≡ (v, rest)
+  front_read ty v p rest =
+      ty_reads (is_named_value types (length types.sums)) (named_words types (length types.sums)) (read_named types (length types.sums))
+      (named_reads (length types.sums) (omega arith)) ty v rest p
+
+  pub value_back : (ty : Ty) (v : Value) → is_value types ty v ≡ true → value_in types ty (flat types ty v) ≡ v
+  value_back ty v p =
+      ap (value_in types ty) (sym (append-nil (flat types ty v)))
+      ∙ ap (λ (read : Value × List ℕ). read.0) (front_read ty v p [])
+
   -- the words of a value are read as the value
   pub value_read : (ty : Ty) (v : Value) → is_value types ty v ≡ true → read_with (read_named types (length types.sums)) ty (flat types ty v ++ []) ≡ (v, [])
-  value_read ty v p = ty_reads (is_named_value types (length types.sums)) (named_words types (length types.sums)) (read_named types (length types.sums)) (named_reads (length types.sums) (omega arith)) ty v [] p
+  value_read ty v p = front_read ty v p []

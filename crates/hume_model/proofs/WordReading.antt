@@ -13,7 +13,7 @@ use Rattle.hume_base.specs.declared.types.Value.{Value, Word, Vector}
 use Rattle.hume_base.specs.declared.types.Types.{Types}
 use Rattle.hume_base.specs.declared.types.SumDef.{SumDef}
 use Rattle.hume_base.specs.declared.types.ConDef.{ConDef}
-use Rattle.hume_model.specs.inner.Readers.{Reader, read_several, after_read, read_step, read_with, read_named, read_sum, made_of}
+use Rattle.hume_model.specs.Readers.{Reader, read_several, after_read, read_step, read_with, read_named, read_sum, made_of}
 use Rattle.hume_model.proofs.Ranks.{slice_get-most}
 
 abbrev pub con_size : ConDef → ℕ

@@ -5,6 +5,7 @@ pub mod Matching
 pub mod Meaning
 pub mod Calls
 pub mod Typing
+pub mod Readers
 pub mod Reading
 pub mod Results
 pub mod ResultTyping

@@ -64,3 +64,7 @@ read_named types zero number words = (Word 0, words)
 read_named types (suc bound) number words =
     if number == bound then read_sum (read_with (read_named types bound)) (slice_get types.sums bound) words
     else read_named types bound number words
+
+-- the value of a type at the front of the words
+abbrev pub value_in : Types → Ty → List ℕ → Value
+value_in types ty words = (read_with (read_named types (length types.sums)) ty words).0

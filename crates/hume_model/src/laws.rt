@@ -1,8 +1,12 @@
 //! Laws of the definitions, as contracts of functions that do nothing.
-ghost use Rattle.std.specs.Prelude.{◌≡◌, ℕ, ◌<◌, codes, true, List, Option, Some, length, slice_get};
+ghost use Rattle.std.specs.Prelude.{◌≡◌, ℕ, ◌<◌, ◌++◌, codes, true, List, Option, Some, length, slice_get};
 ghost use Rattle.std.specs.Option.{is_some, option_flatten};
 ghost use Rattle.hume_base.specs.declared.types.Ty.{Ty};
+ghost use Rattle.hume_base.specs.declared.types.Types.{Types};
 ghost use Rattle.hume_base.specs.declared.types.Value.{Value};
+ghost use Rattle.hume_base.specs.Flat.{flat};
+ghost use Rattle.hume_base.specs.Sizes.{HaveTheirSizes};
+ghost use Rattle.hume_base.specs.Values.{is_value};
 ghost use Rattle.hume_model.specs.declared.core_tree.BoxC.{BoxC};
 ghost use Rattle.hume_model.specs.declared.core_tree.Expr.{Expr};
 ghost use Rattle.hume_model.specs.declared.exceptions.TheConstants.{DIV_ZERO, RANGE, NO_CASE};
@@ -21,6 +25,7 @@ ghost use Rattle.hume_model.specs.BoxTyping.{BoxIsTyped, port_types};
 ghost use Rattle.hume_model.specs.Handling.{HandlesAll};
 ghost use Rattle.hume_model.specs.OwnExceptions.{own_exceptions, plain_exception};
 ghost use Rattle.hume_model.specs.WellFormed.{HasSmallBoxes, HasSoundParts, IsWellFormed};
+ghost use Rattle.hume_model.specs.Readers.{read_named, read_with, value_in};
 ghost use Rattle.hume_model.specs.Reading.{HaveReadableSizes};
 
 /// A call gives what the body of the first equation that the arguments match gives in the whole program.
@@ -84,4 +89,13 @@ pub fn own_exceptions_have_their_numbers()
 /// The types of a well-formed core have sizes that `value_of` can read.
 pub fn well_formed_types_are_readable()
     ensures { (core : Core) → IsWellFormed core → HaveReadableSizes core.types }
+{}
+
+/// Words that begin with those of a value are read as the value, and the words after it are left. So the words of a value alone
+/// give the value back.
+pub fn words_are_read_as_their_value()
+    ensures front { (types : Types) → HaveTheirSizes types → HaveReadableSizes types → (ty : Ty) (value : Value) → is_value types ty value ≡ true
+        → (rest : List ℕ) → read_with (read_named types (length types.sums)) ty (flat types ty value ++ rest) ≡ (value, rest) }
+    ensures value { (types : Types) → HaveTheirSizes types → HaveReadableSizes types → (ty : Ty) (value : Value) → is_value types ty value ≡ true
+        → value_in types ty (flat types ty value) ≡ value }
 {}

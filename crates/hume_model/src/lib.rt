@@ -35,7 +35,7 @@ pub use firing::first_firing;
 pub use laws::{
     calls_unfold, evaluation_keeps_types, firing_keeps_types, handled_boxes_give_all_outputs,
     own_exceptions_have_their_numbers, results_keep_types, well_formed_cores_are_sound,
-    well_formed_types_are_readable, what_is_taken_is_there,
+    well_formed_types_are_readable, what_is_taken_is_there, words_are_read_as_their_value,
 };
 pub use outcome::{Firing, Outcome, Outputs, Several};
 pub use reading::value_of;

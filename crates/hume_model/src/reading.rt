@@ -3,7 +3,7 @@ ghost use Rattle.std.specs.Prelude.{◌≡◌, IfOk, map, replicate, Some};
 ghost use Rattle.hume_base.specs.declared.types.Value.{Value, Tuple, Vector};
 ghost use Rattle.hume_base.specs.Sizes.{HaveTheirSizes};
 ghost use Rattle.hume_model.specs.Reading.{AreWordsOf, HaveReadableSizes};
-ghost use Rattle.hume_model.specs.inner.Readers.{Reader, read_with, read_named, read_several, read_con, read_word};
+ghost use Rattle.hume_model.specs.Readers.{Reader, read_with, read_named, read_several, read_con, read_word};
 
 use hume_base::{List, SumDef, Ty, Types, Value};
 use std::alloc::{AllocError, Global};

@@ -1,5 +1,5 @@
 use Rattle.std.proofs.Common.{◌≡◌, ◌∙◌, ◌+◌, ◌<◌, Some, slice_get, ap, arith, rules, replicate}
-use Rattle.hume_model.specs.inner.Readers.{Reader, read_with, read_named, read_several, made_of}
+use Rattle.hume_model.specs.Readers.{Reader, read_with, read_named, read_several, made_of}
 use Rattle.hume_base.specs.declared.types.Value.{Vector}
 use Rattle.hume_model.proofs.WordReading.{rank, sum_size, rank-falls, read-vector, next_item}
 use Rattle.hume_model.proofs.reading.+read.Goals as goal

@@ -1,7 +1,7 @@
 use Rattle.std.proofs.Common.{◌≡◌, ◌+◌, ◌*◌, ◌-◌, map, drop, replicate}
 use denote.Param.Weighed.{most}
 use Rattle.hume_base.specs.declared.types.Ty.{size-Ty}
-use Rattle.hume_model.specs.inner.Readers.{Reader, read_with, read_named, read_several, after_read}
+use Rattle.hume_model.specs.Readers.{Reader, read_with, read_named, read_several, after_read}
 use Rattle.hume_model.proofs.WordReading.{rank, sum_size}
 use Rattle.hume_model.proofs.reading.+read.Given as goal
 

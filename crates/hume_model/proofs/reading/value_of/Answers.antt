@@ -2,7 +2,7 @@ use Rattle.std.proofs.Common.{◌≡◌, ◌∙◌, ℕ, List, [], ◌++◌, ap,
 use Rattle.hume_base.specs.declared.types.Value.{Value}
 use Rattle.hume_base.specs.Flat.{flat}
 use Rattle.hume_model.specs.Reading.{AreWordsOf}
-use Rattle.hume_model.specs.inner.Readers.{read_with, read_named}
+use Rattle.hume_model.specs.Readers.{read_with, read_named}
 use Rattle.hume_model.proofs.FrontReading.{value_read}
 use Rattle.hume_model.proofs.reading.value_of.Goals as goal
 
