@@ -4,6 +4,8 @@
 //! by `RepresentsBox` of `box_code`. Words are only appended: `specs/inner/Emitted.antt` says what then stands where. How many
 //! words a form takes is counted before they are written, and compared afterwards (`src/sizes.rt`).
 //!
+//! Law: the program of a box is found by how many boxes stand before it (`boxes_have_their_programs`).
+//!
 //! It knows cores, their bounds, and which code stands for which form. It doesn't know what runs the code, or the inputs of a run.
 #![tactic(auto)]
 
@@ -12,6 +14,7 @@ mod counts;
 mod expressions;
 mod finding;
 mod functions;
+mod laws;
 mod leaves;
 mod needed;
 mod pattern_code;
@@ -22,4 +25,5 @@ mod sizes;
 mod spots;
 mod writer;
 
+pub use laws::boxes_have_their_programs;
 pub use program_list::compile;
