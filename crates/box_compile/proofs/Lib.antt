@@ -9,3 +9,4 @@ pub mod Forms
 pub mod FunctionCode
 pub mod ResultForms
 pub mod BoxCode
+pub mod BoxNumbers

@@ -1,5 +1,5 @@
 -- Which programs are those of a core's boxes.
-use Rattle.std.specs.Prelude.{◌≡◌, ℕ, List, length, Option, Some, None, filter_map, slice_get}
+use Rattle.std.specs.Prelude.{◌≡◌, ℕ, List, length, take, Option, Some, None, filter_map, slice_get}
 use Rattle.hume_model.specs.declared.core_tree.BoxC.{BoxC}
 use Rattle.hume_model.specs.declared.core_tree.NodeC.{NodeC}
 use Rattle.hume_model.specs.declared.core_tree.NodeC.TheVariants.{Rules, From, To}
@@ -30,3 +30,7 @@ pub record AreProgramsFor (core : Core) (boxes : List BoxC) (programs : List Box
 
 abbrev pub AreProgramsOf : Core → List BoxProgram → Type 0
 AreProgramsOf core programs = AreProgramsFor core (boxes_of core) programs
+
+-- how many boxes stand before the node of the number: the number of its program, if it is a box
+abbrev pub boxes_before : Core → ℕ → ℕ
+boxes_before core n = length (filter_map box_in (take n core.nodes))

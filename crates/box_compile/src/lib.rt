@@ -6,7 +6,7 @@
 //!
 //! Proved: `compile` gives a program for each box of a core, in source order, and each represents its box (`RepresentsBox`):
 //! each rule, handler and function stands in its code, and its bounds are those that are printed. The one other answer is
-//! `NoMemory`.
+//! `NoMemory`. Law: the program of a box is found by how many boxes stand before it (`boxes_have_their_programs`).
 //!
 //! It knows cores, their bounds, and which code stands for which form. It doesn't know what runs the code, or the inputs of a
 //! run.
@@ -17,6 +17,7 @@ mod counts;
 mod expressions;
 mod finding;
 mod functions;
+mod laws;
 mod leaves;
 mod needed;
 mod pattern_code;
@@ -27,4 +28,5 @@ mod sizes;
 mod spots;
 mod writer;
 
+pub use laws::boxes_have_their_programs;
 pub use program_list::compile;

@@ -6,3 +6,4 @@ pub mod Exact
 pub mod Results
 pub mod Built
 pub mod Rules
+pub mod Limits

@@ -1,13 +1,16 @@
 //! Laws of the definitions, as contracts of functions that do nothing.
-ghost use Rattle.std.specs.Prelude.{◌≡◌, ◌≤◌, ℕ, true, List, Option, Some, slice_get};
+ghost use Rattle.std.specs.Prelude.{◌≡◌, ◌≤◌, ℕ, true, List, Option, None, Some, slice_get};
 ghost use Rattle.std.specs.Option.{option_map};
 ghost use Rattle.hume_base.specs.declared.types.Ty.{Ty};
 ghost use Rattle.hume_base.specs.declared.types.Types.{Types};
 ghost use Rattle.hume_base.specs.declared.types.Value.{Value};
+ghost use Rattle.hume_base.specs.Least.{IsLeast};
 ghost use Rattle.hume_base.specs.Values.{is_value};
+ghost use Rattle.hume_base.specs.declared.limits.TheConstants.{MAX_HEAP_WORDS, MAX_STACK_WORDS, MAX_WORK};
 ghost use Rattle.hume_model.specs.declared.core_tree.BoxC.{BoxC};
 ghost use Rattle.hume_model.specs.declared.core_tree.Core.{Core};
 ghost use Rattle.hume_model.specs.declared.core_tree.Expr.{Expr};
+ghost use Rattle.hume_model.specs.declared.core_tree.NodeC.TheVariants.{Rules};
 ghost use Rattle.hume_model.specs.declared.core_tree.Res.{Res};
 ghost use Rattle.hume_model.specs.declared.core_tree.RuleC.{RuleC};
 ghost use Rattle.hume_model.specs.declared.outcome.Firing.{Firing};
@@ -20,6 +23,7 @@ ghost use Rattle.hume_model.specs.Meaning.{eval};
 ghost use Rattle.hume_model.specs.Results.{result_of};
 ghost use Rattle.hume_model.specs.ResultTyping.{are_outputs};
 ghost use Rattle.hume_model.specs.WellFormed.{HasSoundParts};
+ghost use Rattle.box_costs.specs.CostRules.{BreaksCosts};
 ghost use Rattle.box_costs.specs.Costs.{IsAtMost};
 ghost use Rattle.box_costs.specs.Building.{built_of, build_of};
 ghost use Rattle.box_costs.specs.Bounds.{expression_bound, result_bound, rule_bound, box_bound};
@@ -65,4 +69,14 @@ pub fn bounds_are_met()
         → HasOneWay core b rule
         → (ins : List (Option Value)) → are_outputs core.types (port_types b.ins) ins ≡ true → fits rule.pats ins ≡ true
         → (rule_spent core b ins rule).cost ≡ rule_bound core b rule }
+{}
+
+/// A core that breaks no rule on costs has only boxes whose heap, stack and work are within the limits.
+pub fn boxes_keep_the_limits()
+    ensures heap { (core : Core) → IsLeast (BreaksCosts core) None → (n : ℕ) (b : BoxC) → slice_get core.nodes n ≡ Some (Rules b)
+        → (box_bound core b).heap ≤ MAX_HEAP_WORDS }
+    ensures stack { (core : Core) → IsLeast (BreaksCosts core) None → (n : ℕ) (b : BoxC) → slice_get core.nodes n ≡ Some (Rules b)
+        → (box_bound core b).stack ≤ MAX_STACK_WORDS }
+    ensures work { (core : Core) → IsLeast (BreaksCosts core) None → (n : ℕ) (b : BoxC) → slice_get core.nodes n ≡ Some (Rules b)
+        → (box_bound core b).work ≤ MAX_WORK }
 {}
