@@ -3,8 +3,8 @@
 //!
 //! Main call: `run_core`. What comes to the streams from their texts is said in `specs/Inputs.antt`, what a run writes and which
 //! round is blocked in `specs/Writes.antt`, and how a run ended in `specs/Runs.antt`.
-//! Laws: whatever texts there are, something comes of them (`each_run_has_inputs`), and it is of the types of the streams
-//! (`inputs_have_types`).
+//! Laws: whatever texts there are, something comes of them (`each_run_has_inputs`), one thing (`inputs_are_unique`), and it is
+//! of the types of the streams (`inputs_have_types`).
 //! It knows cores, an engine that runs a net, rounds and the places of ports; it doesn't know sources, how a core was accepted,
 //! and when what is gathered is written.
 #![tactic(auto)]
@@ -19,6 +19,6 @@ mod nodes;
 mod rounds;
 mod run;
 
-pub use laws::{each_run_has_inputs, inputs_have_types};
+pub use laws::{each_run_has_inputs, inputs_are_unique, inputs_have_types};
 pub use rounds::SPAN;
 pub use run::{RunEnd, RunError, run_core};

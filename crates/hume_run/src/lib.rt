@@ -2,7 +2,8 @@
 //!
 //! The call is `hume`. Its contract is the promise of the tool: `specs/Headline.antt` says it, over what a call owes
 //! (`specs/Owed.antt`); `docs/PROMISE.md` lists every definition that it rests on.
-//! Law: no execute step of a run takes more than the table of bounds says (`runs_keep_bounds`).
+//! Laws: what a call owes is one thing (`each_call_owes_one_thing`), and no execute step of a run takes more than the table of
+//! bounds says (`runs_keep_bounds`).
 //! It knows ports, words and what is owed to them; it doesn't know files, command lines or exit statuses.
 #![tactic(auto)]
 
@@ -22,7 +23,7 @@ mod streams;
 mod top;
 mod words;
 
-pub use laws::runs_keep_bounds;
+pub use laws::{each_call_owes_one_thing, runs_keep_bounds};
 pub use order::Order;
 pub use status::Status;
 pub use top::hume;
