@@ -1,7 +1,8 @@
 -- Texts and inputs of a run that has ended, chosen once all is read.
-use Rattle.std.proofs.Common.{◌≡◌, ℕ, Bool, true, List, [], ◌++◌, length, Option, None, Some, IfSome, slice_get, refl, ap, sym, subst}
+use Rattle.std.proofs.Common.{◌≡◌, ℕ, Bool, true, List, [], ◌++◌, length, Option, None, Some, IfSome, slice_get, refl, ap, sym, ◌∙◌, subst, inl, inr}
 use Rattle.std.proofs.lemmas.List.{append-nil}
-use Rattle.std.proofs.lemmas.Option.{slice_get_within}
+use Rattle.std.proofs.lemmas.Bool.{cases_lt}
+use Rattle.std.proofs.lemmas.Option.{slice_get_past}
 use Rattle.std.specs.Io.KnownBytes.{Consumes}
 use Rattle.std.specs.Option.{unwrap_or}
 use Rattle.hume_base.specs.declared.types.Value.{Value}
@@ -12,7 +13,7 @@ use Rattle.hume_model.specs.declared.core_tree.StreamC.{StreamC}
 use Rattle.hume_model.specs.declared.core_tree.Core.{Core}
 use Rattle.hume_net.specs.Nodes.{IsInputStream}
 use Rattle.hume_net.specs.Sides.{numbered}
-use Rattle.hume_net.proofs.Gathered.{numbered_get}
+use Rattle.hume_net.proofs.Gathered.{numbered_get, numbered_past}
 use Rattle.std.proofs.lemmas.List.FromFn.{length-map-range_with_len}
 use Rattle.hume_ports.specs.Port.{PortView}
 use Rattle.hume_ports.specs.Ports.{left_of}
@@ -29,6 +30,11 @@ use Rattle.core_runs.specs.Inputs.{Inputs, AreInputs, ComesTo}
 use Rattle.core_runs.specs.inner.Reading.{MayCome}
 use Rattle.core_runs.specs.inner.Standing.{IsAtToldEnd, PortsGave}
 use Rattle.core_runs.proofs.Comings.{inputs_are}
+
+-- what comes to a node
+pub comes_at : (core : Core) (texts : List ℕ → List ℕ) (inputs : Inputs) → AreInputs core texts inputs → (n : ℕ) (node : NodeC) → slice_get core.nodes n ≡ Some node
+    → ComesTo core texts n (Some node) (listed inputs.good n) (inputs.bad n)
+comes_at core texts inputs are n node is = subst (λ o. ComesTo core texts n o (listed inputs.good n) (inputs.bad n)) is (are.each n)
 
 told_self : (left : Option (List ℕ)) (bytes : List ℕ) → IfSome left (λ known. unwrap_or left bytes ≡ known)
 told_self None bytes = tt
@@ -63,33 +69,30 @@ module _ (core : Core) (sizes : HaveTheirSizes core.types) (names : HaveNames co
     abbrev pub the_inputs : Inputs
     the_inputs = record { good = numbered (length core.nodes) (λ n. (chosen n).0); bad = λ n. (chosen n).1 }
 
-    good_at : (n : ℕ) (node : NodeC) → slice_get core.nodes n ≡ Some node → listed the_inputs.good n ≡ (chosen n).0
-    good_at n node is = ap (λ o. unwrap_or o []) (numbered_get (length core.nodes) (λ n. (chosen n).0) n (slice_get_within core.nodes n node is))
+    none_chosen : (n : ℕ) (o : Option NodeC) (e : slice_get core.nodes n ≡ o) → o ≡ None → (choice n o e).0 ≡ []
+    none_chosen n None e none = refl
+    none_chosen n (Some node) e none = cc
 
-    comes_to : (n : ℕ) (o : Option NodeC) (e : slice_get core.nodes n ≡ o) (node : NodeC) → o ≡ Some node → ComesTo core texts n node (choice n o e).0 (choice n o e).1
-    comes_to n (Some (From stream)) e (From other) same =
-        let port : stream.port ≡ other.port = cc in
-        let g = good_always core.types (type_at core n) sizes names (printable n stream e) (texts stream.port) in
-        subst (λ name. IsGoodUntil core.types (type_at core n) (texts name) g.0 g.1) port g.2
-    comes_to n (Some (Rules b)) e (Rules c) same = (refl, refl)
-    comes_to n (Some (To stream)) e (To other) same = (refl, refl)
-    comes_to n (Some (From stream)) e (Rules c) same = cc
-    comes_to n (Some (From stream)) e (To other) same = cc
-    comes_to n (Some (Rules b)) e (From other) same = cc
-    comes_to n (Some (Rules b)) e (To other) same = cc
-    comes_to n (Some (To stream)) e (From other) same = cc
-    comes_to n (Some (To stream)) e (Rules c) same = cc
-    comes_to n None e node same = cc
+    good_at : (n : ℕ) → listed the_inputs.good n ≡ (chosen n).0
+    good_at n = elim (cases_lt n (length core.nodes)) [
+      | inl lt ↦ ap (λ o. unwrap_or o []) (numbered_get (length core.nodes) (λ n. (chosen n).0) n lt)
+      | inr past ↦ ap (λ o. unwrap_or o []) (numbered_past 0 (length core.nodes) (λ n. (chosen n).0) n past) ∙ sym (none_chosen n _ refl (slice_get_past core.nodes n past))
+    ]
+
+    comes_to : (n : ℕ) (o : Option NodeC) (e : slice_get core.nodes n ≡ o) → ComesTo core texts n o (choice n o e).0 (choice n o e).1
+    comes_to n (Some (From stream)) e = (good_always core.types (type_at core n) sizes names (printable n stream e) (texts stream.port)).2
+    comes_to n (Some (Rules b)) e = (refl, refl)
+    comes_to n (Some (To stream)) e = (refl, refl)
+    comes_to n None e = (refl, refl)
 
     pub inputs_of_texts : AreInputs core texts the_inputs
     inputs_of_texts = record {
       count = length-map-range_with_len (λ n. (chosen n).0) 0 (length core.nodes);
-      each = λ n node is. subst (λ good. ComesTo core texts n node good (chosen n).1) (sym (good_at n node is))
-          (comes_to n (slice_get core.nodes n) refl node is);
+      each = λ n. subst (λ good. ComesTo core texts n (slice_get core.nodes n) good (chosen n).1) (sym (good_at n)) (comes_to n (slice_get core.nodes n) refl);
     }
 
     none_comes : (n : ℕ) (node : NodeC) (good : List Value) (bad : Option ℕ) → slice_get core.nodes n ≡ Some node → (IsInputStream core n → ⊥)
-        → ComesTo core texts n node good bad → (good ≡ []) × (bad ≡ None)
+        → ComesTo core texts n (Some node) good bad → (good ≡ []) × (bad ≡ None)
     none_comes n (From stream) good bad is other comes = absurd (other (inputs_are core n stream is))
     none_comes n (To stream) good bad is other comes = comes
     none_comes n (Rules b) good bad is other comes = comes
@@ -107,6 +110,6 @@ module _ (core : Core) (sizes : HaveTheirSizes core.types) (names : HaveNames co
       each = λ n stream is. (
           let drawn = Drawn-first olds news stream.port taken gave.progress.same_names gave.progress.drawn in
           let t = text_rest (left_of stream.port olds) (left_of stream.port news) (bytes_for stream.port taken) (queues n).ended drawn (gave.ended n stream is) in
-          (t.0, t.1, subst (λ text. IsGoodUntil core.types (type_at core n) text (listed inputs.good n) (inputs.bad n)) t.2 (are.each n (From stream) is)));
-      others = λ n node is other. none_comes (texts_read olds taken) n node (listed inputs.good n) (inputs.bad n) is other (are.each n node is);
+          (t.0, t.1, subst (λ text. IsGoodUntil core.types (type_at core n) text (listed inputs.good n) (inputs.bad n)) t.2 (comes_at core (texts_read olds taken) inputs are n (From stream) is)));
+      others = λ n node is other. none_comes (texts_read olds taken) n node (listed inputs.good n) (inputs.bad n) is other (comes_at core (texts_read olds taken) inputs are n node is);
     }

@@ -17,3 +17,4 @@ pub mod Runnings
 pub mod RoundEnds
 pub mod RunStarts
 pub mod TypedInputs
+pub mod OneInputs

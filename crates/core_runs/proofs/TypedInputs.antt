@@ -11,10 +11,11 @@ use Rattle.net_engine.specs.StreamTypes.{type_at}
 use Rattle.net_engine.proofs.Wires.{input_type}
 use Rattle.net_rounds.specs.Pieces.{listed}
 use Rattle.core_runs.specs.Inputs.{AreInputs, Inputs}
+use Rattle.core_runs.proofs.Ending.{comes_at}
 use Rattle.core_runs.proofs.TypedTaken.{values_typed}
 
 pub inputs_typed : (core : Core) → IsRunnable core → (texts : List ℕ → List ℕ) (inputs : Inputs) → AreInputs core texts inputs → ComingAreTyped core inputs.good
 inputs_typed core run texts inputs are n stream w wire is there from =
-    let comes = are.each n (From stream) is in
+    let comes = comes_at core texts inputs are n (From stream) is in
     subst (λ ty. list_all (is_value core.types ty) (listed inputs.good n) ≡ true) (input_type core run n w wire there (subst IsInput (sym is) tt) from)
     (values_typed core.types (type_at core n) _ (listed inputs.good n) comes.values.texts)

@@ -7,8 +7,8 @@
 //! Proved: `run_core` reads what a run needs and gathers exactly the writes that the texts of the ports owe (`RunsTo`), or says
 //! that a read failed or memory ran out while nothing was written. A read failed only before a round for which its stream had
 //! too few values: the whole lines that were taken from the port have fewer good values than the stream had asserted and may
-//! need in the round (`FailsToRead`). Laws: every list of texts brings values to the streams (`each_run_has_inputs`), and they
-//! have the types of the streams (`inputs_have_types`).
+//! need in the round (`FailsToRead`). Laws: every list of texts brings values to the streams (`each_run_has_inputs`), the
+//! same ones each time (`inputs_are_unique`), and they have the types of the streams (`inputs_have_types`).
 //!
 //! It knows cores, an engine that runs a net, rounds and the places of ports. It doesn't know sources, how a core was accepted,
 //! or when what is gathered is written.
@@ -24,6 +24,6 @@ mod nodes;
 mod rounds;
 mod run;
 
-pub use laws::{each_run_has_inputs, inputs_have_types};
+pub use laws::{each_run_has_inputs, inputs_are_unique, inputs_have_types};
 pub use rounds::SPAN;
 pub use run::{RunEnd, RunError, run_core};

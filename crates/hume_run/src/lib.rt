@@ -3,9 +3,9 @@
 //! Main call: `hume`. Its contract is the promise of the tool: `Headline.antt` defines it, over what a call owes (`Owed.antt`).
 //! `docs/PROMISE.md` lists every definition that it rests on.
 //!
-//! Proved: `hume` keeps the promise, which `docs/PROOFS.md` explains clause by clause. Law: whatever values come to the run of
-//! an accepted source, each execute step of a box takes at most the heap, stack and work that the table gives it
-//! (`runs_keep_bounds`).
+//! Proved: `hume` keeps the promise, which `docs/PROOFS.md` explains clause by clause. Laws: for given words, names and texts
+//! a call owes one thing (`each_call_owes_one_thing`); whatever values come to the run of an accepted source, each execute step of
+//! a box takes at most the heap, stack and work that the table gives it (`runs_keep_bounds`).
 //!
 //! It knows ports, words and what is owed to them. It doesn't know files, command lines or exit statuses.
 #![tactic(auto)]
@@ -26,7 +26,7 @@ mod streams;
 mod top;
 mod words;
 
-pub use laws::runs_keep_bounds;
+pub use laws::{each_call_owes_one_thing, runs_keep_bounds};
 pub use order::Order;
 pub use status::Status;
 pub use top::hume;

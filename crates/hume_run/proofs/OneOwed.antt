@@ -1,0 +1,90 @@
+-- A call owes one thing.
+use Rattle.std.proofs.Common.{◌≡◌, ℕ, List, [], Option, None, Some, inl, inr, refl, sym, ap, ◌∙◌, subst}
+use Rattle.hume_base.specs.declared.rule.Refusal.{Refusal}
+use Rattle.hume_base.specs.declared.rule.Rule.TheVariants.{C55}
+use Rattle.hume_model.specs.declared.core_tree.Core.{Core}
+use Rattle.hume_front.specs.declared.acceptance.Accepted.{Accepted}
+use Rattle.hume_front.specs.Accepted.{IsAccepted}
+use Rattle.hume_front.proofs.OneRefusal.{one_refusal, accepted_unbroken}
+use Rattle.hume_front.proofs.Sources.{one_accepted_core}
+use Rattle.hume_front.proofs.SomeAnswer as front
+use Rattle.core_runs.specs.Streams.{streams}
+use Rattle.core_runs.specs.Inputs.{AreInputs}
+use Rattle.core_runs.proofs.RunEnds.{has_inputs}
+use Rattle.core_runs.proofs.OneInputs.{one_inputs}
+use Rattle.hume_run.specs.declared.order.Order.{Order}
+use Rattle.hume_run.specs.declared.order.Order.TheVariants.{Run, Check}
+use Rattle.hume_run.specs.Streams.{unfit_line}
+use Rattle.hume_run.specs.Owed.{Owed, IsRefusal, broken, unfit, IsOwedRun, IsOwedCheck, IsOwed, owed_refused, owed_run, owed_accepted}
+use Rattle.hume_run.proofs.Runnable.{runnable}
+
+module _ (source text : List ℕ) (names : List (List ℕ)) (texts : List ℕ → List ℕ) where
+  -- the line of the first unfit stream
+  abbrev unfit_in : Core → Option ℕ
+  unfit_in core = unfit_line names source [] (streams core)
+
+  same_core : (a b : Accepted) → IsAccepted text a → IsAccepted text b → a.core ≡ b.core
+  same_core = one_accepted_core text
+
+  same_refusal : (r s : Refusal) → IsRefusal text names source r → IsRefusal text names source s → r ≡ s
+  same_refusal _ _ (broken r x) (broken s y) = one_refusal text r s x y
+  same_refusal _ _ (broken r x) (unfit b q m at) = absurd (accepted_unbroken text b r q x)
+  same_refusal _ _ (unfit a p n at) (broken s y) = absurd (accepted_unbroken text a s p y)
+  same_refusal _ _ (unfit a p n at) (unfit b q m there) =
+      let both = sym at ∙ ap unfit_in (same_core a b p q) ∙ there in
+      let same : n ≡ m = cc in ap (λ line. record { rule = C55; line = line }) same
+
+  -- a refused source is not run
+  not_both : (r : Refusal) (b : Accepted) → IsRefusal text names source r → IsAccepted text b → unfit_in b.core ≡ None → ⊥
+  not_both _ b (broken r x) q fit = accepted_unbroken text b r q x
+  not_both _ b (unfit a p n at) q fit = let both = sym at ∙ ap unfit_in (same_core a b p q) ∙ fit in cc
+
+  same_run : (steps : ℕ) (first second : Owed) → IsOwedRun steps source text names texts first → IsOwedRun steps source text names texts second → first ≡ second
+  same_run steps first second x y = elim x [
+    | inl p ↦ elim y [
+      | inl q ↦ p.2 ∙ ap (owed_refused source) (same_refusal p.0 q.0 p.1 q.1) ∙ sym q.2
+      | inr q ↦ absurd (not_both p.0 q.0 p.1 q.1 q.2)
+    ]
+    | inr p ↦ elim y [
+      | inl q ↦ absurd (not_both q.0 p.0 q.1 p.1 p.2)
+      | inr q ↦
+          let core : q.0.core ≡ p.0.core = same_core q.0 p.0 q.1 p.1 in
+          let coming : p.3 ≡ q.3 = one_inputs p.0.core (runnable text p.0 p.1).names texts p.3 q.3 p.4 (subst (λ c. AreInputs c texts q.3) core q.4) in
+          p.5 ∙ (λ i. owed_run steps source (sym core i) (coming i)) ∙ sym q.5
+    ]
+  ]
+
+  same_check : (first second : Owed) → IsOwedCheck source text first → IsOwedCheck source text second → first ≡ second
+  same_check first second x y = elim x [
+    | inl p ↦ elim y [
+      | inl q ↦ p.2 ∙ ap (owed_refused source) (one_refusal text p.0 q.0 p.1 q.1) ∙ sym q.2
+      | inr q ↦ absurd (accepted_unbroken text q.0 p.0 q.1 p.1)
+    ]
+    | inr p ↦ elim y [
+      | inl q ↦ absurd (accepted_unbroken text p.0 q.0 p.1 q.1)
+      | inr q ↦ p.2 ∙ ap (owed_accepted source) (same_core p.0 q.0 p.1 q.1) ∙ sym q.2
+    ]
+  ]
+
+  -- a run of an accepted source owes something
+  some_accepted : (steps : ℕ) (a : Accepted) → IsAccepted text a → (o : Option ℕ) → unfit_in a.core ≡ o → (owed : Owed) × IsOwedRun steps source text names texts owed
+  some_accepted steps a p (Some line) at = (_, inl (_, unfit a p line at, refl))
+  some_accepted steps a p None fit = let coming = has_inputs a.core (runnable text a p) texts in (_, inr (a, p, fit, coming.0, coming.1, refl))
+
+  some_run : (steps : ℕ) → (owed : Owed) × IsOwedRun steps source text names texts owed
+  some_run steps = elim (front.some_answer text) [
+    | inl a ↦ some_accepted steps a.0 a.1 _ refl
+    | inr r ↦ (_, inl (r.0, broken r.0 r.1, refl))
+  ]
+
+  some_check : (owed : Owed) × IsOwedCheck source text owed
+  some_check = elim (front.some_answer text) [ inl a ↦ (_, inr (a.0, a.1, refl)) | inr r ↦ (_, inl (r.0, r.1, refl)) ]
+
+pub one_owed : (order : Order) (source text : List ℕ) (names : List (List ℕ)) (texts : List ℕ → List ℕ) (first second : Owed)
+    → IsOwed order source text names texts first → IsOwed order source text names texts second → first ≡ second
+one_owed (Run steps place) source text names texts = same_run source text names texts steps
+one_owed (Check place) source text names texts = same_check source text names texts
+
+pub some_owed : (order : Order) (source text : List ℕ) (names : List (List ℕ)) (texts : List ℕ → List ℕ) → (owed : Owed) × IsOwed order source text names texts owed
+some_owed (Run steps place) source text names texts = some_run source text names texts steps
+some_owed (Check place) source text names texts = some_check source text names texts

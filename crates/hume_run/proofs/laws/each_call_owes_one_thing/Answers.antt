@@ -1,0 +1,8 @@
+use Rattle.hume_run.proofs.OneOwed.{some_owed, one_owed}
+use Rattle.hume_run.proofs.laws.each_call_owes_one_thing.Goals as goal
+
+pub returns-clause-some : goal.returns-clause-some
+returns-clause-some c = some_owed
+
+pub returns-clause-one : goal.returns-clause-one
+returns-clause-one c = one_owed
