@@ -1,5 +1,5 @@
 -- What the machine does with one instruction after another.
-use Rattle.std.specs.Prelude.{ℕ, zero, suc, ◌+◌, ◌-◌, ◌/◌, ◌%◌, ◌==◌, nat_lt, nat_le, max, List, [], ◌∷◌, ◌++◌, length, map, Option, Some, None, if◌then◌else◌, slice_get, slice_set}
+use Rattle.std.specs.Prelude.{◌≡◌, ℕ, zero, suc, ◌+◌, ◌-◌, ◌/◌, ◌%◌, ◌==◌, nat_lt, nat_le, max, List, [], ◌∷◌, ◌++◌, length, map, Option, Some, None, if◌then◌else◌, slice_get, slice_set}
 use Rattle.std.specs.List.{flat_map}
 use Rattle.std.specs.Option.{option_map, option_and_then, unwrap_or}
 use Rattle.hume_base.specs.declared.types.Ty.{Ty}
@@ -243,3 +243,11 @@ follow Broken go = Broken
 unfoldable pub run : Setting → ℕ → Machine → Next
 run s zero m = Goes m
 run s (suc count) m = follow (step s m) (run s count)
+
+-- the machine ends so, by the last of so many instructions, and by none before it
+pub record EndsAfter (s : Setting) (m n : Machine) (count : ℕ) : Type 0 where
+  pub last : Machine
+  pub before : ℕ
+  pub goes : run s before m ≡ Goes last
+  pub ends : step s last ≡ Ends n
+  pub counted : count ≡ before + 1

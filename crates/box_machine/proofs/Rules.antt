@@ -8,9 +8,9 @@ use Rattle.box_heap.specs.Heaps.{HeapView}
 use Rattle.box_heap.specs.Stacks.{StackView}
 use Rattle.box_heap.specs.Outputs.{OutputView}
 use Rattle.box_code.specs.declared.program.BoxProgram.{BoxProgram}
-use Rattle.box_code.specs.Machine.{Setting, setting_of, Machine, Next, Goes, Ends, Broken, follow, run, step}
+use Rattle.box_code.specs.Machine.{Setting, setting_of, Machine, EndsAfter, Next, Goes, Ends, Broken, follow, run, step}
 use Rattle.box_machine.specs.declared.registers.Registers.{Registers}
-use Rattle.box_machine.specs.Running.{EndsAfter, EndsInRoom, RunsTo, machine_at}
+use Rattle.box_machine.specs.Running.{EndsInRoom, RunsTo, machine_at}
 use Rattle.box_machine.specs.inner.Stepping.{IsHeap, by_next, ended, machine_in, objects_in}
 use Rattle.box_machine.specs.inner.PutOutputs.{Reaches}
 use Rattle.box_machine.proofs.Held.{is_heap, only_these}
@@ -46,11 +46,11 @@ ended_before s (suc before) (suc most) m last final goes ends soon =
     ended-more s most m ∙ ap (λ x. by_next most x (ended s most)) first.1
     ∙ ended_before s before most first.0 last final first.2 ends (omega (arith, soon)) ∙ (λ i. Some (left i, final))
 
-pub ended_after : (s : Setting) (count most : ℕ) (m final : Machine) → EndsAfter s count m final → count ≤ most → ended s most m ≡ Some (most - count, final)
+pub ended_after : (s : Setting) (count most : ℕ) (m final : Machine) → EndsAfter s m final count → count ≤ most → ended s most m ≡ Some (most - count, final)
 ended_after s count most m final ends soon =
     ended_before s ends.before most m ends.last final ends.goes ends.ends (omega (arith, ends.counted, soon)) ∙ (λ i. Some (most - sym ends.counted i, final))
 
-same_end : (s : Setting) (one two : ℕ) (m first second : Machine) → EndsAfter s one m first → EndsAfter s two m second → (one ≡ two) × (first ≡ second)
+same_end : (s : Setting) (one two : ℕ) (m first second : Machine) → EndsAfter s m first one → EndsAfter s m second two → (one ≡ two) × (first ≡ second)
 same_end s one two m first second e f =
     let a = ended_after s one (one + two) m first e (omega arith) in
     let b = ended_after s two (one + two) m second f (omega arith) in
@@ -76,7 +76,7 @@ module _ (types : Types) (program : BoxProgram) (rule : ℕ) (heap : HeapView) (
       let start : machine_at e.place stack e.objects ≡ machine_at f.place stack f.objects = (λ i. machine_at (same_place one two first second e f i) stack
       (objects i)) in
       same_end (setting_of types program) one two (machine_at f.place stack f.objects) first second
-      (subst (λ m. EndsAfter (setting_of types program) one m first) start e.ends) f.ends
+      (subst (λ m. EndsAfter (setting_of types program) m first one) start e.ends) f.ends
 
   -- the registers and words with which it begins
   module _ (place : ℕ) (begins : slice_get program.rules rule ≡ Some place) (top peak : ℕ) (top_is : top ≡ length stack.words) (peak_is : peak ≡ stack.peak)

@@ -1,22 +1,14 @@
 -- When a rule's code runs to its end, and what it leaves.
-use Rattle.std.specs.Prelude.{◌≡◌, ℕ, ◌+◌, ◌≤◌, All, List, [], ◌∷◌, ◌++◌, length, Option, Some, None, slice_get}
+use Rattle.std.specs.Prelude.{◌≡◌, ℕ, ◌≤◌, All, List, [], ◌∷◌, ◌++◌, length, Option, Some, None, slice_get}
 use Rattle.std.specs.Option.{IsSome}
 use Rattle.hume_base.specs.declared.types.Types.{Types}
 use Rattle.box_heap.specs.Heaps.{HeapView, HasObjects, Object, with_objects}
 use Rattle.box_heap.specs.Stacks.{StackView}
 use Rattle.box_heap.specs.Outputs.{OutputView}
 use Rattle.box_code.specs.declared.program.BoxProgram.{BoxProgram}
-use Rattle.box_code.specs.Machine.{Setting, setting_of, Machine, Goes, Ends, step, run, used}
+use Rattle.box_code.specs.Machine.{setting_of, Machine, EndsAfter, used}
 use Rattle.box_machine.specs.declared.ran.Ran.{Ran}
 use Rattle.box_machine.specs.declared.ran.Ran.TheVariants.{Outputs, Handled}
-
--- the machine ends by the last of so many instructions, and by none before it
-pub record EndsAfter (setting : Setting) (count : ℕ) (start final : Machine) : Type 0 where
-  pub before : ℕ
-  pub counted : count ≡ before + 1
-  pub last : Machine
-  pub goes : run setting before start ≡ Goes last
-  pub ends : step setting last ≡ Ends final
 
 -- the machine at a place of the code: with the words of a stack and with objects, without outputs, and nothing is raised
 abbrev pub machine_at : ℕ → StackView → List Object → Machine
@@ -28,7 +20,7 @@ pub record RunsTo (types : Types) (program : BoxProgram) (rule : ℕ) (heap : He
   pub begins : slice_get program.rules rule ≡ Some place
   pub objects : List Object
   pub held : HasObjects heap objects
-  pub ends : EndsAfter (setting_of types program) count (machine_at place stack objects) final
+  pub ends : EndsAfter (setting_of types program) (machine_at place stack objects) final count
 
 -- there is an output for each of these, and each that has words has as many as there is room for
 abbrev pub HaveRoom : List OutputView → List (Option (List ℕ)) → Type 0

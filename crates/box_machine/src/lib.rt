@@ -15,7 +15,6 @@
 mod arithmetic;
 mod calls;
 mod code_run;
-mod flat_words;
 mod jumps;
 mod objects;
 mod operations;
@@ -25,6 +24,7 @@ mod ran;
 mod registers;
 mod run;
 mod stack_words;
+mod standing;
 mod turn;
 
 pub use ran::Ran;

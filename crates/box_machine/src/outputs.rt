@@ -6,7 +6,7 @@ ghost use Rattle.box_code.specs.Machine.{flat_outs, outs_in};
 ghost use Rattle.box_machine.specs.inner.PutOutputs.{OutsFit, put_outs};
 ghost use Rattle.box_machine.specs.inner.Stepping.{IsHeap, objects_in};
 
-use crate::flat_words::flatten;
+use crate::standing::flatten_standing;
 use box_heap::{BoxHeap, OutBuf};
 use hume_base::{Ty, Types};
 
@@ -47,7 +47,7 @@ pub(crate) fn write_outputs(
     if mask % 2 == 0 {
         write_outputs(types, others, mask / 2, words, heap, out, number + 1);
     } else {
-        flatten(types, ty, words[0], heap, out.open(number));
+        flatten_standing(types, ty, words[0], heap, out.open(number));
         write_outputs(types, others, mask / 2, &words[1..], heap, out, number + 1);
     }
 }

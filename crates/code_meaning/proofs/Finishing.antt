@@ -77,13 +77,13 @@ finish_runs s m base words tall mask next outs is same found long are stand many
       comes = record {
         last = m;
         before = 0;
-        comes = stays s m;
+        goes = (stays s m).leads;
         ends = ap (λ x. act_on s x m) (read_there s.code m.at (Finish mask) next found)
             ∙ ap (λ mask. act s (Finish mask) next m) same
             ∙ ap (λ stack. with_last (outs_in (mask_of outs) s.outs) stack (λ stack words. ended m stack (flat_outs s.types m.objects s.outs (mask_of outs) words))) is
             ∙ with_last_all base words (outs_in (mask_of outs) s.outs) (λ stack words. ended m stack (flat_outs s.types m.objects s.outs (mask_of outs) words)) (mask_many s.outs outs long ∙ many)
             ∙ ap (ended m base) (outs_flat s.types m.objects s.outs outs words long are stand);
-        exactly = refl;
+        counted = refl;
       };
       gives = refl;
       objects = sym (append_nil m.objects);

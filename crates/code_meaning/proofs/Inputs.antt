@@ -14,18 +14,18 @@ use Rattle.hume_model.specs.ResultTyping.{are_outputs}
 use Rattle.hume_model.specs.BoxTyping.{PositionsHave}
 use Rattle.hume_model.proofs.PatternTypes.{both_true}
 use Rattle.box_costs.specs.Bounds.{built_patterns}
-use Rattle.code_meaning.specs.RuleEnding.{built_inputs}
+use Rattle.box_costs.specs.ResultSpending.{built_values}
 
 -- the built inputs, with the types of their patterns
 pub record AreBuilt (types : Types) (pats : List InPat) (ins : List (Option Value)) (vars : List Ty) : Type 0 where
   pub tys : List Ty
   pub patterns : ArePatterns types tys (built_patterns pats) vars
-  pub are : AreOf types tys (built_inputs pats ins)
-  pub bind : matches_all (built_patterns pats) (built_inputs pats ins) ≡ Some (bound pats ins)
+  pub are : AreOf types tys (built_values pats ins)
+  pub bind : matches_all (built_patterns pats) (built_values pats ins) ≡ Some (bound pats ins)
 
 -- a position that builds nothing
 skipped : (types : Types) (pat : InPat) (pats : List InPat) (input : Option Value) (ins : List (Option Value)) (vars : List Ty) → built_patterns (pat ∷ pats) ≡ built_patterns pats
-    → built_inputs (pat ∷ pats) (input ∷ ins) ≡ built_inputs pats ins → bound (pat ∷ pats) (input ∷ ins) ≡ bound pats ins → AreBuilt types pats ins vars
+    → built_values (pat ∷ pats) (input ∷ ins) ≡ built_values pats ins → bound (pat ∷ pats) (input ∷ ins) ≡ bound pats ins → AreBuilt types pats ins vars
     → AreBuilt types (pat ∷ pats) (input ∷ ins) vars
 skipped types pat pats input ins vars e d f k = record {
   tys = k.tys;

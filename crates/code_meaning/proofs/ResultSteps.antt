@@ -13,9 +13,9 @@ use Rattle.box_costs.specs.PatternTests.{Tried}
 use Rattle.box_costs.specs.Spending.{Spent, after}
 use Rattle.box_costs.specs.ResultSpending.{go_on_outputs, result_taken}
 use Rattle.box_heap.specs.Heaps.{Object}
-use Rattle.box_code.specs.Machine.{Setting, Machine, used}
+use Rattle.box_code.specs.Machine.{Setting, Machine, EndsAfter, used}
 use Rattle.code_meaning.specs.Running.{Comes, later, Gave, Runs}
-use Rattle.code_meaning.specs.Ending.{EndsAfter, ResultRuns, ResultRunsSpent}
+use Rattle.code_meaning.specs.Ending.{ResultRuns, ResultRunsSpent}
 use Rattle.code_meaning.proofs.Heaps.{used-append}
 use Rattle.code_meaning.proofs.Steps.{append_nil, moved, alike, goes_on, becomes}
 use Rattle.code_meaning.proofs.Combine.{reached, after_threw, over_threw, no_more}
@@ -25,9 +25,9 @@ module _ (s : Setting) where
   ends_later m n o a b f e = record {
     last = e.last;
     before = a + e.before;
-    comes = goes_on s m n e.last a e.before f e.comes;
+    goes = (goes_on s m n e.last a e.before f (record { leads = e.goes })).leads;
     ends = e.ends;
-    exactly = (let x = e.exactly in omega (arith, x));
+    counted = (let x = e.counted in omega (arith, x));
   }
 
   module _ (m : Machine) (high : ℕ) where

@@ -26,17 +26,17 @@ use Rattle.box_costs.specs.declared.cost.Cost.{Cost}
 use Rattle.box_costs.specs.Costs.{objects, both}
 use Rattle.box_costs.specs.Bounds.{built_patterns}
 use Rattle.box_costs.specs.Spending.{Spent, spends, over}
-use Rattle.box_costs.specs.ResultSpending.{result_taken, result_spent, handler_spent, handled_by, handled, inputs_built}
+use Rattle.box_costs.specs.ResultSpending.{built_values, handled, handled_by, handler_spent, inputs_built, result_spent, result_taken}
 use Rattle.box_costs.proofs.Results.{sound}
 use Rattle.box_heap.specs.Heaps.{Object}
 use Rattle.box_code.specs.declared.program.BoxProgram.{BoxProgram}
 use Rattle.box_code.specs.Paths.{spots_from}
-use Rattle.box_code.specs.Machine.{Setting, Machine, used, setting_of}
+use Rattle.box_code.specs.Machine.{Setting, Machine, EndsAfter, used, setting_of}
 use Rattle.box_code.specs.Represents.{RuleStands, HandlerStands}
 use Rattle.box_code.specs.RepresentsBox.{HasHandler, RepresentsBox}
 use Rattle.code_meaning.specs.Running.{thrown}
-use Rattle.code_meaning.specs.Ending.{EndsAfter, flat_outputs, Finished, ResultRuns, ResultRunsSpent}
-use Rattle.code_meaning.specs.RuleEnding.{built_inputs, IsReady, exception_of, RuleRuns}
+use Rattle.code_meaning.specs.Ending.{flat_outputs, Finished, ResultRuns, ResultRunsSpent}
+use Rattle.code_meaning.specs.RuleEnding.{IsReady, exception_of, RuleRuns}
 use Rattle.code_meaning.proofs.Heaps.{used-append, as_many}
 use Rattle.code_meaning.proofs.Patterns.{words_right}
 use Rattle.code_meaning.proofs.ResultSteps.{ends_later, over_outputs_run}
@@ -73,8 +73,8 @@ module _ (core : Core) (well : HasSoundParts core) (b : BoxC) (typed : BoxIsType
       let at : place.place ≡ m.at = same_place _ _ (sym place.begins ∙ ready.begins) in
       let built = are_built core.types has.positions.have ins are fit in
       let count = length (built_patterns rule.pats) in
-      let long : length m.stack ≡ count = sym (as_many ready.inputs) ∙ as_params core.types built.tys (built_inputs rule.pats ins) built.are ∙ sym (patterns_many built.patterns) in
-      let right = words_right core.types well.holds m.objects 0 m.stack built.patterns (built_inputs rule.pats ins) built.are m.stack ready.inputs 0
+      let long : length m.stack ≡ count = sym (as_many ready.inputs) ∙ as_params core.types built.tys (built_values rule.pats ins) built.are ∙ sym (patterns_many built.patterns) in
+      let right = words_right core.types well.holds m.objects 0 m.stack built.patterns (built_values rule.pats ins) built.are m.stack ready.inputs 0
       (λ i w found. let e : 0 + (0 + i) ≡ i = omega arith in ap (slice_get m.stack) e ∙ found) in
       let y = result_taken (λ values. result_spent core values rule.result) vs in
       over_outputs_run s m 0 count y.outcome y.cost
@@ -101,10 +101,10 @@ module _ (core : Core) (well : HasSoundParts core) (b : BoxC) (typed : BoxIsType
       let size = g.size in
       let peak = g.peak in
       let e = g.comes in
-      let last = e.exactly in (
+      let last = e.counted in (
         g.end,
         g.more,
-        record { last = e.last; before = e.before; comes = e.comes; ends = e.ends; exactly = omega (arith, last) },
+        record { last = e.last; before = e.before; goes = e.goes; ends = e.ends; counted = omega (arith, last) },
         g.gives,
         g.raised ∙ ready.unraised,
         g.objects,
@@ -134,13 +134,13 @@ module _ (core : Core) (well : HasSoundParts core) (b : BoxC) (typed : BoxIsType
       let more_size = h.size in
       let peak = h.peak in
       let e = ends_later s m n h.end c.work (handler_spent core carried k.handler).cost.work g.comes h.comes in
-      let last = e.exactly in
+      let last = e.counted in
       subst (λ d. (end : Machine) × (more : List Object) × EndsAfter s m end (total d).work × (end.outs ≡ flat_outputs core.types program.outs (firing.handled core b.handlers (Throws exn carried)))
       × (end.raised ≡ Some exn) × (end.objects ≡ m.objects ++ more) × (inputs_built rule.pats ins + used more ≡ (total d).heap) × (end.peak ≡ max m.peak (total d).stack)
       × ((other : ℕ) → exception_of (Throws exn carried) ≡ Some other → 1 ≤ end.peak)) (sym cost_is) (
         h.end,
         g.more ++ h.more,
-        record { last = e.last; before = e.before; comes = e.comes; ends = e.ends; exactly = omega (arith, last) },
+        record { last = e.last; before = e.before; goes = e.goes; ends = e.ends; counted = omega (arith, last) },
         h.gives ∙ ap (flat_outputs core.types program.outs) (sym outs_are),
         h.raised,
         h.objects ∙ append_assoc m.objects g.more h.more,

@@ -10,16 +10,8 @@ use Rattle.hume_model.specs.declared.outcome.Outputs.TheVariants.{Asserts, Throw
 use Rattle.box_costs.specs.declared.cost.Cost.{Cost}
 use Rattle.box_costs.specs.Spending.{Spent}
 use Rattle.box_heap.specs.Heaps.{Object}
-use Rattle.box_code.specs.Machine.{Setting, Machine, Ends, used, step}
-use Rattle.code_meaning.specs.Running.{Comes, Threw}
-
--- the machine ends so, with the last of exactly so many instructions
-pub record EndsAfter (s : Setting) (m n : Machine) (count : ℕ) : Type 0 where
-  pub last : Machine
-  pub before : ℕ
-  pub comes : Comes s m last before
-  pub ends : step s last ≡ Ends n
-  pub exactly : count ≡ before + 1
+use Rattle.box_code.specs.Machine.{Setting, Machine, EndsAfter, used}
+use Rattle.code_meaning.specs.Running.{Threw}
 
 -- the flat words of outputs, by their types
 abbrev pub flat_outputs : Types → List Ty → List (Option Value) → List (Option (List ℕ))

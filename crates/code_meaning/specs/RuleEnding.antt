@@ -1,8 +1,6 @@
 -- How a machine runs a whole rule of a box: from the inputs that are built to the outputs.
 use Rattle.std.specs.Prelude.{◌≡◌, ℕ, ◌+◌, ◌≤◌, max, List, [], ◌∷◌, ◌++◌, length, Option, Some, None, slice_get}
 use Rattle.hume_base.specs.declared.types.Value.{Value}
-use Rattle.hume_model.specs.declared.core_tree.InPat.{InPat}
-use Rattle.hume_model.specs.declared.core_tree.InPat.TheVariants.{Built}
 use Rattle.hume_model.specs.declared.core_tree.RuleC.{RuleC}
 use Rattle.hume_model.specs.declared.core_tree.BoxC.{BoxC}
 use Rattle.hume_model.specs.declared.core_tree.Core.{Core}
@@ -11,24 +9,17 @@ use Rattle.hume_model.specs.declared.outcome.Outputs.TheVariants.{Asserts, Throw
 use Rattle.hume_model.specs.Matching.{bound}
 use Rattle.hume_model.specs.Results.{result_of}
 use Rattle.hume_model.specs.Firing.{handled}
-use Rattle.box_costs.specs.ResultSpending.{inputs_built, rule_spent}
+use Rattle.box_costs.specs.ResultSpending.{built_values, inputs_built, rule_spent}
 use Rattle.box_heap.specs.Heaps.{Object}
 use Rattle.box_heap.specs.Standing.{AllStand}
 use Rattle.box_code.specs.declared.program.BoxProgram.{BoxProgram}
-use Rattle.box_code.specs.Machine.{Setting, Machine, used}
-use Rattle.code_meaning.specs.Ending.{EndsAfter, flat_outputs}
-
--- the values of the inputs that are built, position by position
-abbrev pub built_inputs : List InPat → List (Option Value) → List Value
-built_inputs [] ins = []
-built_inputs (pat ∷ pats) [] = []
-built_inputs (Built pattern ∷ pats) (Some value ∷ ins) = value ∷ built_inputs pats ins
-built_inputs (pat ∷ pats) (input ∷ ins) = built_inputs pats ins
+use Rattle.box_code.specs.Machine.{Setting, Machine, EndsAfter, used}
+use Rattle.code_meaning.specs.Ending.{flat_outputs}
 
 -- the machine is where the rule begins, with a word for each input that is built and nothing else on the stack
 pub record IsReady (program : BoxProgram) (number : ℕ) (rule : RuleC) (ins : List (Option Value)) (m : Machine) : Type 0 where
   pub begins : slice_get program.rules number ≡ Some m.at
-  pub inputs : AllStand m.objects (built_inputs rule.pats ins) m.stack
+  pub inputs : AllStand m.objects (built_values rule.pats ins) m.stack
   pub low : length m.stack ≤ m.peak
   pub unraised : m.raised ≡ None
 

@@ -28,10 +28,6 @@ use Rattle.code_meaning.proofs.WholeRules.{rule_runs}
 use Rattle.rule_runs.specs.Runs.{Memory, CanFire, IsReadyToRun, result_with, cost_with}
 use Rattle.rule_runs.proofs.OutputRoom.{outputs_fit, all_absent}
 
--- the two crates say in the same words when a machine ends
-pub same_end : {s : Setting} {m n : Machine} {count : ℕ} → meaning.EndsAfter s m n count → machine.EndsAfter s count m n
-same_end e = record { before = e.before; counted = e.exactly; last = e.last; goes = e.comes.leads; ends = e.ends }
-
 module _ {core : Core} {b : BoxC} {number : ℕ} {rule : RuleC} {ins : List (Option Value)} (fires : CanFire core b number rule ins) where
   fits_here : rule_fits ins (slice_get b.rules number) ≡ true
   fits_here = ap (rule_fits ins) fires.there ∙ fires.fit
@@ -78,7 +74,7 @@ module _ {core : Core} {b : BoxC} {rule : RuleC} {ins : List (Option Value)} {ty
   pub runs_to : machine.RunsTo types program number m.heap m.stack (cost_with core b rule ins).work runs.end
   runs_to =
       subst (λ t. machine.RunsTo t program number m.heap m.stack (cost_with core b rule ins).work runs.end) (sym ready.types_are.same)
-      (record { place = place; begins = begins; objects = ready.holds.objects; held = ready.holds.held; ends = same_end runs.comes })
+      (record { place = place; begins = begins; objects = ready.holds.objects; held = ready.holds.held; ends = runs.comes })
 
   -- what its objects take at the end is what the rule spends
   pub end_size : used runs.end.objects ≡ (cost_with core b rule ins).heap

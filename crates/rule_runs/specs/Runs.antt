@@ -16,7 +16,7 @@ use Rattle.hume_model.specs.Handling.{HandlesAll}
 use Rattle.hume_model.specs.BoxTyping.{BoxIsTyped, port_types}
 use Rattle.hume_model.specs.WellFormed.{HasSoundParts}
 use Rattle.box_costs.specs.declared.cost.Cost.{Cost}
-use Rattle.box_costs.specs.ResultSpending.{inputs_built, rule_spent}
+use Rattle.box_costs.specs.ResultSpending.{built_values, inputs_built, rule_spent}
 use Rattle.box_heap.specs.Heaps.{HeapView, HasObjects, Object}
 use Rattle.box_heap.specs.Stacks.{StackView}
 use Rattle.box_heap.specs.Standing.{AllStand}
@@ -26,7 +26,7 @@ use Rattle.box_code.specs.RepresentsBox.{RepresentsBox}
 use Rattle.box_machine.specs.declared.ran.Ran.{Ran}
 use Rattle.box_machine.specs.Running.{answer_of, with_outputs}
 use Rattle.code_meaning.specs.Ending.{flat_outputs}
-use Rattle.code_meaning.specs.RuleEnding.{built_inputs, exception_of}
+use Rattle.code_meaning.specs.RuleEnding.{exception_of}
 
 -- what the code of a box works on
 pub record Memory : Type 0 where
@@ -53,13 +53,13 @@ pub record HoldsInputs (rule : RuleC) (ins : List (Option Value)) (heap : HeapVi
   pub objects : List Object
   pub held : HasObjects heap objects
   pub built : length heap.words ≡ inputs_built rule.pats ins
-  pub stand : AllStand objects (built_inputs rule.pats ins) stack.words
+  pub stand : AllStand objects (built_values rule.pats ins) stack.words
   pub heap_counted : length heap.words ≤ heap.peak
   pub stack_counted : length stack.words ≤ stack.peak
 
 -- Heap and stack have the lengths that the program says, the stack never had more words, and each output of the box has its
 -- size and is absent.
-pub record HasRoom (core : Core) (b : BoxC) (program : BoxProgram) (m : Memory) : Type 0 where
+pub record HasRoomToRun (core : Core) (b : BoxC) (program : BoxProgram) (m : Memory) : Type 0 where
   pub heap_room : m.heap.room ≡ program.heap
   pub stack_room : m.stack.room ≡ program.stack
   pub within : m.stack.peak ≤ m.stack.room
@@ -78,7 +78,7 @@ pub record IsReadyToRun (core : Core) (b : BoxC) (rule : RuleC) (ins : List (Opt
   pub fires : CanFire core b number rule ins
   pub types_are : AreItsTypes core types
   pub represents : RepresentsBox core b program
-  pub room : HasRoom core b program m
+  pub room : HasRoomToRun core b program m
   pub holds : HoldsInputs rule ins m.heap m.stack
 
 -- what the result of a rule comes to

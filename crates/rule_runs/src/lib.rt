@@ -1,8 +1,8 @@
 //! The call that runs a rule of a compiled box, with its contract in the words of the meaning.
 //!
-//! Main call: `run_rule`. `Runs.antt` says when a rule is ready to run (`IsReadyToRun`) and what its run leaves (`HasRun`).
+//! Main call: `run_ready_rule`. `Runs.antt` says when a rule is ready to run (`IsReadyToRun`) and what its run leaves (`HasRun`).
 //!
-//! Proved: `run_rule` runs a rule that fits its inputs, in a program that represents a box of a core whose parts are sound and
+//! Proved: `run_ready_rule` runs a rule that fits its inputs, in a program that represents a box of a core whose parts are sound and
 //! that handles all that it raises, on a heap and a stack of the printed lengths that hold the built inputs. The outputs have
 //! the flat words of what the meaning gives and no others, the answer says which exception was handled, and the words of the
 //! heap, the peak of the stack and the number of instructions are exactly what the firing spends. Law: such a rule ends within
@@ -16,4 +16,4 @@ mod laws;
 mod runs;
 
 pub use laws::ready_rules_end;
-pub use runs::run_rule;
+pub use runs::run_ready_rule;

@@ -11,9 +11,10 @@ use box_heap::{BoxHeap, BoxStack, OutBuf};
 use box_machine::Ran;
 use hume_base::Types;
 
-/// Runs the code of the rule of that number. It takes no memory.
+/// Runs the code of the rule of that number, which is ready. What it leaves is said in the words of the meaning;
+/// `box_machine::run_rule`, which does the work, says it in those of the machine. It takes no memory.
 #[inline(always)]
-pub fn run_rule(
+pub fn run_ready_rule(
     types: &Types,
     program: &BoxProgram,
     rule: u32,

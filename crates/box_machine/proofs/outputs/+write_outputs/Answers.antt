@@ -36,8 +36,8 @@ open-requires t c =
     let fit = subst (λ (tys : List Ty). OutsFit (flat_outs c.args.types.now objects tys c.args.mask c.args.words.now) c.args.number c.args.out.now) outs.0 c.requires.room in
     some_within c.args.types.now objects c.in-Some.ty.now c.in-Some.others.now c.args.mask c.args.number c.args.words.now c.args.out.now fit c.if-mask-eq0.false
 
-pub flatten-requires-clause-fill : goal.flatten-requires-clause-fill
-flatten-requires-clause-fill t c =
+pub flatten_standing-requires-clause-fill : goal.flatten_standing-requires-clause-fill
+flatten_standing-requires-clause-fill t c =
     let objects = objects_in c.args.heap.now in
     let outs = c.in-Some.ensures.cases in
     let fit = subst (λ (tys : List Ty). OutsFit (flat_outs c.args.types.now objects tys c.args.mask c.args.words.now) c.args.number c.args.out.now) outs.0 c.requires.room in
@@ -60,8 +60,8 @@ write_outputs-requires-else-mask-eq0 t c =
             c.requires.held,
             (
               subst (λ (os : List OutputView). OutsFit (flat_outs c.args.types.now objects c.in-Some.others.now (c.args.mask / 2) (take (length c.args.words.now - 1) (drop 1 c.args.words.now))) (c.args.number + 1) os)
-                  (sym (refilled c.args.out.now c.args.number c.open.result.now c.flatten.new.into (search rules)))
-                  (some_fits c.args.types.now objects c.in-Some.ty.now c.in-Some.others.now c.args.mask c.args.number c.args.words.now c.args.out.now fit c.if-mask-eq0.false c.flatten.new.into c.flatten.ensures),
+                  (sym (refilled c.args.out.now c.args.number c.open.result.now c.flatten_standing.new.into (search rules)))
+                  (some_fits c.args.types.now objects c.in-Some.ty.now c.in-Some.others.now c.args.mask c.args.number c.args.words.now c.args.out.now fit c.if-mask-eq0.false c.flatten_standing.new.into c.flatten_standing.ensures),
               omega (arith, outs.1, c.requires.few),
             ),
           ),
@@ -73,12 +73,12 @@ pub returns-else-mask-eq0 : goal.returns-else-mask-eq0
 returns-else-mask-eq0 t c = λ flat is.
     let objects = objects_in c.args.heap.now in
     let outs = c.in-Some.ensures.cases in
-    let long : length c.flatten.new.into ≡ length c.open.result.now = search rules in
+    let long : length c.flatten_standing.new.into ≡ length c.open.result.now = search rules in
     let whole = subst (λ (tys : List Ty). flat_outs c.args.types.now objects tys c.args.mask c.args.words.now ≡ Some flat) outs.0 is in
     let given = some_step c.args.types.now objects c.in-Some.ty.now c.in-Some.others.now c.args.mask c.args.words.now flat whole c.if-mask-eq0.false in
-    let same : c.flatten.new.into ≡ given.words = let e : ◌≡◌ {A = Option (List ℕ)} (Some c.flatten.new.into) (Some given.words) = sym c.flatten.ensures ∙ given.own_is in cc in
+    let same : c.flatten_standing.new.into ≡ given.words = let e : ◌≡◌ {A = Option (List ℕ)} (Some c.flatten_standing.new.into) (Some given.words) = sym c.flatten_standing.ensures ∙ given.own_is in cc in
     let step : c.args.number + 1 ≡ suc c.args.number = omega arith in
     c.write_outputs-else-mask-eq0.ensures given.rest given.others_are
-    ∙ ap (λ (os : List OutputView). put_outs (c.args.number + 1) os given.rest) (refilled c.args.out.now c.args.number c.open.result.now c.flatten.new.into long)
+    ∙ ap (λ (os : List OutputView). put_outs (c.args.number + 1) os given.rest) (refilled c.args.out.now c.args.number c.open.result.now c.flatten_standing.new.into long)
     ∙ (λ i. put_outs (step i) (put_out c.args.out.now c.args.number (same i)) given.rest)
     ∙ sym (ap (put_outs c.args.number c.args.out.now) given.both)

@@ -1,6 +1,6 @@
 use Rattle.std.proofs.Common.{◌≤◌, ◌-◌, max, replicate}
 use Rattle.box_machine.specs.inner.Written.{IsWritten}
-use Rattle.box_machine.proofs.flat_words.write_zeros.Given as goal
+use Rattle.box_machine.proofs.standing.write_zeros.Given as goal
 
 abbrev pub invariant-loop-place : goal.invariant-loop-place
 invariant-loop-place l = record {

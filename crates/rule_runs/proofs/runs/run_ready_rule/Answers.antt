@@ -1,6 +1,6 @@
 use Rattle.rule_runs.proofs.Ends.{ends_in_room}
 use Rattle.rule_runs.proofs.HaveRun.{has_run}
-use Rattle.rule_runs.proofs.runs.run_rule.Goals as goal
+use Rattle.rule_runs.proofs.runs.run_ready_rule.Goals as goal
 
 pub run_rule-requires-clause-ends : goal.run_rule-requires-clause-ends
 run_rule-requires-clause-ends c = ends_in_room c.requires.4

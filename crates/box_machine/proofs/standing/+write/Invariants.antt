@@ -6,7 +6,7 @@ use Rattle.box_heap.specs.Heaps.{Object, object_at}
 use Rattle.box_code.specs.FlatObjects.{joined_words, item_words}
 use Rattle.box_machine.specs.inner.Stepping.{objects_in}
 use Rattle.box_machine.specs.inner.Written.{AreWritten, flat_below}
-use Rattle.box_machine.proofs.flat_words.+write.Given as goal
+use Rattle.box_machine.proofs.standing.+write.Given as goal
 
 abbrev pub decreases-write_value : goal.decreases-write_value
 decreases-write_value l = 3 * (rank l.types.now l.bound + size-Ty l.ty.now)

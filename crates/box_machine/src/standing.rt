@@ -11,7 +11,7 @@ use box_heap::BoxHeap;
 use hume_base::{SumDef, Ty, Types};
 
 /// Writes the flat words of what a word stands for by a type, which fill the row.
-pub(crate) fn flatten(types: &Types, ty: &Ty, word: u64, heap: &BoxHeap, into: &mut [u64])
+pub(crate) fn flatten_standing(types: &Types, ty: &Ty, word: u64, heap: &BoxHeap, into: &mut [u64])
     requires sizes { HaveTheirSizes types.now }
     requires readable { HaveReadableSizes types.now }
     requires held { IsHeap heap.now }

@@ -11,7 +11,7 @@ use Rattle.box_machine.specs.inner.Stepping.{objects_in}
 use Rattle.box_machine.specs.inner.Written.{IsWritten, con_at, flat_below, items_at, parts_at}
 use Rattle.box_machine.proofs.Writing.{con_room, named_none, named_some, named_there, padded_written, written_more, zeros_room}
 use Rattle.box_machine.proofs.WritingParts.{con_fields, con_parts, con_tag, field_small, flat_tuple, flat_vector, item_next, item_room, items_done, items_field, items_object, part_next, part_room, part_smaller, parts_done, parts_field}
-use Rattle.box_machine.proofs.flat_words.+write.Goals as goal
+use Rattle.box_machine.proofs.standing.+write.Goals as goal
 
 pub write_constructor-tag_at-tag-requires-clause-there :
     goal.write_constructor-tag_at-tag-requires-clause-there
