@@ -11,7 +11,7 @@ use Rattle.hume_base.specs.declared.types.Value.{Value}
 use Rattle.hume_base.specs.Flat.{flat}
 use Rattle.hume_base.specs.Sizes.{size_of}
 use Rattle.hume_base.specs.Values.{is_value}
-use Rattle.hume_text.proofs.FlatLengths.{flat_long}
+use Rattle.hume_base.proofs.FlatLengths.{flat_long}
 use Rattle.hume_text.specs.Printed.{AreWordsOf}
 use Rattle.hume_streams.specs.declared.log.OutLog.{OutLog}
 use Rattle.hume_streams.specs.declared.queue.InQueue.{InQueue}
