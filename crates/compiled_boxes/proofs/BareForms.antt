@@ -21,7 +21,7 @@ use Rattle.bare_cores.proofs.Frames.{bare_frame}
 use Rattle.wire_cells.specs.Cells.{CellView}
 use Rattle.match_rules.specs.Inputs.{IsCellOf, AreCellsOf}
 use Rattle.compiled_boxes.specs.Boxes.{AreBareForms, IsSoundBox}
-use Rattle.compiled_boxes.specs.Steps.{first_fitting}
+use Rattle.match_rules.specs.Choosing.{first_fitting}
 
 pub frame_of : {core : Core} {b : BoxC} {bare : Core} → IsSoundBox core b → bare ≡ bare_of core → HasSoundFrame bare
 frame_of {core = core} sound is = subst HasSoundFrame (sym is) (bare_frame core sound.formed.frame)

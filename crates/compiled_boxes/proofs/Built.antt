@@ -8,12 +8,13 @@ use Rattle.hume_model.specs.Firing.{rule_fits}
 use Rattle.hume_model.specs.Matching.{fits, taken_at}
 use Rattle.hume_net.specs.declared.state.HalfStep.{HalfStep}
 use Rattle.hume_net.specs.HalfSteps.{moved_last, oldest}
+use Rattle.box_costs.specs.ResultSpending.{built_values}
 use Rattle.box_heap.specs.Heaps.{HeapView}
 use Rattle.box_heap.specs.Stacks.{StackView}
 use Rattle.box_heap.specs.Outputs.{OutputView}
 use Rattle.box_machine.specs.declared.ran.Ran.{Ran}
 use Rattle.wire_cells.specs.Cells.{CellView}
-use Rattle.match_rules.specs.Inputs.{built_values, left_in}
+use Rattle.match_rules.specs.Inputs.{left_in}
 use Rattle.rule_runs.specs.Runs.{HasRun, IsReadyToRun, memory}
 use Rattle.compiled_boxes.specs.Views.{CompiledView}
 use Rattle.compiled_boxes.specs.inner.Buffers.{cleared, sizes_in, words_in}

@@ -15,7 +15,7 @@ use Rattle.hume_net.specs.declared.state.HalfStep.{HalfStep}
 use Rattle.hume_net.specs.HalfSteps.{execute, fired, idle, moved_last, oldest}
 use Rattle.box_costs.specs.declared.cost.Cost.{Cost}
 use Rattle.box_costs.specs.Costs.{nothing}
-use Rattle.box_costs.specs.ResultSpending.{box_spent, cost_if_fits, rule_spent}
+use Rattle.box_costs.specs.ResultSpending.{box_spent, built_values, cost_if_fits, rule_spent}
 use Rattle.box_heap.specs.Heaps.{HeapView}
 use Rattle.box_heap.specs.Stacks.{StackView}
 use Rattle.box_heap.specs.Outputs.{OutputView}
@@ -23,13 +23,14 @@ use Rattle.box_machine.specs.declared.ran.Ran.{Ran}
 use Rattle.box_machine.specs.Running.{with_outputs}
 use Rattle.code_meaning.specs.Ending.{flat_outputs}
 use Rattle.wire_cells.specs.Cells.{CellView}
-use Rattle.match_rules.specs.Inputs.{built_values, left_in}
+use Rattle.match_rules.specs.Inputs.{left_in}
 use Rattle.match_rules.proofs.Taking.{left_held}
 use Rattle.rule_runs.specs.Runs.{HasRun, cost_with, memory, result_with}
 use Rattle.rule_runs.proofs.Ends.{outputs_many}
 use Rattle.rule_runs.proofs.OutputRoom.{no_outputs}
 use Rattle.compiled_boxes.specs.Boxes.{HasExecuted, HasSpent, IsAt}
-use Rattle.compiled_boxes.specs.Steps.{execute_answer, execute_spent, first_fitting, rule_answer}
+use Rattle.match_rules.specs.Choosing.{first_fitting}
+use Rattle.compiled_boxes.specs.Steps.{execute_answer, execute_spent, rule_answer}
 use Rattle.compiled_boxes.specs.Views.{CompiledView}
 use Rattle.compiled_boxes.specs.inner.Buffers.{cleared, sizes_in, words_in}
 use Rattle.compiled_boxes.specs.inner.Firing.{AreBuiltAnew, Fires, HasFired}

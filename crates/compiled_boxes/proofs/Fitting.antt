@@ -14,7 +14,7 @@ use Rattle.code_meaning.specs.Ending.{flat_outputs}
 use Rattle.wire_cells.specs.Cells.{CellView}
 use Rattle.compiled_boxes.specs.Views.{CompiledView}
 use Rattle.compiled_boxes.specs.Boxes.{AreBareForms, IsAt}
-use Rattle.compiled_boxes.specs.Steps.{first_fitting}
+use Rattle.match_rules.specs.Choosing.{first_fitting}
 use Rattle.compiled_boxes.specs.inner.Firing.{Fires}
 use Rattle.compiled_boxes.proofs.BareForms.{few_bare_rules, few_rules, first_same, no_rule, whole_rule}
 use Rattle.compiled_boxes.proofs.Idling.{idle_at}

@@ -12,7 +12,8 @@ use Rattle.box_costs.specs.ResultSpending.{box_spent, cost_if_fits, rule_spent}
 use Rattle.wire_cells.specs.Cells.{CellView}
 use Rattle.compiled_boxes.specs.Views.{CompiledView}
 use Rattle.compiled_boxes.specs.Boxes.{HasExecuted, HasItsRoom, HasSpent, IsAt}
-use Rattle.compiled_boxes.specs.Steps.{first_fitting, execute_spent, execute_answer, rule_answer}
+use Rattle.match_rules.specs.Choosing.{first_fitting}
+use Rattle.compiled_boxes.specs.Steps.{execute_spent, execute_answer, rule_answer}
 
 none_left : {A B : Type 0} (get : ℕ → Option A) (make : ℕ → A → B) (first : Option ℕ) → option_and_then get first ≡ None
     → option_and_then (λ n. option_map (make n) (get n)) first ≡ None

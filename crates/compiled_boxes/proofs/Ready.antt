@@ -16,22 +16,20 @@ use Rattle.hume_model.proofs.WellFormedCores.{readable_sizes, sound_parts}
 use Rattle.hume_net.specs.declared.state.HalfStep.{HalfStep}
 use Rattle.hume_net.specs.HalfSteps.{oldest}
 use Rattle.box_costs.specs.Bounds.{built_patterns}
-use Rattle.box_costs.specs.ResultSpending.{inputs_built, handled, result_spent, result_taken, rule_result_spent}
+use Rattle.box_costs.specs.ResultSpending.{built_values, handled, inputs_built, result_spent, result_taken, rule_result_spent}
 use Rattle.box_heap.specs.Heaps.{HeapView, HasObjects, Object, words_of_object}
 use Rattle.box_heap.specs.Outputs.{OutputView}
 use Rattle.box_heap.specs.Stacks.{StackView}
 use Rattle.box_heap.specs.Standing.{AllStand}
-use Rattle.code_meaning.specs.RuleEnding.{built_inputs}
 use Rattle.wire_cells.specs.Cells.{CellView}
-use Rattle.match_rules.specs.Inputs.{built_values}
 use Rattle.match_rules.proofs.InputsBuilt.{same_room, same_stack_room, values_takes, values_many}
-use Rattle.rule_runs.specs.Runs.{CanFire, HasRoom, HoldsInputs, IsReadyToRun, cost_with, memory}
+use Rattle.rule_runs.specs.Runs.{CanFire, HasRoomToRun, HoldsInputs, IsReadyToRun, cost_with, memory}
 use Rattle.rule_runs.proofs.Ends.{within_bound}
 use Rattle.rule_runs.proofs.HeapPeaks.{peak_after}
 use Rattle.compiled_boxes.specs.Views.{CompiledView}
 use Rattle.compiled_boxes.specs.inner.Buffers.{cleared, sizes_in}
 use Rattle.compiled_boxes.specs.inner.Firing.{AreBuiltAnew, Fires}
-use Rattle.compiled_boxes.proofs.InputValues.{inputs_typed, built_same}
+use Rattle.compiled_boxes.proofs.InputValues.{inputs_typed}
 use Rattle.compiled_boxes.proofs.Rooms.{pushed_words, pushed_peak, absent_by_sizes}
 
 -- what is found passes
@@ -149,15 +147,15 @@ module _ {core : Core} {b : BoxC} {before : HalfStep} {box : CompiledView} {cell
           objects = built.objects;
           held = holds_objects;
           built = long;
-          stand = subst (AllStand built.objects (built_inputs fires.rule.pats ins)) (sym stack_words)
-              (subst (λ vs. AllStand built.objects vs built.words) (built_same fires.rule.pats ins) (built.stand [] (no_objects box.heap)));
+          stand = subst (AllStand built.objects (built_values fires.rule.pats ins)) (sym stack_words)
+              (built.stand [] (no_objects box.heap));
           heap_counted = omega (arith, long, peak);
           stack_counted = omega (arith, high, many, top);
         }
 
     -- and outputs of the sizes of the box's, once they are cleared
     module _ (outputs : List OutputView) (sized : sizes_in outputs ≡ box.sizes) where
-      has_room : HasRoom core b box.program (memory heap stack (cleared outputs))
+      has_room : HasRoomToRun core b box.program (memory heap stack (cleared outputs))
       has_room =
           let room = stack_room in
           let top = stack_peak in

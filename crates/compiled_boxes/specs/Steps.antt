@@ -1,12 +1,10 @@
 -- What a box does in its execute step, beside what it leaves: what that takes, and which exception is handled.
-use Rattle.std.specs.Prelude.{ℕ, List, map, Option, None, if◌then◌else◌, slice_get}
-use Rattle.std.specs.List.{find}
+use Rattle.std.specs.Prelude.{List, map, Option, None, if◌then◌else◌, slice_get}
 use Rattle.std.specs.Option.{is_some, option_map, option_and_then}
 use Rattle.hume_base.specs.declared.types.Value.{Value}
 use Rattle.hume_model.specs.declared.core_tree.RuleC.{RuleC}
 use Rattle.hume_model.specs.declared.core_tree.BoxC.{BoxC}
 use Rattle.hume_model.specs.declared.core_tree.Core.{Core}
-use Rattle.hume_model.specs.Firing.{rule_fits}
 use Rattle.hume_net.specs.declared.state.Part.{Part}
 use Rattle.hume_net.specs.HalfSteps.{oldest}
 use Rattle.box_costs.specs.declared.cost.Cost.{Cost}
@@ -15,11 +13,8 @@ use Rattle.box_costs.specs.ResultSpending.{box_spent}
 use Rattle.box_machine.specs.declared.ran.Ran.{Ran}
 use Rattle.box_machine.specs.Running.{answer_of}
 use Rattle.code_meaning.specs.RuleEnding.{exception_of}
+use Rattle.match_rules.specs.Choosing.{first_fitting}
 use Rattle.rule_runs.specs.Runs.{result_with}
-
--- the number of the first rule in the order that fits
-abbrev pub first_fitting : BoxC → List ℕ → List (Option Value) → Option ℕ
-first_fitting b order ins = find (λ number. rule_fits ins (slice_get b.rules number)) order
 
 -- a box with pending outputs takes nothing, and neither does one of which no rule fits
 abbrev pub execute_spent : Core → BoxC → Part → List (List Value) → Cost

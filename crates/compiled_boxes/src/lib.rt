@@ -10,14 +10,17 @@
 //! its program represents the box, it has the part's order of rules and its pending outputs as flat words) and cells that hold
 //! what is on the wires of its inputs, to box and cells as the step leaves them (`HasExecuted`), with peaks of heap and stack
 //! and a number of instructions that are exactly what the step spends. The box is one of a well-formed core that handles all
-//! that its rules raise. `make` gives heap and stack the printed lengths. `output` gives exactly the pending words, none where
-//! the output is absent; `forget_outputs` changes nothing else; `is_pending` says whether outputs are pending, and nothing
-//! calls it yet. It has no laws: its contracts rest on those of the crates below.
+//! that its rules raise. The cells keep all but their values: numbers, sizes, depths and times. `make` gives heap and stack the
+//! printed lengths. `output` gives exactly the pending words, none where the output is absent; `forget_outputs` leaves the box
+//! with nothing pending and changes nothing else; `is_pending` says whether outputs are pending. Law: the words of a pending
+//! output are the flat words of its value, as many as its type has (`pending_words_are_those_of_pending_values`).
 //!
 //! It knows rules, cells, programs and the machine. It doesn't know how code is made, times, or super steps.
 #![tactic(auto)]
 
 mod compiled;
+mod laws;
 mod stepping;
 
 pub use compiled::CompiledBox;
+pub use laws::pending_words_are_those_of_pending_values;

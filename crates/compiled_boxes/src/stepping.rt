@@ -9,8 +9,9 @@ ghost use Rattle.hume_model.specs.WellFormed.{HasSoundFrame};
 ghost use Rattle.hume_net.specs.declared.state.HalfStep.{HalfStep};
 ghost use Rattle.hume_net.specs.HalfSteps.{moved_last, oldest};
 ghost use Rattle.box_costs.specs.Bounds.{built_patterns};
-ghost use Rattle.box_costs.specs.ResultSpending.{inputs_built};
-ghost use Rattle.match_rules.specs.Inputs.{AreCellsOf, built_values};
+ghost use Rattle.box_costs.specs.ResultSpending.{built_values, inputs_built};
+ghost use Rattle.wire_cells.specs.Cells.{without_values};
+ghost use Rattle.match_rules.specs.Inputs.{AreCellsOf};
 ghost use Rattle.compiled_boxes.specs.Boxes.{AreBareForms, HasExecuted, IsAt};
 ghost use Rattle.compiled_boxes.specs.inner.Buffers.{cleared};
 ghost use Rattle.compiled_boxes.specs.inner.Firing.{AreBuiltAnew, Fires, HasFired};
@@ -20,16 +21,17 @@ use box_heap::{BoxHeap, BoxStack, OutBuf};
 use box_machine::Ran;
 use hume_model::{BoxC, Core, RuleC};
 use match_rules::{RuleOrder, build_inputs, consume, first_match, orders_have_each_rule_once};
-use rule_runs::run_rule;
+use rule_runs::run_ready_rule;
 use wire_cells::WireCell;
 
 impl CompiledBox {
     /// Makes the execute step over the cells of the box's inputs, by the bare forms of core and box. The answer is how the rule
-    /// ran that fired, and none exactly where none did. It takes no memory.
+    /// ran that fired, and none exactly where none did. Of the cells nothing changes but their values. It takes no memory.
     pub fn execute(&mut self, core: &Core, b: &BoxC, ins: &mut [WireCell]) -> Option<Ran>
         requires { (whole : AnyCore) × (its : AnyBox) × (before : HalfStep) × AreBareForms whole its core.now b.now × IsAt whole its before self.old ins.old }
-        ensures { (whole : AnyCore) (its : AnyBox) (before : HalfStep) → AreBareForms whole its core.now b.now → IsAt whole its before self.old ins.old
+        ensures executed { (whole : AnyCore) (its : AnyBox) (before : HalfStep) → AreBareForms whole its core.now b.now → IsAt whole its before self.old ins.old
             → HasExecuted whole its before self.old self.new ins.new result }
+        ensures rest { map without_values ins.new ≡ map without_values ins.old }
     {
         self.work = 0;
         if self.pending {
@@ -54,8 +56,9 @@ impl CompiledBox {
         ins: &mut [WireCell],
     ) -> Ran
         requires { (whole : AnyCore) × (its : AnyBox) × (before : HalfStep) × Fires whole its before self.old ins.old core.now fair number rule.now }
-        ensures { (whole : AnyCore) (its : AnyBox) (before : HalfStep) → Fires whole its before self.old ins.old core.now fair number rule.now
+        ensures fired { (whole : AnyCore) (its : AnyBox) (before : HalfStep) → Fires whole its before self.old ins.old core.now fair number rule.now
             → HasFired whole its before number self.old self.new ins.new result }
+        ensures rest { map without_values ins.new ≡ map without_values ins.old }
     {
         build(
             core,
@@ -65,7 +68,7 @@ impl CompiledBox {
             &mut self.stack,
             &mut self.outputs,
         );
-        let ran = run_rule(
+        let ran = run_ready_rule(
             &core.types,
             &self.program,
             number,

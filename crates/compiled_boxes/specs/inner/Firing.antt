@@ -15,7 +15,8 @@ use Rattle.match_rules.specs.Inputs.{AreBuilt}
 use Rattle.wire_cells.specs.Cells.{CellView}
 use Rattle.compiled_boxes.specs.Views.{CompiledView}
 use Rattle.compiled_boxes.specs.Boxes.{IsSoundBox, IsAt, HasSpent}
-use Rattle.compiled_boxes.specs.Steps.{first_fitting, execute_spent, rule_answer}
+use Rattle.match_rules.specs.Choosing.{first_fitting}
+use Rattle.compiled_boxes.specs.Steps.{execute_spent, rule_answer}
 
 -- the box isn't blocked, and the rule of the number is the first that fits
 pub record Fires (core : Core) (b : BoxC) (before : HalfStep) (box : CompiledView) (cells : List CellView)

@@ -11,8 +11,8 @@ use Rattle.compiled_boxes.proofs.Idling.{blocked, none_fits}
 use Rattle.compiled_boxes.proofs.Opening.{inside_at, whole_executed}
 use Rattle.compiled_boxes.proofs.compiled.CompiledBox.execute.Goals as goal
 
-pub returns-then-self : goal.returns-then-self
-returns-then-self c = λ whole its before forms here.
+pub returns-then-self-clause-executed : goal.returns-then-self-clause-executed
+returns-then-self-clause-executed c = λ whole its before forms here.
     let at = inside_at c.self.view_is here in
     whole_executed c.self.view_is
     (blocked at (waits forms at (words_in c.self.inside.outputs) (ap (λ pending. pending_in pending c.self.inside.outputs) c.if-self.true)))
@@ -25,8 +25,8 @@ first_match-requires-clause-typed c =
     let forms = c.requires.3 in
     subst (BoxHasFrame c.args.core.now) (sym forms.box_is) (box_frame_of forms.sound forms.core_is)
 
-pub returns-in_default : goal.returns-in_default
-returns-in_default c = λ whole its before forms here.
+pub returns-in_default-clause-executed : goal.returns-in_default-clause-executed
+returns-in_default-clause-executed c = λ whole its before forms here.
     let at = inside_at c.self.view_is here in
     let found = same_found forms at c.first_match.result (c.first_match.ensures before.side
     (subst (λ b. AreCellsOf c.args.core.now (port_types b.ins) c.args.ins.now before.side) (sym forms.box_is) (cells_of forms.core_is at.inputs))) in
@@ -51,19 +51,19 @@ fire-requires c =
       fires_so forms at c.in-Some.number c.in-Some-get.rule.now (found ∙ c.in-Some.is) c.in-Some-get.ensures is_free,
     )
 
-pub returns-in-None : goal.returns-in-None
-returns-in-None c = λ whole its before forms here.
+pub returns-in-None-clause-executed : goal.returns-in-None-clause-executed
+returns-in-None-clause-executed c = λ whole its before forms here.
     let at = inside_at c.self.view_is here in
     let found = same_found forms at c.first_match.result (c.first_match.ensures before.side
     (subst (λ b. AreCellsOf c.args.core.now (port_types b.ins) c.args.ins.now before.side) (sym forms.box_is) (cells_of forms.core_is at.inputs))) in
     let is_free = free forms at (ap (λ pending. pending_in pending c.self.inside.outputs) c.if-self.false) in
     whole_executed c.self.view_is (none_fits at is_free (none_there forms at c.in-Some.number (found ∙ c.in-Some.is) c.in-None.ensures))
 
-pub returns-in-Some-get : goal.returns-in-Some-get
-returns-in-Some-get c = λ whole its before forms here.
+pub returns-in-Some-get-clause-executed : goal.returns-in-Some-get-clause-executed
+returns-in-Some-get-clause-executed c = λ whole its before forms here.
     let at = inside_at c.self.view_is here in
     let found = same_found forms at c.first_match.result (c.first_match.ensures before.side
     (subst (λ b. AreCellsOf c.args.core.now (port_types b.ins) c.args.ins.now before.side) (sym forms.box_is) (cells_of forms.core_is at.inputs))) in
     let is_free = free forms at (ap (λ pending. pending_in pending c.self.inside.outputs) c.if-self.false) in
     let fires = fires_so forms at c.in-Some.number c.in-Some-get.rule.now (found ∙ c.in-Some.is) c.in-Some-get.ensures is_free in
-    whole_executed c.self.view_is (executes fires (c.fire.ensures whole its before fires))
+    whole_executed c.self.view_is (executes fires (c.fire.ensures.fired whole its before fires))

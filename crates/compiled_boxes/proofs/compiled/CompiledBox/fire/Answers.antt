@@ -26,8 +26,8 @@ build-requires-clause-fitting c =
       subst (λ pats. length (built_patterns pats) ≤ c.self.inside.stack.room) same (stack_fits fires),
     )
 
-pub run_rule-ran-requires : goal.run_rule-ran-requires
-run_rule-ran-requires c =
+pub run_ready_rule-ran-requires : goal.run_ready_rule-ran-requires
+run_ready_rule-ran-requires c =
     let its = c.requires.1 in
     let before = c.requires.2 in
     let fires = inside_fires c.self.view_is c.requires.3 in
@@ -42,8 +42,8 @@ run_rule-ran-requires c =
 pub put_last-requires : goal.put_last-requires
 put_last-requires c = stands_there (inside_fires c.self.view_is c.requires.3)
 
-pub returns : goal.returns
-returns c = λ whole its before it_fires.
+pub returns-clause-fired : goal.returns-clause-fired
+returns-clause-fired c = λ whole its before it_fires.
     let fires = inside_fires c.self.view_is it_fires in
     let ins = map oldest before.side in
     let now = c.build.new in
@@ -51,6 +51,6 @@ returns c = λ whole its before it_fires.
     let outputs = c.self.inside.outputs in
     let ready = its_ready fires now.heap now.stack built outputs refl now.outputs c.build.ensures.absent in
     whole_fired c.self.view_is
-    (it_has_fired fires now.heap now.stack built outputs refl now.outputs c.build.ensures.absent c.run_rule-ran.new.heap c.run_rule-ran.new.stack
-    c.run_rule-ran.new.out c.run_rule-ran.new.work c.run_rule-ran.result (c.run_rule-ran.ensures whole its fires.rule ins ready) c.put_last.new.order
-    c.put_last.ensures c.consume.new.ins (c.consume.ensures whole (port_types its.ins) before.side fires.at.inputs))
+    (it_has_fired fires now.heap now.stack built outputs refl now.outputs c.build.ensures.absent c.run_ready_rule-ran.new.heap c.run_ready_rule-ran.new.stack
+    c.run_ready_rule-ran.new.out c.run_ready_rule-ran.new.work c.run_ready_rule-ran.result (c.run_ready_rule-ran.ensures whole its fires.rule ins ready) c.put_last.new.order
+    c.put_last.ensures c.consume.new.ins (c.consume.ensures.left whole (port_types its.ins) before.side fires.at.inputs))
