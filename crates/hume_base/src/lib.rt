@@ -28,7 +28,7 @@ pub use boxed::Box;
 pub use copy::{copy_ty, copy_tys, copy_value, copy_values, same_ty};
 pub use finding::{Finding, earlier};
 pub use keyword::Keyword;
-pub use laws::words_tell_values_apart;
+pub use laws::{values_have_as_many_words_as_their_types, words_tell_values_apart};
 pub use list::List;
 pub use place::line_of;
 pub use rule::{Refusal, Rule};
