@@ -24,6 +24,7 @@ pub use laws::{
     bad_lines_have_small_numbers, each_text_has_good_values, fills_follow_ports_that_tell,
     good_values_are_unique, queues_hold_the_next_values, queues_hold_whole_lines,
     queues_hold_words_of_their_type, rows_have_one_width,
+    rows_of_values_have_the_size_of_their_type,
 };
 pub use log::OutLog;
 pub use queue::{FillError, InQueue};
