@@ -1,8 +1,9 @@
 -- Each row of a queue and of a log has the width that all have, which is the size of the type of its values.
-use Rattle.std.proofs.Common.{◌≡◌, ◌≤◌, ◌+◌, ◌*◌, ℕ, zero, suc, true, List, [], ◌∷◌, ◌++◌, length, take, drop, Option, Some, None, slice_get, refl, ap, sym, ◌∙◌, subst, length-drop, arith}
-use Rattle.std.specs.List.{AllZip}
+use Rattle.std.proofs.Common.{◌≡◌, ◌≤◌, ◌+◌, ◌*◌, ℕ, zero, suc, true, List, [], ◌∷◌, ◌++◌, length, map, take, drop, Option, Some, None, slice_get, refl, ap, sym, ◌∙◌, subst, length-drop, arith}
+use Rattle.std.specs.List.{AllZip, list_all}
 use Rattle.std.specs.Option.{option_map}
 use Rattle.std.proofs.Math.Nat.{suc-mul}
+use Rattle.std.proofs.lemmas.Bool.{and_parts}
 use Rattle.std.proofs.lemmas.List.{length-take-le}
 use Rattle.std.proofs.lemmas.Option.{slice_get-map}
 use Rattle.hume_base.specs.declared.types.Ty.{Ty}
@@ -76,3 +77,32 @@ module _ (types : Types) (ty : Ty) where
     words_wide place words at =
         let held = words_held place words at in
         ap length (sym held.1.same) ∙ flat_long types ty held.0 held.1.typed
+
+-- values of the type, and a row of their words
+typed_there : (types : Types) (ty : Ty) (values : List Value) → list_all (is_value types ty) values ≡ true
+    → (place : ℕ) (value : Value) → slice_get values place ≡ Some value → is_value types ty value ≡ true
+typed_there types ty [] all place value at = cc
+typed_there types ty (v ∷ values) all zero value at =
+    let same : v ≡ value = cc in
+    subst (λ x. is_value types ty x ≡ true) same (and_parts (is_value types ty v) (list_all (is_value types ty) values) all).0
+typed_there types ty (v ∷ values) all (suc place) value at =
+    typed_there types ty values (and_parts (is_value types ty v) (list_all (is_value types ty) values) all).1 place value at
+
+pub row_of_typed : (types : Types) (ty : Ty) (values : List Value) → list_all (is_value types ty) values ≡ true
+    → (place : ℕ) (words : List ℕ) → slice_get (map (flat types ty) values) place ≡ Some words → (value : Value) × AreWordsOf types ty words value
+row_of_typed types ty values all place words at = by (slice_get values place) refl
+  where
+    by : (held : Option Value) → slice_get values place ≡ held → (value : Value) × AreWordsOf types ty words value
+    by None none =
+        let both : None ≡ Some words = ap (option_map (flat types ty)) (sym none) ∙ sym (slice_get-map (flat types ty) values place) ∙ at in
+        cc
+    by (Some value) here =
+        let both : Some (flat types ty value) ≡ Some words =
+        ap (option_map (flat types ty)) (sym here) ∙ sym (slice_get-map (flat types ty) values place) ∙ at in
+        (value, record { typed = typed_there types ty values all place value here; same = cc })
+
+pub width_of_typed : (types : Types) (ty : Ty) (values : List Value) → list_all (is_value types ty) values ≡ true
+    → (place : ℕ) (words : List ℕ) → slice_get (map (flat types ty) values) place ≡ Some words → length words ≡ size_of types ty
+width_of_typed types ty values all place words at =
+    let held = row_of_typed types ty values all place words at in
+    ap length (sym held.1.same) ∙ flat_long types ty held.0 held.1.typed

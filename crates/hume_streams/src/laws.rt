@@ -1,11 +1,13 @@
 //! Laws of the definitions, as contracts of functions that do nothing.
 ghost use Rattle.std.specs.Prelude.{◌≡◌, ◌≤◌, ◌+◌, ◌*◌, ℕ, List, length, ◌++◌, map, Option, None, Some, true, Result, slice_get};
+ghost use Rattle.std.specs.List.{list_all};
 ghost use Rattle.hume_base.specs.declared.limits.TheConstants.{MAX_EMPTY_LINES};
 ghost use Rattle.hume_base.specs.declared.types.Ty.{Ty};
 ghost use Rattle.hume_base.specs.declared.types.Types.{Types};
 ghost use Rattle.hume_base.specs.declared.types.Value.{Value};
 ghost use Rattle.hume_base.specs.Flat.{flat};
 ghost use Rattle.hume_base.specs.Sizes.{HaveTheirSizes, size_of};
+ghost use Rattle.hume_base.specs.Values.{is_value};
 ghost use Rattle.hume_text.specs.Bounds.{IsPrintable};
 ghost use Rattle.hume_text.specs.Names.{HaveNames};
 ghost use Rattle.hume_text.specs.Printed.{AreWordsOf};
@@ -73,4 +75,13 @@ pub fn queues_hold_words_of_their_type()
         → (place : ℕ) (words : List ℕ) → slice_get queue.values place ≡ Some words → (value : Value) × AreWordsOf types ty words value }
     ensures width { (types : Types) (ty : Ty) (queue : QueueView) (text rest : List ℕ) (given : List Value) → IsQueueOf types ty queue text given rest
         → (place : ℕ) (words : List ℕ) → slice_get queue.values place ≡ Some words → length words ≡ size_of types ty }
+{}
+
+/// Rows that are the words of values of a type, as a log holds those that an output stream has taken, have each as many words as
+/// the type's size.
+pub fn rows_of_values_have_the_size_of_their_type()
+    ensures values { (types : Types) (ty : Ty) (values : List Value) → list_all (is_value types ty) values ≡ true
+        → (place : ℕ) (words : List ℕ) → slice_get (map (flat types ty) values) place ≡ Some words → (value : Value) × AreWordsOf types ty words value }
+    ensures width { (types : Types) (ty : Ty) (values : List Value) → list_all (is_value types ty) values ≡ true
+        → (place : ℕ) (words : List ℕ) → slice_get (map (flat types ty) values) place ≡ Some words → length words ≡ size_of types ty }
 {}

@@ -14,8 +14,8 @@
 //! (`each_text_has_good_values`, `good_values_are_unique`), and few lines stand before a bad one
 //! (`bad_lines_have_small_numbers`); a queue holds the next values (`queues_hold_the_next_values`), follows a port that tells
 //! what it has left (`fills_follow_ports_that_tell`), and after a failed read holds the good values of the whole lines that
-//! were taken (`queues_hold_whole_lines`); its rows are the words of values of its type (`queues_hold_words_of_their_type`), and
-//! all rows have one width (`rows_have_one_width`).
+//! were taken (`queues_hold_whole_lines`); its rows are the words of values of its type (`queues_hold_words_of_their_type`), as
+//! many as the type has (`rows_of_values_have_the_size_of_their_type`), and all rows have one width (`rows_have_one_width`).
 //!
 //! It knows ports, lines and the words of values. It doesn't know cores, wires or streams.
 #![tactic(auto)]
@@ -32,6 +32,7 @@ pub use laws::{
     bad_lines_have_small_numbers, each_text_has_good_values, fills_follow_ports_that_tell,
     good_values_are_unique, queues_hold_the_next_values, queues_hold_whole_lines,
     queues_hold_words_of_their_type, rows_have_one_width,
+    rows_of_values_have_the_size_of_their_type,
 };
 pub use log::OutLog;
 pub use queue::{FillError, InQueue};
