@@ -17,7 +17,8 @@ use Rattle.syntax_errors.specs.declared.parse_error.ParseError.TheVariants as sy
 use Rattle.syntax_errors.specs.WrongTokens.{BeginsSome, BeginsNone, IsWrongToken, IsWrongPlace}
 use Rattle.hume_front.specs.declared.acceptance.FrontError.{FrontError}
 use Rattle.hume_front.specs.declared.acceptance.FrontError.TheVariants.{Refused}
-use Rattle.hume_front.specs.Accepted.{Breaks, too_long, bad_token, no_program, IsUnaccepted, rule_of_lexer, rule_of_parser, wrong_place}
+use Rattle.hume_front.specs.Accepted.{Breaks, too_long, bad_token, no_program, IsUnaccepted}
+use Rattle.hume_front.proofs.Reported.{rule_of_lexer, rule_of_parser, wrong_place, lexer_breaks, parser_breaks}
 
 -- places
 
@@ -56,7 +57,7 @@ pub bad_token_told : (text : List ℕ) (given told : LexError) (line : ℕ) (res
 bad_token_told text given told line result short (inl none) same other line_is is = absurd (other (sym same ∙ none))
 bad_token_told text given told line result short (inr bad) same other line_is is =
     let told_bad : IsBadPlace text told = subst (IsBadPlace text) same bad in
-    unaccepted text (record { rule = rule_of_lexer told; line = line_at text (bad_place told) }) result (bad_token short told told_bad)
+    unaccepted text (record { rule = rule_of_lexer told; line = line_at text (bad_place told) }) result (bad_token short (rule_of_lexer told) (bad_place told) (lexer_breaks text told told_bad))
     (is ∙ ap (λ l. Refused (record { rule = rule_of_lexer told; line = l })) line_is)
 
 pub no_program_told : (text : List ℕ) (tokens : List Token) (given told : ParseError) (line : ℕ) (result : FrontError) → length text ≤ MAX_SOURCE_BYTES → IsRead text tokens
@@ -65,5 +66,5 @@ pub no_program_told : (text : List ℕ) (tokens : List Token) (given told : Pars
 no_program_told text tokens given told line result short read (inl none) same other line_is is = absurd (other (sym same ∙ none))
 no_program_told text tokens given told line result short read (inr wrong) same other line_is is =
     let told_wrong : IsWrongPlace tokens (length text) told = subst (IsWrongPlace tokens (length text)) same wrong in
-    unaccepted text (record { rule = rule_of_parser told; line = line_at text (wrong_place told) }) result (no_program short tokens read told told_wrong)
+    unaccepted text (record { rule = rule_of_parser told; line = line_at text (wrong_place told) }) result (no_program short tokens read (rule_of_parser told) (wrong_place told) (parser_breaks tokens (length text) told told_wrong))
     (is ∙ ap (λ l. Refused (record { rule = rule_of_parser told; line = l })) line_is)

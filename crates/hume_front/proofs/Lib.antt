@@ -7,3 +7,4 @@ pub mod Sources
 pub mod OneRefusal
 pub mod LeastCoreRules
 pub mod SomeAnswer
+pub mod Reported

@@ -22,6 +22,7 @@ use Rattle.hume_front.specs.Accepted as front
 use Rattle.hume_front.specs.Accepted.{IsProgramOf, BreaksProgram, IsAccepted, Breaks, too_long, bad_token, no_program, in_program}
 use Rattle.hume_front.proofs.CoreRules.{fine_wires}
 use Rattle.hume_front.proofs.ProgramRules.{checked}
+use Rattle.hume_front.proofs.Reported.{lexer_breaks, parser_breaks}
 
 abbrev pub Answered : List ℕ → Type 0
 Answered text = ((accepted : Accepted) × IsAccepted text accepted) ⊎ ((refusal : Refusal) × Breaks text refusal)
@@ -48,7 +49,7 @@ module _ (text : List ℕ) where
   of_tokens : length text ≤ MAX_SOURCE_BYTES → (tokens : List Token) → IsRead text tokens → Answered text
   of_tokens short tokens read = elim (answered tokens (length text)) [
     | inl p ↦ of_program p.0 (record { short = short; tokens = tokens; read = read; spelled = p.1 })
-    | inr wrong ↦ inr (_, no_program short tokens read wrong.0 wrong.1)
+    | inr wrong ↦ inr (_, no_program short tokens read _ _ (parser_breaks tokens (length text) wrong.0 wrong.1))
   ]
 
   pub some_answer : Answered text
@@ -56,6 +57,6 @@ module _ (text : List ℕ) where
     | inl long ↦ inr (record { rule = C70; line = 1 }, too_long long)
     | inr short ↦ elim (lexical.some_answer text) [
       | inl read ↦ of_tokens short read.0 read.1
-      | inr bad ↦ inr (_, bad_token short bad.0 bad.1)
+      | inr bad ↦ inr (_, bad_token short _ _ (lexer_breaks text bad.0 bad.1))
     ]
   ]

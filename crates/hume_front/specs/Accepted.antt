@@ -3,19 +3,15 @@ use Rattle.std.specs.Prelude.{ℕ, ◌≤◌, ◌<◌, List, length, None}
 use Rattle.hume_base.specs.declared.limits.TheConstants.{MAX_SOURCE_BYTES}
 use Rattle.hume_base.specs.declared.finding.Finding.{Finding}
 use Rattle.hume_base.specs.declared.rule.Rule.{Rule}
-use Rattle.hume_base.specs.declared.rule.Rule.TheVariants.{C10, C11, C12, C20, C70, C71, C77}
+use Rattle.hume_base.specs.declared.rule.Rule.TheVariants.{C70}
 use Rattle.hume_base.specs.declared.rule.Refusal.{Refusal}
 use Rattle.hume_base.specs.declared.token.Token.{Token}
 use Rattle.hume_base.specs.Least.{IsLeast}
 use Rattle.hume_base.specs.Places.{line_at}
 use Rattle.hume_ast.specs.declared.tree.Program.{Program}
 use Rattle.hume_ast.specs.Places.{StandsFor}
-use Rattle.hume_lex.specs.declared.lexer.LexError.{LexError}
-use Rattle.hume_lex.specs.declared.lexer.LexError.TheVariants as lexical
-use Rattle.hume_lex.specs.BadPlaces.{IsRead, IsBadPlace, bad_place}
-use Rattle.syntax_errors.specs.declared.parse_error.ParseError.{ParseError}
-use Rattle.syntax_errors.specs.declared.parse_error.ParseError.TheVariants as syntactic
-use Rattle.syntax_errors.specs.WrongTokens.{IsWrongPlace}
+use Rattle.hume_lex.specs.BadPlaces.{IsRead, BreaksTokens}
+use Rattle.syntax_errors.specs.WrongTokens.{BreaksGrammar}
 use Rattle.hume_model.specs.declared.core_tree.Core.{Core}
 use Rattle.hume_model.specs.WireRules.{BreaksWires}
 use Rattle.hume_model.specs.HandlerRules.{BreaksHandlers}
@@ -40,23 +36,6 @@ pub data BreaksProgram (text : List ℕ) (program : Program) (f : Finding) : Typ
   check : BreaksCheck program.decls f → BreaksProgram text program f
   core : (core : Core) → IsCoreOf text program core → BreaksCore core f → BreaksProgram text program f
 
-abbrev pub rule_of_lexer : LexError → Rule
-rule_of_lexer (lexical.BadChar place) = C10
-rule_of_lexer (lexical.BadNumber place) = C11
-rule_of_lexer (lexical.LongName place) = C12
-rule_of_lexer (lexical.TooManyTokens place) = C71
-rule_of_lexer lexical.NoMemory = C10
-
-abbrev pub rule_of_parser : ParseError → Rule
-rule_of_parser (syntactic.Syntax place) = C20
-rule_of_parser (syntactic.Deep place) = C77
-rule_of_parser syntactic.NoMemory = C20
-
-abbrev pub wrong_place : ParseError → ℕ
-wrong_place (syntactic.Syntax place) = place
-wrong_place (syntactic.Deep place) = place
-wrong_place syntactic.NoMemory = 0
-
 -- the source is short enough, its tokens are within the limits, and they stand for the program
 pub record IsProgramOf (text : List ℕ) (program : Program) : Type 0 where
   pub short : length text ≤ MAX_SOURCE_BYTES
@@ -73,15 +52,15 @@ pub record IsAccepted (text : List ℕ) (accepted : Accepted) : Type 0 where
   pub wiring : IsWiringOf accepted.core accepted.wiring
   pub costs : AreCosts accepted.core accepted.costs
 
--- The least rule that the source breaks: it is too long; or else its first bad place is one of the lexer's; or else its
--- tokens stand for no program; or else the least of the rules that its program breaks.
+-- The least rule that the source breaks: it is too long; or else a rule on tokens at its first bad place; or else a rule on the
+-- grammar, as its tokens stand for no program; or else the least of the rules that its program breaks.
 pub data Breaks (text : List ℕ) : Refusal → Type 0 where
   too_long : MAX_SOURCE_BYTES < length text → Breaks text (record { rule = C70; line = 1 })
-  bad_token : length text ≤ MAX_SOURCE_BYTES → (error : LexError) → IsBadPlace text error
-      → Breaks text (record { rule = rule_of_lexer error; line = line_at text (bad_place error) })
+  bad_token : length text ≤ MAX_SOURCE_BYTES → (rule : Rule) (place : ℕ) → BreaksTokens text rule place
+      → Breaks text (record { rule = rule; line = line_at text place })
   no_program : length text ≤ MAX_SOURCE_BYTES → (tokens : List Token) → IsRead text tokens
-      → (error : ParseError) → IsWrongPlace tokens (length text) error
-      → Breaks text (record { rule = rule_of_parser error; line = line_at text (wrong_place error) })
+      → (rule : Rule) (place : ℕ) → BreaksGrammar tokens (length text) rule place
+      → Breaks text (record { rule = rule; line = line_at text place })
   in_program : (program : Program) → IsProgramOf text program
       → (refusal : Refusal) → IsRefusedFor (BreaksProgram text program) text program.decls refusal → Breaks text refusal
 

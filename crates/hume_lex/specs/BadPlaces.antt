@@ -1,6 +1,8 @@
 -- When a source is taken, and when it is refused: at its first bad place.
 use Rattle.std.specs.Prelude.{◌≡◌, ℕ, ◌+◌, ◌<◌, ◌≤◌, ◌^◌, List, ◌++◌, length, All}
 use Rattle.hume_base.specs.declared.limits.TheConstants.{MAX_TOKENS, MAX_NAME_BYTES}
+use Rattle.hume_base.specs.declared.rule.Rule.{Rule}
+use Rattle.hume_base.specs.declared.rule.Rule.TheVariants.{C10, C11, C12, C71}
 use Rattle.hume_base.specs.declared.token.Kind.{Kind}
 use Rattle.hume_base.specs.declared.token.Kind.TheVariants as kind
 use Rattle.hume_base.specs.declared.token.Token.{Token}
@@ -74,12 +76,20 @@ IsLongName tokens kind = (length tokens < MAX_TOKENS) × IsTooLong kind
 abbrev pub IsOneTooMany : List Token → Kind → Type 0
 IsOneTooMany tokens kind = length tokens ≡ MAX_TOKENS
 
+-- the first bad place of the source, and the rule on tokens that is broken there
+abbrev pub BreaksTokens : List ℕ → Rule → ℕ → Type 0
+BreaksTokens source C10 place = IsBadChar source place
+BreaksTokens source C11 place = IsBadToken IsBadNumber source place
+BreaksTokens source C12 place = IsBadToken IsLongName source place
+BreaksTokens source C71 place = IsBadToken IsOneTooMany source place
+BreaksTokens source _ place = ⊥
+
 -- the first bad place of the source, and why it is one
 abbrev pub IsBadPlace : List ℕ → LexError → Type 0
-IsBadPlace source (error.BadChar place) = IsBadChar source place
-IsBadPlace source (error.BadNumber place) = IsBadToken IsBadNumber source place
-IsBadPlace source (error.LongName place) = IsBadToken IsLongName source place
-IsBadPlace source (error.TooManyTokens place) = IsBadToken IsOneTooMany source place
+IsBadPlace source (error.BadChar place) = BreaksTokens source C10 place
+IsBadPlace source (error.BadNumber place) = BreaksTokens source C11 place
+IsBadPlace source (error.LongName place) = BreaksTokens source C12 place
+IsBadPlace source (error.TooManyTokens place) = BreaksTokens source C71 place
 IsBadPlace source error.NoMemory = ⊥
 
 -- where it is told; 0 for want of memory

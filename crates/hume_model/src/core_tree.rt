@@ -79,6 +79,7 @@ pub enum Res {
     Raise(u32, Option<Expr>),
 }
 
+/// A rule of a box: what stands at each input, and its result.
 #[derive(Drop)]
 pub struct RuleC {
     pub pats: List<InPat>,
@@ -101,6 +102,7 @@ pub struct PortC {
     pub ty: Ty,
 }
 
+/// A box: its inputs and outputs, its rules in the order in which they are written, and its handlers.
 #[derive(Drop)]
 pub struct BoxC {
     pub name: Text,
@@ -114,6 +116,7 @@ pub struct BoxC {
     pub handlers: List<HandC>,
 }
 
+/// A stream, and the port that it is joined to.
 #[derive(Drop)]
 pub struct StreamC {
     pub name: Text,
@@ -124,6 +127,7 @@ pub struct StreamC {
     pub port: Text,
 }
 
+/// A box, a stream that comes in, or a stream that goes out.
 #[derive(Drop)]
 pub enum NodeC {
     Rules(BoxC),
@@ -156,12 +160,14 @@ pub struct ExnDef {
     pub carries: Option<Ty>,
 }
 
+/// An equation of a function: a pattern for each parameter, and its body.
 #[derive(Drop)]
 pub struct EqC {
     pub pats: List<PatC>,
     pub body: Expr,
 }
 
+/// A function: the types of its parameters and of what it gives, and its equations in the order in which they are tried.
 #[derive(Drop)]
 pub struct FunC {
     pub name: Text,

@@ -1,5 +1,7 @@
 -- What the parser answers where tokens stand for no program: exactly which token is wrong, and why.
 use Rattle.std.specs.Prelude.{◌≡◌, ◌⊎◌, ℕ, List, [], ◌∷◌, ◌++◌}
+use Rattle.hume_base.specs.declared.rule.Rule.{Rule}
+use Rattle.hume_base.specs.declared.rule.Rule.TheVariants.{C20, C77}
 use Rattle.hume_base.specs.declared.token.Kind.{Kind}
 use Rattle.hume_base.specs.declared.token.Token.{Token}
 use Rattle.hume_ast.specs.declared.tree.Program.{Program}
@@ -33,9 +35,15 @@ pub record IsCutShort (tokens : List Token) : Type 0 where
   pub begun : BeginsSome IsFit (kinds tokens)
   pub none : (program : Program) → IsFit program → spelled program ≡ kinds tokens → ⊥
 
--- Which place is reported of tokens that stand for no program: that of the first wrong token, or the end. It is one of depth
--- exactly where a program that is only too deep goes on with the token.
+-- The rule on the grammar that tokens break which stand for no program, and where: at the first wrong token, or at the end. It
+-- is the one on depth exactly where a program that is only too deep goes on with the token.
+abbrev pub BreaksGrammar : List Token → ℕ → Rule → ℕ → Type 0
+BreaksGrammar tokens end C20 place = IsWrongToken (BeginsNone IsProper) tokens place ⊎ (IsCutShort tokens × (place ≡ end))
+BreaksGrammar tokens end C77 place = IsWrongToken (BeginsSome IsProper) tokens place
+BreaksGrammar tokens end _ place = ⊥
+
+-- which place is reported of tokens that stand for no program
 abbrev pub IsWrongPlace : List Token → ℕ → ParseError → Type 0
-IsWrongPlace tokens end (Syntax place) = IsWrongToken (BeginsNone IsProper) tokens place ⊎ (IsCutShort tokens × (place ≡ end))
-IsWrongPlace tokens end (Deep place) = IsWrongToken (BeginsSome IsProper) tokens place
+IsWrongPlace tokens end (Syntax place) = BreaksGrammar tokens end C20 place
+IsWrongPlace tokens end (Deep place) = BreaksGrammar tokens end C77 place
 IsWrongPlace tokens end NoMemory = ⊥
