@@ -10,3 +10,4 @@ pub mod Fitting
 pub mod Firing
 pub mod Built
 pub mod Making
+pub mod AcceptedBoxes
