@@ -11,3 +11,4 @@ pub mod Firing
 pub mod Built
 pub mod Making
 pub mod PendingValues
+pub mod AcceptedBoxes

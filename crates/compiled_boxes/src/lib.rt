@@ -12,8 +12,10 @@
 //! and a number of instructions that are exactly what the step spends. The box is one of a well-formed core that handles all
 //! that its rules raise. The cells keep all but their values: numbers, sizes, depths and times. `make` gives heap and stack the
 //! printed lengths. `output` gives exactly the pending words, none where the output is absent; `forget_outputs` leaves the box
-//! with nothing pending and changes nothing else; `is_pending` says whether outputs are pending. Law: the words of a pending
-//! output are the flat words of its value, as many as its type has (`pending_words_are_those_of_pending_values`).
+//! with nothing pending and changes nothing else; `is_pending` says whether outputs are pending. Laws: the words of a pending
+//! output are the flat words of its value, as many as its type has (`pending_words_are_those_of_pending_values`); a program of a
+//! box that keeps the rules on costs takes little (`programs_of_boxes_take_little`); a box of a well-formed core is run by the
+//! bare forms that stand at its place (`boxes_run_by_their_bare_forms`).
 //!
 //! It knows rules, cells, programs and the machine. It doesn't know how code is made, times, or super steps.
 #![tactic(auto)]
@@ -23,4 +25,7 @@ mod laws;
 mod stepping;
 
 pub use compiled::CompiledBox;
-pub use laws::pending_words_are_those_of_pending_values;
+pub use laws::{
+    boxes_run_by_their_bare_forms, pending_words_are_those_of_pending_values,
+    programs_of_boxes_take_little,
+};
