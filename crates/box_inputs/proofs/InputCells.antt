@@ -19,13 +19,14 @@ use Rattle.wiring_check.specs.Wires.{Wires}
 use Rattle.wire_cells.specs.Cells.{CellView, Holds, first_cell}
 use Rattle.wire_cells.proofs.Holding.{first_holds, less_held, more_held}
 use Rattle.match_rules.specs.Inputs.{AreCellsOf}
+use Rattle.match_rules.proofs.TypedCells.{whole_words}
 use Rattle.box_inputs.specs.InputCells.{AreInputCells, IsInputCell, IsWiredBox}
 use Rattle.box_inputs.specs.Inputs.{AreInputs, IsFlat}
 use Rattle.box_inputs.proofs.Places.{each_set, port_of}
 
 module _ (core : Core) where
-  holding : (ty : Ty) (cell new : CellView) (is : IsInputCell core ty cell) (held : List Value) → new.number ≡ cell.number → Holds core.types ty new held
-      → IsInputCell core ty new
+  holding : (ty : Ty) (cell new : CellView) (is : IsInputCell core ty cell) (held : List Value) → new.number ≡ cell.number
+      → Holds core.types is.is.wire new held → IsInputCell core ty new
   holding ty cell new is held same holds = record {
     held = held;
     is = record {
@@ -36,26 +37,29 @@ module _ (core : Core) where
     };
   }
 
-  less : (ty : Ty) (cell : CellView) (held : List Value) → Holds core.types ty cell held
-      → (later : List Value) × Holds core.types ty (record cell { values = drop 1 cell.values }) later
-  less ty cell [] holds = ([], record { words = ap (drop 1) holds.words; typed = refl; whole = holds.whole })
-  less ty cell (v ∷ later) holds = (later, less_held core.types ty cell v later holds)
+  less : (wire : WireC) (cell : CellView) (held : List Value) → Holds core.types wire cell held
+      → (later : List Value) × Holds core.types wire (record cell { values = drop 1 cell.values }) later
+  less wire cell [] holds = ([], record { words = ap (drop 1) holds.words; typed = refl; whole = holds.whole; depth = holds.depth })
+  less wire cell (v ∷ later) holds = (later, less_held core.types wire cell v later holds)
 
   -- the cell without its oldest value
   pub taken : (ty : Ty) (cell : CellView) → IsInputCell core ty cell → IsInputCell core ty (record cell { values = drop 1 cell.values })
-  taken ty cell is = let left = less ty cell is.held is.is.holds in holding ty cell (record cell { values = drop 1 cell.values }) is left.0 refl left.1
+  taken ty cell is =
+      let left = less is.is.wire cell is.held is.is.holds in
+      holding ty cell (record cell { values = drop 1 cell.values }) is left.0 refl left.1
 
   -- with words behind its values
   pub put : (ty : Ty) (cell : CellView) (words : List ℕ) → IsInputCell core ty cell → IsFlat core.types ty words
       → IsInputCell core ty (record cell { values = cell.values ++ words ∷ [] })
   put ty cell words is flat_is =
-      subst (λ ws. IsInputCell core ty (record cell { values = cell.values ++ ws ∷ [] })) flat_is.are.1
-      (holding ty cell (record cell { values = cell.values ++ flat core.types ty flat_is.value ∷ [] }) is (is.held ++ flat_is.value ∷ []) refl
-      (more_held core.types ty cell is.held flat_is.value is.is.holds flat_is.are.0))
+      let own : IsFlat core.types is.is.wire.ty words = subst (λ t. IsFlat core.types t words) (sym is.is.ty) flat_is in
+      subst (λ ws. IsInputCell core ty (record cell { values = cell.values ++ ws ∷ [] })) own.are.1
+      (holding ty cell (record cell { values = cell.values ++ flat core.types is.is.wire.ty own.value ∷ [] }) is (is.held ++ own.value ∷ []) refl
+      (more_held core.types is.is.wire cell is.held own.value is.is.holds own.are.0))
 
   pub words_fit : (ty : Ty) (cell : CellView) (words : List ℕ) → IsInputCell core ty cell → IsFlat core.types ty words → length words ≡ cell.size
   words_fit ty cell words is flat_is =
-      ap length (sym flat_is.are.1) ∙ flat_long core.types ty flat_is.value flat_is.are.0 ∙ sym is.is.holds.whole
+      ap length (sym flat_is.are.1) ∙ flat_long core.types ty flat_is.value flat_is.are.0 ∙ sym (whole_words is.is)
 
   pub with_cell : (tys : List Ty) (cells : List CellView) (i : ℕ) (cell : CellView) → AreInputCells core tys cells
       → ((ty : Ty) → slice_get tys i ≡ Some ty → IsInputCell core ty cell) → AreInputCells core tys (set cells i cell)
@@ -96,8 +100,7 @@ module _ (core : Core) (wiring : Wires) (node : ℕ) (b : BoxC) (wired : IsWired
           wire = the.wire;
           there = the.there;
           ty = same;
-          holds = subst (λ t. Holds core.types t (first_cell core w the.wire) (option_to_list the.wire.initial)) same
-              (first_holds core w the.wire wired.frame the.there);
+          holds = first_holds core w the.wire wired.frame the.there;
         };
       })
 

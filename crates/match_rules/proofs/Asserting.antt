@@ -162,5 +162,7 @@ module _ (core : Core) (outputs : ℕ → Option (List ℕ)) where
 
         pub asserted_held : AreCellsOf core tys (asserted_in outputs cells) (asserted before next values (map cell_has_room cells) wires).side
         asserted_held =
-            subst (λ roomy. AreCellsOf core tys (if roomy then cells_with outputs 0 cells else cells) (asserted before next values (map cell_has_room cells) wires).side)
+            subst
+            (λ roomy. AreCellsOf core tys (if roomy then cells_with outputs 0 cells else cells)
+            (asserted before next values (map cell_has_room cells) wires).side)
             (sym same_rooms) (cells_when (have_room values (map cell_has_room cells)))

@@ -55,7 +55,8 @@ module _ (core : Core) (state : State) (found : ℕ → Option ℕ) (cells : Lis
       (record { wire = at.wire; there = at.there; ty = type_of cell.number at.wire at.is at.there; holds = at.holds })
 
   pub side_cells : (tys : List Ty) → length cells ≡ length tys
-      → ((place number : ℕ) (wire : WireC) (ty : Ty) → found place ≡ Some number → slice_get core.wires number ≡ Some wire → slice_get tys place ≡ Some ty → wire.ty ≡ ty)
+      → ((place number : ℕ) (wire : WireC) (ty : Ty) → found place ≡ Some number → slice_get core.wires number ≡ Some wire
+      → slice_get tys place ≡ Some ty → wire.ty ≡ ty)
       → AreCellsOf core tys cells (numbered (length tys) (λ place. on_found state (found place)))
   side_cells tys long typed =
       each_cell core (λ place. on_found state (found place)) tys cells 0 long

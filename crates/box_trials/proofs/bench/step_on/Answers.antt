@@ -16,4 +16,4 @@ pub returns : goal.returns
 returns c = λ core b forms can inputs.
     let start = beginning core b (record can.part { pending = None }) c.forget_outputs.new.self c.fill_cells.new.cells
     (c.forget_outputs.ensures.at core b can.part can.at) (c.fill_cells.ensures core (port_types b.ins) can.cells_are inputs) in
-    ending core b start.0 _ _ _ _ (c.execute.ensures core b start.0 forms start.1)
+    ending core b start.0 _ _ _ _ (c.execute.ensures.executed core b start.0 forms start.1)
