@@ -20,9 +20,8 @@ use Rattle.hume_text.specs.Bounds.{IsPrintable}
 use Rattle.hume_text.specs.Names.{HaveNames}
 use Rattle.printable_cores.proofs.NamedConstructors.{have_names}
 use Rattle.printable_cores.proofs.Printable.{printable}
-use Rattle.hume_front.specs.Accepted as front
 use Rattle.hume_front.specs.declared.acceptance.Accepted.{Accepted}
-use Rattle.hume_front.proofs.Sources.{formed, handled, wired, within}
+use Rattle.hume_front.proofs.Sources.{fine_check, formed, handled, wired, within}
 use Rattle.box_code.specs.declared.program.BoxProgram.{BoxProgram}
 use Rattle.box_code.specs.RepresentsBox.{RepresentsBox}
 use Rattle.compiled_boxes.specs.Boxes.{IsSoundBox, TakesLittle}
@@ -44,7 +43,7 @@ module _ (accepted : Accepted) (source : IsOfSource accepted) where
   names : HaveNames accepted.core.types
   names =
       let is = source.is in
-      have_names source.text is.program.tokens accepted.program accepted.core is.program.read is.program.spelled (λ f b. is.fine f (front.check b)) is.core
+      have_names source.text is.program.tokens accepted.program accepted.core is.program.read is.program.spelled (fine_check source.text accepted is) is.core
 
   wires : IsWired accepted.core × WiresAgree accepted.core
   wires = wired source.text accepted source.is

@@ -8,3 +8,4 @@ pub mod OneRefusal
 pub mod LeastCoreRules
 pub mod SomeAnswer
 pub mod Reported
+pub mod Tables

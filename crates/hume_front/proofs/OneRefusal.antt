@@ -15,7 +15,8 @@ use Rattle.syntax_errors.proofs.Answered.{one_place, none_stands}
 use Rattle.hume_check.proofs.OneFinding.{one_least}
 use Rattle.program_check.specs.Refused.{IsRefusedFor, refusal_of}
 use Rattle.hume_front.specs.declared.acceptance.Accepted.{Accepted}
-use Rattle.hume_front.specs.Accepted.{BreaksProgram, IsProgramOf, IsAccepted, Breaks, too_long, bad_token, no_program, in_program}
+use Rattle.hume_front.specs.Accepted.{IsProgramOf, IsAccepted, Breaks, too_long, bad_token, no_program, in_program}
+use Rattle.hume_front.specs.Broken.{BreaksProgram}
 use Rattle.hume_front.proofs.OneProgram.{one_program}
 use Rattle.hume_front.proofs.Reported.{rule_of_lexer, rule_of_parser, wrong_place, reported_by_lexer, reported_by_parser}
 

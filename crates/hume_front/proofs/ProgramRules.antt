@@ -16,10 +16,12 @@ use Rattle.fine_programs.proofs.LeastRules.{least_broken}
 use Rattle.fine_programs.proofs.Cores.{some_core}
 use Rattle.program_check.specs.Refused.{IsRefusedFor}
 use Rattle.program_check.proofs.Phases.{check_phase}
-use Rattle.hume_front.specs.Accepted as front
-use Rattle.hume_front.specs.Accepted.{BreaksCore, BreaksProgram}
+use Rattle.hume_front.specs.Broken.{BreaksProgram, itself, by_core}
+use Rattle.hume_front.specs.inner.Checked as front
+use Rattle.hume_front.specs.inner.Checked.{BreaksCore}
 use Rattle.hume_front.proofs.CoreRules.{wires_phase, handlers_phase, costs_phase, least_of_core}
 use Rattle.hume_front.proofs.Lines.{line_is}
+use Rattle.hume_front.proofs.Tables.{in_table, from_table, in_core_table, from_core_table}
 
 above : (p m : ℕ) → p ≡ m → 7 < m → 7 < p
 above p m e h = omega (arith, e, h)
@@ -34,11 +36,11 @@ module _ (text : List ℕ) (program : Program) where
   InCore f = (core : Core) × IsCoreOf text program core × BreaksCore core f
 
   to_program : (f : Finding) → BreaksCheck program.decls f ⊎ InCore f → BreaksProgram text program f
-  to_program f h = elim h [ inl x ↦ front.check x | inr x ↦ front.core x.0 x.1 x.2 ]
+  to_program f h = elim h [ inl x ↦ itself (in_table program.decls f x) | inr x ↦ by_core x.0 x.1 (in_core_table x.0 f x.2) ]
 
   from_program : (f : Finding) → BreaksProgram text program f → BreaksCheck program.decls f ⊎ InCore f
-  from_program f (front.check x) = inl x
-  from_program f (front.core c is x) = inr (c, is, x)
+  from_program f (itself x) = inl (from_table program.decls f x)
+  from_program f (by_core c is x) = inr (c, is, from_core_table c f x)
 
   between : (p q : ℕ) → p < 8 → 7 < q → p < q
   between p q a b = omega arith

@@ -18,9 +18,10 @@ use Rattle.wiring_check.proofs.TheWires.{are_wired}
 use Rattle.wiring_check.proofs.SomeWiring.{some_wiring}
 use Rattle.program_check.specs.Refused.{refusal_of}
 use Rattle.hume_front.specs.declared.acceptance.Accepted.{Accepted}
-use Rattle.hume_front.specs.Accepted as front
-use Rattle.hume_front.specs.Accepted.{IsProgramOf, BreaksProgram, IsAccepted, Breaks, too_long, bad_token, no_program, in_program}
+use Rattle.hume_front.specs.Accepted.{IsProgramOf, IsAccepted, Breaks, too_long, bad_token, no_program, in_program}
+use Rattle.hume_front.specs.Broken.{BreaksProgram, by_core}
 use Rattle.hume_front.proofs.CoreRules.{fine_wires}
+use Rattle.hume_front.proofs.Tables.{in_core_table}
 use Rattle.hume_front.proofs.ProgramRules.{checked}
 use Rattle.hume_front.proofs.Reported.{lexer_breaks, parser_breaks}
 
@@ -30,7 +31,7 @@ Answered text = ((accepted : Accepted) × IsAccepted text accepted) ⊎ ((refusa
 module _ (text : List ℕ) where
   accepted_with : (program : Program) → IsProgramOf text program → (core : Core) → IsCoreOf text program core → IsLeast (BreaksProgram text program) None → Answered text
   accepted_with program is core stands fine =
-      let wiring = some_wiring core (are_wired core (fine_wires core (λ f broken. fine f (front.core core stands broken)))) in
+      let wiring = some_wiring core (are_wired core (fine_wires core (λ f broken. fine f (by_core core stands (in_core_table core f broken))))) in
       inl (
         record { program = program; core = core; wiring = wiring.0; costs = map (node_bound core) core.nodes },
         record { program = is; fine = fine; core = stands; wiring = wiring.1; costs = refl },

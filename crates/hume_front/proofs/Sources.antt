@@ -1,5 +1,5 @@
 -- What sources have that stand for a program, and the core of an accepted one.
-use Rattle.std.proofs.Common.{◌≡◌, ℕ, ◌<◌, ◌^◌, List, length, Some, None, slice_get, refl, ap, sym, subst, ◌∙◌, arith}
+use Rattle.std.proofs.Common.{◌≡◌, ℕ, ◌<◌, ◌^◌, List, length, Some, None, slice_get, sym, subst, arith}
 use Rattle.hume_base.specs.Least.{IsLeast}
 use Rattle.hume_ast.specs.declared.tree.Program.{Program}
 use Rattle.hume_ast.specs.Fits.{Each}
@@ -7,7 +7,7 @@ use Rattle.hume_model.specs.declared.core_tree.BoxC.{BoxC}
 use Rattle.hume_model.specs.declared.core_tree.NodeC.TheVariants.{Rules}
 use Rattle.hume_model.specs.declared.core_tree.Core.{Core}
 use Rattle.hume_model.specs.Handling.{HandlesAll}
-use Rattle.hume_model.specs.WellFormed.{HasSoundFrame, IsWellFormed}
+use Rattle.hume_model.specs.WellFormed.{IsWellFormed}
 use Rattle.hume_model.specs.Wiring.{IsWired, WiresAgree}
 use Rattle.box_costs.specs.CostRules.{BreaksCosts}
 use Rattle.hume_check.specs.CheckRules.{BreaksCheck}
@@ -21,14 +21,16 @@ use Rattle.read_programs.proofs.Lengths.{all_few, short, tokens_bound}
 use Rattle.wiring_check.proofs.TheWires.{are_wired, wires_agree}
 use Rattle.hume_exceptions.proofs.Handles.{handles_all}
 use Rattle.hume_front.specs.Accepted as front
-use Rattle.hume_front.specs.Accepted.{BreaksCore, IsProgramOf, IsAccepted, IsUnaccepted}
-use Rattle.hume_front.specs.inner.Checked.{IsCoreError}
+use Rattle.hume_front.specs.Accepted.{IsProgramOf, IsAccepted, IsUnaccepted}
+use Rattle.hume_front.specs.Broken.{itself, by_core}
+use Rattle.hume_front.specs.inner.Checked.{BreaksCore, IsCoreError}
 use Rattle.hume_front.specs.declared.acceptance.FrontError.{FrontError}
 use Rattle.hume_front.specs.declared.acceptance.FrontError.TheVariants.{Refused, NoMemory}
 use Rattle.hume_front.specs.declared.acceptance.Accepted.{Accepted}
 use Rattle.hume_front.proofs.CoreRules.{fine_wires, fine_handlers, fine_costs}
 use Rattle.hume_front.proofs.OneProgram.{one_program}
 use Rattle.hume_front.proofs.ProgramRules.{refused_core}
+use Rattle.hume_front.proofs.Tables.{in_table, in_core_table}
 
 pub of_tokens : (text : List ℕ) (program : Program) → IsProgramOf text program → IsOfTokens program
 of_tokens text program h = record {
@@ -51,11 +53,11 @@ core_told text program core h fine is NoMemory e = tt
 
 -- the rules of an accepted source, phase by phase
 module _ (text : List ℕ) (accepted : Accepted) (h : IsAccepted text accepted) where
-  fine_check : IsLeast (BreaksCheck accepted.program.decls) None
-  fine_check = λ f b. h.fine f (front.check b)
+  pub fine_check : IsLeast (BreaksCheck accepted.program.decls) None
+  fine_check = λ f b. h.fine f (itself (in_table accepted.program.decls f b))
 
   fine_core : IsLeast (BreaksCore accepted.core) None
-  fine_core = λ f b. h.fine f (front.core accepted.core h.core b)
+  fine_core = λ f b. h.fine f (by_core accepted.core h.core (in_core_table accepted.core f b))
 
   pub formed : IsWellFormed accepted.core
   formed = sound_core text accepted.program accepted.core h.program fine_check h.core

@@ -1,7 +1,6 @@
 -- Which sources are accepted, and which rule a source breaks that isn't.
 use Rattle.std.specs.Prelude.{ℕ, ◌≤◌, ◌<◌, List, length, None}
 use Rattle.hume_base.specs.declared.limits.TheConstants.{MAX_SOURCE_BYTES}
-use Rattle.hume_base.specs.declared.finding.Finding.{Finding}
 use Rattle.hume_base.specs.declared.rule.Rule.{Rule}
 use Rattle.hume_base.specs.declared.rule.Rule.TheVariants.{C70}
 use Rattle.hume_base.specs.declared.rule.Refusal.{Refusal}
@@ -12,29 +11,14 @@ use Rattle.hume_ast.specs.declared.tree.Program.{Program}
 use Rattle.hume_ast.specs.Places.{StandsFor}
 use Rattle.hume_lex.specs.BadPlaces.{IsRead, BreaksTokens}
 use Rattle.syntax_errors.specs.WrongTokens.{BreaksGrammar}
-use Rattle.hume_model.specs.declared.core_tree.Core.{Core}
-use Rattle.hume_model.specs.WireRules.{BreaksWires}
-use Rattle.hume_model.specs.HandlerRules.{BreaksHandlers}
-use Rattle.box_costs.specs.CostRules.{BreaksCosts}
 use Rattle.hume_check.specs.CoreOf.{IsCoreOf}
-use Rattle.hume_check.specs.CheckRules.{BreaksCheck}
 use Rattle.wiring_check.specs.Wires.{IsWiringOf}
 use Rattle.program_check.specs.Refused.{IsRefusedFor}
 use Rattle.space_costs.specs.NodeCosts.{AreCosts}
+use Rattle.hume_front.specs.Broken.{BreaksProgram}
 use Rattle.hume_front.specs.declared.acceptance.Accepted.{Accepted}
 use Rattle.hume_front.specs.declared.acceptance.FrontError.{FrontError}
 use Rattle.hume_front.specs.declared.acceptance.FrontError.TheVariants.{Refused, NoMemory}
-
--- what a core breaks: the rules on its wires, on exceptions, and on what its boxes may take
-pub data BreaksCore (core : Core) (f : Finding) : Type 0 where
-  wires : BreaksWires core f → BreaksCore core f
-  handlers : BreaksHandlers core f → BreaksCore core f
-  costs : BreaksCosts core f → BreaksCore core f
-
--- what a program breaks, and what its core does
-pub data BreaksProgram (text : List ℕ) (program : Program) (f : Finding) : Type 0 where
-  check : BreaksCheck program.decls f → BreaksProgram text program f
-  core : (core : Core) → IsCoreOf text program core → BreaksCore core f → BreaksProgram text program f
 
 -- the source is short enough, its tokens are within the limits, and they stand for the program
 pub record IsProgramOf (text : List ℕ) (program : Program) : Type 0 where

@@ -7,8 +7,7 @@ ghost use Rattle.hume_model.specs.HandlerRules.{BreaksHandlers};
 ghost use Rattle.hume_exceptions.specs.Sets.{IsRaisesOf};
 ghost use Rattle.wiring_check.specs.Wires.{IsWiringOf};
 ghost use Rattle.space_costs.specs.NodeCosts.{AreCosts};
-ghost use Rattle.hume_front.specs.Accepted.{BreaksCore};
-ghost use Rattle.hume_front.specs.inner.Checked.{IsCoreError, AreCoreParts};
+ghost use Rattle.hume_front.specs.inner.Checked.{BreaksCore, IsCoreError, AreCoreParts};
 
 use crate::acceptance::FrontError;
 use hume_exceptions::{Raises, check_handlers, raises};

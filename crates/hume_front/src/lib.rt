@@ -2,7 +2,8 @@
 //!
 //! Main call: `accept` has the text cut into tokens, read as a program and checked; then it asks the rules on wires, on
 //! exceptions and on heap, stack and work of the program's core. `Accepted.antt` is the one definition of what an accepted
-//! source has and of which rule another source breaks: it names each phase, in the words of the crate that decides it.
+//! source has and of which rule another source breaks; the tables of `Broken.antt` name each rule, in the words of the crate
+//! that decides it.
 //!
 //! Proved: `accept` gives the program with core, wiring and costs exactly where the source breaks no rule, or `NoMemory`, and
 //! otherwise the least rule that it breaks with its line. Laws: each source is accepted, or refused for one rule at one line,

@@ -1,9 +1,8 @@
 -- The core of an accepted source can be run, and keeps its bounds.
 use Rattle.std.proofs.Common.{ℕ, List}
-use Rattle.hume_front.specs.Accepted as front
 use Rattle.hume_front.specs.Accepted.{IsAccepted}
 use Rattle.hume_front.specs.declared.acceptance.Accepted.{Accepted}
-use Rattle.hume_front.proofs.Sources.{formed, wired, within}
+use Rattle.hume_front.proofs.Sources.{fine_check, formed, wired, within}
 use Rattle.net_engine.specs.Runnable.{IsRunnable}
 use Rattle.hume_run.specs.inner.Bounds.{KeepsBounds}
 use Rattle.printable_cores.proofs.NamedConstructors.{have_names}
@@ -16,7 +15,7 @@ runnable text accepted h =
       formed = formed text accepted h;
       wired = wires.0;
       agree = wires.1;
-      names = have_names text h.program.tokens accepted.program accepted.core h.program.read h.program.spelled (λ f b. h.fine f (front.check b)) h.core;
+      names = have_names text h.program.tokens accepted.program accepted.core h.program.read h.program.spelled (fine_check text accepted h) h.core;
       printable = printable accepted.core (formed text accepted h);
     }
 

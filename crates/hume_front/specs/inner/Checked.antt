@@ -1,17 +1,27 @@
 -- What is found of a core, and of a program.
 use Rattle.std.specs.Prelude.{ℕ, List, None}
+use Rattle.hume_base.specs.declared.finding.Finding.{Finding}
 use Rattle.hume_base.specs.Least.{IsLeast}
 use Rattle.hume_ast.specs.declared.tree.Program.{Program}
 use Rattle.hume_model.specs.declared.core_tree.Core.{Core}
 use Rattle.hume_model.specs.Declarations.{IsRefusal}
+use Rattle.hume_model.specs.WireRules.{BreaksWires}
+use Rattle.hume_model.specs.HandlerRules.{BreaksHandlers}
+use Rattle.box_costs.specs.CostRules.{BreaksCosts}
 use Rattle.hume_check.specs.CoreOf.{IsCoreOf}
 use Rattle.wiring_check.specs.Wires.{IsWiringOf}
 use Rattle.space_costs.specs.NodeCosts.{AreCosts}
-use Rattle.hume_front.specs.Accepted.{BreaksCore, BreaksProgram}
+use Rattle.hume_front.specs.Broken.{BreaksProgram}
 use Rattle.hume_front.specs.declared.acceptance.FrontError.{FrontError}
 use Rattle.hume_front.specs.declared.acceptance.FrontError.TheVariants.{Refused, NoMemory}
 use Rattle.hume_front.specs.declared.core_rules.CoreParts.{CoreParts}
 use Rattle.hume_front.specs.declared.program_rules.Checked.{Checked}
+
+-- what a core breaks: the rules on its wires, on exceptions, and on what its boxes may take
+pub data BreaksCore (core : Core) (f : Finding) : Type 0 where
+  wires : BreaksWires core f → BreaksCore core f
+  handlers : BreaksHandlers core f → BreaksCore core f
+  costs : BreaksCosts core f → BreaksCore core f
 
 -- the least rule that the core breaks is refused, or memory is wanting
 abbrev pub IsCoreError : Core → FrontError → Type 0
