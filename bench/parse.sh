@@ -9,13 +9,13 @@ trap 'rm -rf -- "$room"' EXIT
 
 # A repository for the measurement alone, so that no file of it has to be proved with this one.
 mkdir -p "$room/crates/time_parse/src"
-for crate in hume_base hume_lex hume_ast token_readers syntax_errors gathered_declarations hume_parse; do
+for crate in hume_base hume_lex hume_ast parse_readers parse_errors parse_items hume_parse; do
     mkdir -p "$room/crates/$crate"
     for part in src specs proofs; do
         cp -r -- "$top/crates/$crate/$part" "$room/crates/$crate/"
     done
 done
-grep -E '^(hume_base|hume_lex|hume_ast|token_readers|syntax_errors|gathered_declarations|hume_parse):' "$top/crates.txt" >"$room/crates.txt"
+grep -E '^(hume_base|hume_lex|hume_ast|parse_readers|parse_errors|parse_items|hume_parse):' "$top/crates.txt" >"$room/crates.txt"
 echo 'time_parse: hume_base hume_lex hume_parse' >>"$room/crates.txt"
 cat >"$room/crates/time_parse/src/main.rt" <<'PROGRAM'
 //! `time_parse FILE`: how many tokens the file has, whether the parser takes them, and the least nanoseconds of a call.

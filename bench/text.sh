@@ -118,7 +118,7 @@ texts() {
     perf report -i samples --stdio -F overhead,sym --percent-limit 0 2>"/dev/null" |
         awk -v values="$1" -v ms=$((($(date +%s%N) - start) / 1000000)) '
             $2 == "[k]" { system_share += $1 }
-            $3 ~ /^hume_(text|streams|ports)::/ || $3 ~ /^(stream_ports|gathered_writes|core_runs)::/ { text_share += $1 }
+            $3 ~ /^hume_(text|streams|ports)::/ || $3 ~ /^(hume_streams::places|hume_streams::writes|run_rounds)::/ { text_share += $1 }
             END { printf "| %s | %.3f | %.3f |\n", values, text_share * ms / 1e5, system_share * ms / 1e5 }'
 }
 

@@ -6,7 +6,7 @@
 //!
 //! Proved: `run_rule` leaves heap, stack with its peak, outputs, answer and number of instructions exactly as the machine that
 //! `box_code` defines has them at its end, wherever that machine ends within the program's work and has room for what it puts
-//! (`EndsInRoom`). It takes no memory and refuses nothing. It has no laws: `code_meaning` proves that the code of a box ends
+//! (`EndsInRoom`). It takes no memory and refuses nothing. It has no laws: `code_laws` proves that the code of a box ends
 //! so, with the outputs of the meaning.
 //!
 //! It knows instructions, words, objects and types. It doesn't know expressions, rules or wires.

@@ -14,15 +14,15 @@ use Rattle.hume_model.specs.Limits.{IsSmallNode}
 use Rattle.hume_net.specs.declared.state.Part.{Part}
 use Rattle.hume_net.specs.declared.state.HalfStep.{HalfStep}
 use Rattle.hume_net.specs.HalfSteps.{execute}
-use Rattle.bare_cores.specs.Bare.{bare_box, bare_node, bare_of}
+use Rattle.model_bare.specs.Bare.{bare_box, bare_node, bare_of}
 use Rattle.box_code.specs.RepresentsBox.{RepresentsBox}
 use Rattle.box_machine.specs.declared.ran.Ran.{Ran}
 use Rattle.wire_cells.specs.Cells.{CellView}
-use Rattle.compiled_boxes.specs.Boxes.{AreBareForms, HasExecuted, IsAt, IsBoxAt, IsSoundBox}
-use Rattle.compiled_boxes.specs.Views.{CompiledView}
-use Rattle.box_inputs.specs.InputCells.{AreInputCells}
-use Rattle.box_inputs.proofs.Places.{all_at}
-use Rattle.box_inputs.proofs.InputCells.{cells_from, cells_of}
+use Rattle.box_step.specs.Boxes.{AreBareForms, HasExecuted, IsAt, IsBoxAt, IsSoundBox}
+use Rattle.box_step.specs.Views.{CompiledView}
+use Rattle.box_trials.specs.inputs.InputCells.{AreInputCells}
+use Rattle.box_trials.proofs.inputs_lemmas.Places.{all_at}
+use Rattle.box_trials.proofs.inputs_lemmas.InputCells.{cells_from, cells_of}
 use Rattle.box_trials.specs.declared.boxes.Place.{Place}
 use Rattle.box_trials.specs.declared.bench.Bench.{Bench}
 use Rattle.box_trials.specs.inner.Trials.{CanStep, HasOutputs, IsPlaceIn, IsReady}

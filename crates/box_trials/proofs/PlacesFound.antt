@@ -9,7 +9,7 @@ use Rattle.hume_model.specs.declared.core_tree.Core.{Core}
 use Rattle.box_code.specs.declared.program.BoxProgram.{BoxProgram}
 use Rattle.box_code.specs.RepresentsBox.{RepresentsBox}
 use Rattle.box_compile.specs.Programs.{AreProgramsFor, box_in}
-use Rattle.box_inputs.proofs.Places.{each_more}
+use Rattle.box_trials.proofs.inputs_lemmas.Places.{each_more}
 use Rattle.box_trials.specs.declared.boxes.Place.{Place}
 use Rattle.box_trials.specs.inner.Trials.{ArePlacesIn, IsPlaceIn}
 

@@ -10,7 +10,7 @@ use Rattle.hume_base.specs.Values.{is_value}
 use Rattle.hume_model.specs.declared.core_tree.PortC.{PortC}
 use Rattle.hume_model.specs.BoxTyping.{port_types}
 use Rattle.hume_model.specs.ResultTyping.{are_outputs}
-use Rattle.box_inputs.proofs.Places.{port_at}
+use Rattle.box_trials.proofs.inputs_lemmas.Places.{port_at}
 
 module _ (types : Types) where
   typed_at : (tys : List Ty) (outs : List (Option Value)) (i : ℕ) (ty : Ty) (out : Option Value) → are_outputs types tys outs ≡ true

@@ -18,16 +18,16 @@ use Rattle.hume_model.proofs.WellFormedCores.{readable_sizes}
 use Rattle.box_costs.specs.Bounds.{box_bound}
 use Rattle.hume_text.specs.Bounds.{IsPrintable}
 use Rattle.hume_text.specs.Names.{HaveNames}
-use Rattle.printable_cores.proofs.NamedConstructors.{have_names}
-use Rattle.printable_cores.proofs.Printable.{printable}
+use Rattle.hume_front.proofs.printable_lemmas.NamedConstructors.{have_names}
+use Rattle.hume_front.proofs.printable_lemmas.Printable.{printable}
 use Rattle.hume_front.specs.declared.acceptance.Accepted.{Accepted}
 use Rattle.hume_front.proofs.Sources.{fine_check, formed, handled, wired, within}
 use Rattle.box_code.specs.declared.program.BoxProgram.{BoxProgram}
 use Rattle.box_code.specs.RepresentsBox.{RepresentsBox}
-use Rattle.compiled_boxes.specs.Boxes.{IsSoundBox, TakesLittle}
-use Rattle.box_inputs.specs.InputCells.{IsWiredBox}
-use Rattle.box_inputs.specs.Inputs.{HaveTexts}
-use Rattle.box_inputs.proofs.Places.{all_at, port_of}
+use Rattle.box_step.specs.Boxes.{IsSoundBox, TakesLittle}
+use Rattle.box_trials.specs.inputs.InputCells.{IsWiredBox}
+use Rattle.box_trials.specs.inputs.Inputs.{HaveTexts}
+use Rattle.box_trials.proofs.inputs_lemmas.Places.{all_at, port_of}
 use Rattle.box_trials.specs.inner.Trials.{IsOfSource}
 
 not_above : (most n : ℕ) → (most < n → ⊥) → n ≤ most

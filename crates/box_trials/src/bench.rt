@@ -4,19 +4,19 @@ ghost use Rattle.hume_model.specs.declared.core_tree.BoxC.{BoxC as AnyBox};
 ghost use Rattle.hume_model.specs.declared.core_tree.Core.{Core as AnyCore};
 ghost use Rattle.hume_model.specs.declared.core_tree.NodeC.TheVariants.{Rules};
 ghost use Rattle.hume_model.specs.BoxTyping.{port_types};
-ghost use Rattle.compiled_boxes.specs.Boxes.{AreBareForms};
-ghost use Rattle.box_inputs.specs.Inputs.{AreInputs};
+ghost use Rattle.box_step.specs.Boxes.{AreBareForms};
+ghost use Rattle.box_trials.specs.inputs.Inputs.{AreInputs};
 ghost use Rattle.box_trials.specs.inner.Trials.{CanStep, IsOfSource, IsPlaceIn, IsReady};
 
 use crate::boxes::{Place, box_at};
 use crate::error::TrialError;
-use bare_cores::bare;
-use box_inputs::{fill_cells, make_cells};
+use crate::inputs::{fill_cells, make_cells};
 use box_machine::Ran;
-use compiled_boxes::CompiledBox;
+use box_step::CompiledBox;
 use hume_base::List;
 use hume_front::Accepted;
 use hume_model::{BoxC, Core};
+use model_bare::bare;
 use std::alloc::Global;
 use wire_cells::WireCell;
 

@@ -1,5 +1,5 @@
 use box_code::BoxProgram;
-use compiled_boxes::CompiledBox;
+use box_step::CompiledBox;
 
 /// The most words of heap and stack, and the most instructions, that an execute step of a box may take.
 #[derive(Clone, Copy)]

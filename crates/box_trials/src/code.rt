@@ -3,9 +3,9 @@ ghost use Rattle.box_trials.specs.inner.Trials.{IsOfSource};
 
 use crate::boxes::{box_at, find_place};
 use crate::error::TrialError;
+use crate::inputs::{InputError, read_inputs};
 use crate::report::Report;
 use box_code::BoxProgram;
-use box_inputs::{InputError, read_inputs};
 use hume_base::List;
 use hume_front::Accepted;
 use std::alloc::{AllocError, Global};

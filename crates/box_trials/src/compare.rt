@@ -2,16 +2,16 @@
 ghost use Rattle.std.specs.Prelude.{◌≡◌, true, IfOk, OnOk};
 ghost use Rattle.hume_model.specs.BoxTyping.{port_types};
 ghost use Rattle.hume_model.specs.ResultTyping.{are_outputs};
-ghost use Rattle.box_inputs.specs.Inputs.{HaveTexts};
+ghost use Rattle.box_trials.specs.inputs.Inputs.{HaveTexts};
 ghost use Rattle.box_trials.specs.inner.Trials.{HasOutputs, IsOfSource, IsPlaceIn, IsReady};
 
 use crate::bench::{Bench, prepare};
 use crate::bounds::Bounds;
 use crate::boxes::{Place, all_places, box_at};
 use crate::error::TrialError;
+use crate::inputs::{Chance, input_values, random_inputs};
 use crate::plain::{is_same_step, plain_firing, written_order};
 use crate::report::Report;
-use box_inputs::{Chance, input_values, random_inputs};
 use box_machine::Ran;
 use hume_base::{List, Value};
 use hume_front::Accepted;

@@ -1,4 +1,4 @@
-use box_inputs::InputError;
+use crate::inputs::InputError;
 use std::alloc::AllocError;
 use thiserror::Error;
 

@@ -1,13 +1,13 @@
 //! One execute step, with all that comes of it.
 ghost use Rattle.hume_model.specs.BoxTyping.{port_types};
-ghost use Rattle.box_inputs.specs.Inputs.{HasTexts, HaveTexts};
+ghost use Rattle.box_trials.specs.inputs.Inputs.{HasTexts, HaveTexts};
 ghost use Rattle.box_trials.specs.inner.Trials.{HasOutputs, IsOfSource};
 
 use crate::error::TrialError;
 use crate::report::Report;
 use crate::trial::{Trial, set_up};
 use box_machine::Ran;
-use compiled_boxes::CompiledBox;
+use box_step::CompiledBox;
 use hume_base::Types;
 use hume_front::Accepted;
 use hume_model::{BoxC, ExnDef, PortC};

@@ -19,6 +19,7 @@ mod code;
 mod compare;
 mod error;
 mod fire;
+mod inputs;
 mod order;
 mod plain;
 mod repeat;

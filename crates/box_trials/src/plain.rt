@@ -4,12 +4,12 @@ ghost use Rattle.hume_base.specs.declared.limits.TheConstants.{MAX_RULES};
 ghost use Rattle.hume_base.specs.Values.{is_value};
 ghost use Rattle.hume_model.specs.BoxTyping.{port_types};
 ghost use Rattle.hume_model.specs.ResultTyping.{are_outputs};
-ghost use Rattle.compiled_boxes.specs.Boxes.{IsSoundBox};
-ghost use Rattle.box_inputs.specs.Inputs.{HasTexts, HaveTexts};
+ghost use Rattle.box_step.specs.Boxes.{IsSoundBox};
+ghost use Rattle.box_trials.specs.inputs.Inputs.{HasTexts, HaveTexts};
 ghost use Rattle.box_trials.specs.inner.Trials.{HasOutputs};
 
 use box_machine::Ran;
-use compiled_boxes::CompiledBox;
+use box_step::CompiledBox;
 use hume_base::{Ty, Types, Value, size};
 use hume_model::{BoxC, Core, Firing, PortC, first_firing};
 use std::alloc::{AllocError, Global};

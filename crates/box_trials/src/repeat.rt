@@ -2,14 +2,14 @@
 ghost use Rattle.hume_model.specs.declared.core_tree.BoxC.{BoxC as AnyBox};
 ghost use Rattle.hume_model.specs.declared.core_tree.Core.{Core as AnyCore};
 ghost use Rattle.hume_model.specs.BoxTyping.{port_types};
-ghost use Rattle.box_inputs.specs.Inputs.{AreInputs};
+ghost use Rattle.box_trials.specs.inputs.Inputs.{AreInputs};
 ghost use Rattle.box_trials.specs.inner.Trials.{HasOutputs, IsOfSource, IsReady};
 
 use crate::bench::Bench;
 use crate::error::TrialError;
 use crate::report::Report;
 use crate::trial::{Trial, set_up};
-use compiled_boxes::CompiledBox;
+use box_step::CompiledBox;
 use hume_base::List;
 use hume_front::Accepted;
 use hume_model::BoxC;

@@ -5,7 +5,7 @@ ghost use Rattle.box_trials.specs.inner.Trials.{IsOfSource, IsSetUp};
 use crate::bench::{Bench, prepare};
 use crate::boxes::{box_at, find_place};
 use crate::error::TrialError;
-use box_inputs::read_inputs;
+use crate::inputs::read_inputs;
 use hume_base::List;
 use hume_front::Accepted;
 use hume_model::BoxC;

@@ -5,3 +5,4 @@ pub mod Least
 pub mod SymbolTexts
 pub mod WordsTell
 pub mod FlatLengths
+pub mod lines_lemmas

@@ -10,3 +10,4 @@ pub mod Sizes
 pub mod Symbols
 pub mod Values
 pub mod Words
+pub mod lines

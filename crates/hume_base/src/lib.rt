@@ -18,6 +18,7 @@ mod finding;
 mod keyword;
 mod laws;
 pub mod limits;
+pub mod lines;
 mod list;
 mod list_traits;
 mod place;

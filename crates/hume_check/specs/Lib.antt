@@ -1,8 +1,3 @@
-pub mod CheckRules
-pub mod Constants
-pub mod CoreOf
-pub mod Declared
-pub mod OfTokens
-pub mod SignaturesOf
-pub mod SizeRules
-pub mod TypeRules
+pub mod Refused
+pub mod inner
+pub mod nodes

@@ -12,9 +12,9 @@ use Rattle.hume_lex.specs.declared.lexer.LexError.{LexError}
 use Rattle.hume_lex.specs.declared.lexer.LexError.TheVariants as lexical
 use Rattle.hume_lex.specs.BadPlaces.{IsRead, IsBadPlace, bad_place}
 use Rattle.hume_lex.proofs.Places.{token_within}
-use Rattle.syntax_errors.specs.declared.parse_error.ParseError.{ParseError}
-use Rattle.syntax_errors.specs.declared.parse_error.ParseError.TheVariants as syntactic
-use Rattle.syntax_errors.specs.WrongTokens.{BeginsSome, BeginsNone, IsWrongToken, IsWrongPlace}
+use Rattle.parse_errors.specs.declared.parse_error.ParseError.{ParseError}
+use Rattle.parse_errors.specs.declared.parse_error.ParseError.TheVariants as syntactic
+use Rattle.parse_errors.specs.WrongTokens.{BeginsSome, BeginsNone, IsWrongToken, IsWrongPlace}
 use Rattle.hume_front.specs.declared.acceptance.FrontError.{FrontError}
 use Rattle.hume_front.specs.declared.acceptance.FrontError.TheVariants.{Refused}
 use Rattle.hume_front.specs.Accepted.{Breaks, too_long, bad_token, no_program, IsUnaccepted}

@@ -10,7 +10,7 @@ use Rattle.hume_model.specs.Declarations.{IsRefusal}
 use Rattle.hume_model.specs.WireRules.{BreaksWires}
 use Rattle.hume_model.specs.HandlerRules.{BreaksHandlers}
 use Rattle.box_costs.specs.CostRules.{BreaksCosts}
-use Rattle.fine_programs.proofs.Decided.{HasLeast, least_as, least_of_phases}
+use Rattle.hume_check.proofs.fine_lemmas.Decided.{HasLeast, least_as, least_of_phases}
 use Rattle.hume_front.specs.inner.Checked as front
 use Rattle.hume_front.specs.inner.Checked.{BreaksCore}
 use Rattle.hume_front.proofs.LeastCoreRules.{least_wire, least_handler, least_cost}

@@ -21,7 +21,7 @@ use Rattle.hume_model.specs.Raising.{result_may_raise}
 use Rattle.hume_model.specs.HandlerRules.{BreaksHandlers, OfBox, LeavesUnhandled, RaisesAgain, has_handler}
 use Rattle.box_costs.specs.CostRules.{BreaksCosts, OfNode, HeapPasses, StackPasses, SpacePasses, WorkPasses, node_bound, space_before, space_of}
 use Rattle.wiring_check.proofs.SameTypes.{type_known}
-use Rattle.fine_programs.proofs.Decided.{Decided, decided_true, decided_false, decided_as, decided_both, decided_not, decided_le, decided_lt, decided_below, decided_some, HasLeast, least_of_rule, least_of_two}
+use Rattle.hume_check.proofs.fine_lemmas.Decided.{Decided, decided_true, decided_false, decided_as, decided_both, decided_not, decided_le, decided_lt, decided_below, decided_some, HasLeast, least_of_rule, least_of_two}
 
 -- a bound above what is measured of each element
 above_all : {A : Type 0} (measure : A → ℕ) (xs : List A) → (bound : ℕ) × ((i : ℕ) (x : A) → slice_get xs i ≡ Some x → measure x < bound)

@@ -9,3 +9,5 @@ pub mod LeastCoreRules
 pub mod SomeAnswer
 pub mod Reported
 pub mod Tables
+pub mod programs_lemmas
+pub mod printable_lemmas

@@ -8,12 +8,12 @@ use Rattle.hume_model.specs.declared.core_tree.NodeC.{NodeC}
 use Rattle.hume_model.specs.declared.core_tree.WireC.{WireC}
 use Rattle.hume_model.specs.declared.core_tree.Core.{Core}
 use Rattle.hume_model.specs.Declarations.{declaration_of, line_of, StandsAt, node, wire}
-use Rattle.hume_typing.specs.declared.signatures.Signatures.{Signatures}
-use Rattle.hume_check.specs.Declared.{Numbered, nodes_in, WireDecl, wires_in}
-use Rattle.hume_check.specs.CoreOf.{IsNodeOf, IsWireOf, IsCoreOf}
-use Rattle.hume_check.proofs.Stands.{from_right, node_stands}
-use Rattle.hume_check.proofs.WiresJoin.{wire_stands}
-use Rattle.program_check.specs.Refused.{place_of, line_of_declaration}
+use Rattle.check_typing.specs.declared.signatures.Signatures.{Signatures}
+use Rattle.check_rules.specs.Declared.{Numbered, nodes_in, WireDecl, wires_in}
+use Rattle.check_rules.specs.CoreOf.{IsNodeOf, IsWireOf, IsCoreOf}
+use Rattle.check_rules.proofs.Stands.{from_right, node_stands}
+use Rattle.check_rules.proofs.WiresJoin.{wire_stands}
+use Rattle.hume_check.specs.Refused.{place_of, line_of_declaration}
 
 node_line : (text : List ℕ) (s : Signatures) (d : Numbered) (decl : Decl) (n : NodeC) → IsNodeOf text s d decl n
     → (declaration_of n ≡ d.number) × (line_of n ≡ line_at text d.place)

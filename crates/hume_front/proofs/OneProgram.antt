@@ -2,7 +2,7 @@
 use Rattle.std.proofs.Common.{◌≡◌, ℕ, List, subst}
 use Rattle.hume_ast.specs.declared.tree.Program.{Program}
 use Rattle.hume_ast.specs.Places.{StandsFor}
-use Rattle.token_readers.proofs.OneSpelling.{one_placed}
+use Rattle.parse_readers.proofs.OneSpelling.{one_placed}
 use Rattle.hume_lex.proofs.Unique.{one_reading}
 use Rattle.hume_front.specs.Accepted.{IsProgramOf}
 

@@ -9,11 +9,11 @@ use Rattle.hume_ast.specs.Places.{StandsFor}
 use Rattle.hume_lex.specs.declared.lexer.LexError.{LexError}
 use Rattle.hume_lex.specs.BadPlaces.{IsRead, BreaksTokens, bad_place}
 use Rattle.hume_lex.proofs.Unique.{one_reading, one_bad_place, read_no_bad_place}
-use Rattle.syntax_errors.specs.declared.parse_error.ParseError.{ParseError}
-use Rattle.syntax_errors.specs.WrongTokens.{BreaksGrammar}
-use Rattle.syntax_errors.proofs.Answered.{one_place, none_stands}
-use Rattle.hume_check.proofs.OneFinding.{one_least}
-use Rattle.program_check.specs.Refused.{IsRefusedFor, refusal_of}
+use Rattle.parse_errors.specs.declared.parse_error.ParseError.{ParseError}
+use Rattle.parse_errors.specs.WrongTokens.{BreaksGrammar}
+use Rattle.parse_errors.proofs.Answered.{one_place, none_stands}
+use Rattle.check_rules.proofs.OneFinding.{one_least}
+use Rattle.hume_check.specs.Refused.{IsRefusedFor, refusal_of}
 use Rattle.hume_front.specs.declared.acceptance.Accepted.{Accepted}
 use Rattle.hume_front.specs.Accepted.{IsProgramOf, IsAccepted, Breaks, too_long, bad_token, no_program, in_program}
 use Rattle.hume_front.specs.Broken.{BreaksProgram}

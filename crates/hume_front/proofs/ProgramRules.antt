@@ -9,13 +9,13 @@ use Rattle.hume_ast.specs.declared.tree.Program.{Program}
 use Rattle.hume_ast.specs.Fits.{IsFit}
 use Rattle.hume_model.specs.declared.core_tree.Core.{Core}
 use Rattle.hume_model.specs.Declarations.{IsRefusal}
-use Rattle.hume_check.specs.CheckRules.{BreaksCheck}
-use Rattle.hume_check.specs.CoreOf.{IsCoreOf}
-use Rattle.hume_check.proofs.CoresOnce.{the_core}
-use Rattle.fine_programs.proofs.LeastRules.{least_broken}
-use Rattle.fine_programs.proofs.Cores.{some_core}
-use Rattle.program_check.specs.Refused.{IsRefusedFor}
-use Rattle.program_check.proofs.Phases.{check_phase}
+use Rattle.check_rules.specs.CheckRules.{BreaksCheck}
+use Rattle.check_rules.specs.CoreOf.{IsCoreOf}
+use Rattle.check_rules.proofs.CoresOnce.{the_core}
+use Rattle.hume_check.proofs.fine_lemmas.LeastRules.{least_broken}
+use Rattle.hume_check.proofs.fine_lemmas.Cores.{some_core}
+use Rattle.hume_check.specs.Refused.{IsRefusedFor}
+use Rattle.hume_check.proofs.Phases.{check_phase}
 use Rattle.hume_front.specs.Broken.{BreaksProgram, itself, by_core}
 use Rattle.hume_front.specs.inner.Checked as front
 use Rattle.hume_front.specs.inner.Checked.{BreaksCore}

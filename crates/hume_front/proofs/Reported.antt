@@ -6,9 +6,9 @@ use Rattle.hume_base.specs.declared.token.Token.{Token}
 use Rattle.hume_lex.specs.declared.lexer.LexError.{LexError}
 use Rattle.hume_lex.specs.declared.lexer.LexError.TheVariants as lexical
 use Rattle.hume_lex.specs.BadPlaces.{BreaksTokens, IsBadPlace, bad_place}
-use Rattle.syntax_errors.specs.declared.parse_error.ParseError.{ParseError}
-use Rattle.syntax_errors.specs.declared.parse_error.ParseError.TheVariants as syntactic
-use Rattle.syntax_errors.specs.WrongTokens.{BreaksGrammar, IsWrongPlace}
+use Rattle.parse_errors.specs.declared.parse_error.ParseError.{ParseError}
+use Rattle.parse_errors.specs.declared.parse_error.ParseError.TheVariants as syntactic
+use Rattle.parse_errors.specs.WrongTokens.{BreaksGrammar, IsWrongPlace}
 
 abbrev pub rule_of_lexer : LexError → Rule
 rule_of_lexer (lexical.BadChar place) = C10

@@ -10,13 +10,13 @@ use Rattle.hume_base.specs.Least.{IsLeast}
 use Rattle.hume_ast.specs.declared.tree.Program.{Program}
 use Rattle.hume_lex.specs.BadPlaces.{IsRead}
 use Rattle.hume_lex.proofs.Total as lexical
-use Rattle.syntax_errors.proofs.Answered.{answered}
+use Rattle.parse_errors.proofs.Answered.{answered}
 use Rattle.hume_model.specs.declared.core_tree.Core.{Core}
 use Rattle.box_costs.specs.CostRules.{node_bound}
-use Rattle.hume_check.specs.CoreOf.{IsCoreOf}
+use Rattle.check_rules.specs.CoreOf.{IsCoreOf}
 use Rattle.wiring_check.proofs.TheWires.{are_wired}
 use Rattle.wiring_check.proofs.SomeWiring.{some_wiring}
-use Rattle.program_check.specs.Refused.{refusal_of}
+use Rattle.hume_check.specs.Refused.{refusal_of}
 use Rattle.hume_front.specs.declared.acceptance.Accepted.{Accepted}
 use Rattle.hume_front.specs.Accepted.{IsProgramOf, IsAccepted, Breaks, too_long, bad_token, no_program, in_program}
 use Rattle.hume_front.specs.Broken.{BreaksProgram, by_core}

@@ -10,14 +10,14 @@ use Rattle.hume_model.specs.Handling.{HandlesAll}
 use Rattle.hume_model.specs.WellFormed.{IsWellFormed}
 use Rattle.hume_model.specs.Wiring.{IsWired, WiresAgree}
 use Rattle.box_costs.specs.CostRules.{BreaksCosts}
-use Rattle.hume_check.specs.CheckRules.{BreaksCheck}
-use Rattle.hume_check.specs.CoreOf.{IsCoreOf}
-use Rattle.hume_check.specs.OfTokens.{IsOfTokens}
-use Rattle.hume_check.proofs.CoresOnce.{the_core}
-use Rattle.hume_check.proofs.WellFormed.{well_formed}
-use Rattle.read_programs.proofs.SmallKinds.{IsSmall, kinds_small}
-use Rattle.read_programs.proofs.Names.{all_names}
-use Rattle.read_programs.proofs.Lengths.{all_few, short, tokens_bound}
+use Rattle.check_rules.specs.CheckRules.{BreaksCheck}
+use Rattle.check_rules.specs.CoreOf.{IsCoreOf}
+use Rattle.check_rules.specs.OfTokens.{IsOfTokens}
+use Rattle.check_rules.proofs.CoresOnce.{the_core}
+use Rattle.check_rules.proofs.WellFormed.{well_formed}
+use Rattle.hume_front.proofs.programs_lemmas.SmallKinds.{IsSmall, kinds_small}
+use Rattle.hume_front.proofs.programs_lemmas.Names.{all_names}
+use Rattle.hume_front.proofs.programs_lemmas.Lengths.{all_few, short, tokens_bound}
 use Rattle.wiring_check.proofs.TheWires.{are_wired, wires_agree}
 use Rattle.hume_exceptions.proofs.Handles.{handles_all}
 use Rattle.hume_front.specs.Accepted as front

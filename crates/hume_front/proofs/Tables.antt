@@ -4,11 +4,11 @@ use Rattle.hume_base.specs.declared.finding.Finding.{Finding}
 use Rattle.hume_base.specs.declared.rule.Rule.{Rule}
 use Rattle.hume_base.specs.declared.rule.Rule.TheVariants.{C30, C31, C32, C33, C40, C41, C42, C43, C44, C45, C50, C51, C52, C53, C54, C60, C61, C72, C73, C74, C75, C76, C78, C79}
 use Rattle.hume_model.specs.declared.core_tree.Core.{Core}
-use Rattle.hume_names.specs.Misnamed as names
-use Rattle.hume_names.specs.Misnamed.{BreaksNames}
-use Rattle.hume_check.specs.Declared.{Decls}
-use Rattle.hume_check.specs.CheckRules as rules
-use Rattle.hume_check.specs.CheckRules.{BreaksCounts, BreaksTypes, BreaksLimits, BreaksCheck}
+use Rattle.check_names.specs.Misnamed as names
+use Rattle.check_names.specs.Misnamed.{BreaksNames}
+use Rattle.check_rules.specs.Declared.{Decls}
+use Rattle.check_rules.specs.CheckRules as rules
+use Rattle.check_rules.specs.CheckRules.{BreaksCounts, BreaksTypes, BreaksLimits, BreaksCheck}
 use Rattle.hume_front.specs.Broken.{Broken, BrokenCore}
 use Rattle.hume_front.specs.inner.Checked as inner
 use Rattle.hume_front.specs.inner.Checked.{BreaksCore}

@@ -10,10 +10,10 @@ use Rattle.hume_base.specs.Places.{line_at}
 use Rattle.hume_ast.specs.declared.tree.Program.{Program}
 use Rattle.hume_ast.specs.Places.{StandsFor}
 use Rattle.hume_lex.specs.BadPlaces.{IsRead, BreaksTokens}
-use Rattle.syntax_errors.specs.WrongTokens.{BreaksGrammar}
-use Rattle.hume_check.specs.CoreOf.{IsCoreOf}
+use Rattle.parse_errors.specs.WrongTokens.{BreaksGrammar}
+use Rattle.check_rules.specs.CoreOf.{IsCoreOf}
 use Rattle.wiring_check.specs.Wires.{IsWiringOf}
-use Rattle.program_check.specs.Refused.{IsRefusedFor}
+use Rattle.hume_check.specs.Refused.{IsRefusedFor}
 use Rattle.space_costs.specs.NodeCosts.{AreCosts}
 use Rattle.hume_front.specs.Broken.{BreaksProgram}
 use Rattle.hume_front.specs.declared.acceptance.Accepted.{Accepted}

@@ -8,16 +8,16 @@ use Rattle.hume_model.specs.declared.core_tree.Core.{Core}
 use Rattle.hume_model.specs.WireRules.{LacksInput, RepeatsInput, LacksOutput, RepeatsOutput, JoinsOthers}
 use Rattle.hume_model.specs.HandlerRules.{OfBox, LeavesUnhandled, RaisesAgain}
 use Rattle.box_costs.specs.CostRules.{OfNode, HeapPasses, StackPasses, SpacePasses, WorkPasses}
-use Rattle.hume_names.specs.Repeated.{RepeatsName}
-use Rattle.hume_names.specs.Unknown.{HasUnknownName}
-use Rattle.hume_names.specs.Leading.{CallsItself, HoldsItself}
-use Rattle.hume_names.specs.Twice.{BindsTwice}
-use Rattle.hume_counts.specs.CountRules.{Miscounts, HasStrayStar}
-use Rattle.hume_counts.specs.Limits.{PassesLimits}
-use Rattle.hume_check.specs.Declared.{Decls}
-use Rattle.hume_check.specs.TypeRules.{IsUntyped, HasLiteralOutOfRange, HasNoInitial}
-use Rattle.hume_check.specs.SizeRules.{HasLargeType, PassesWords}
-use Rattle.hume_check.specs.CoreOf.{IsCoreOf}
+use Rattle.check_names.specs.Repeated.{RepeatsName}
+use Rattle.check_names.specs.Unknown.{HasUnknownName}
+use Rattle.check_names.specs.Leading.{CallsItself, HoldsItself}
+use Rattle.check_names.specs.Twice.{BindsTwice}
+use Rattle.check_counts.specs.CountRules.{Miscounts, HasStrayStar}
+use Rattle.check_counts.specs.Limits.{PassesLimits}
+use Rattle.check_rules.specs.Declared.{Decls}
+use Rattle.check_rules.specs.TypeRules.{IsUntyped, HasLiteralOutOfRange, HasNoInitial}
+use Rattle.check_rules.specs.SizeRules.{HasLargeType, PassesWords}
+use Rattle.check_rules.specs.CoreOf.{IsCoreOf}
 
 -- the declaration of the number breaks the rule on names, counts, types or limits
 abbrev pub Broken : Decls → Rule → ℕ → Type 0

@@ -1,3 +1,5 @@
 pub mod Broken
 pub mod Accepted
 pub mod inner
+pub mod programs
+pub mod printable

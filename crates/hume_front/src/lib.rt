@@ -16,7 +16,9 @@
 mod acceptance;
 mod core_rules;
 mod laws;
+pub mod printable;
 mod program_rules;
+pub mod programs;
 mod refused;
 
 pub use acceptance::{Accepted, FrontError, accept};

@@ -1,16 +1,16 @@
 //! The rules that are asked of a program and of its core.
 ghost use Rattle.std.specs.Prelude.{None, IfOk, IfErr};
 ghost use Rattle.hume_base.specs.Least.{IsLeast};
-ghost use Rattle.hume_check.specs.CheckRules.{BreaksCheck};
-ghost use Rattle.hume_check.specs.CoreOf.{IsCoreOf};
+ghost use Rattle.check_rules.specs.CheckRules.{BreaksCheck};
+ghost use Rattle.check_rules.specs.CoreOf.{IsCoreOf};
 ghost use Rattle.hume_front.specs.Accepted.{IsProgramOf, IsUnaccepted};
 ghost use Rattle.hume_front.specs.inner.Checked.{IsChecked};
 
 use crate::acceptance::FrontError;
 use crate::core_rules::{CoreParts, check_core};
 use hume_ast::Program;
+use hume_check::{CheckError, check};
 use hume_model::Core;
-use program_check::{CheckError, check};
 use space_costs::Costs;
 use std::alloc::Global;
 use wiring_check::Wiring;

@@ -2,13 +2,13 @@
 ghost use Rattle.std.specs.Prelude.{◌≡◌, ◌≤◌, ◌⊎◌, length};
 ghost use Rattle.hume_base.specs.declared.limits.TheConstants.{MAX_SOURCE_BYTES as MOST_BYTES};
 ghost use Rattle.hume_lex.specs.BadPlaces.{IsRead, IsBadPlace};
-ghost use Rattle.syntax_errors.specs.WrongTokens.{IsWrongPlace};
+ghost use Rattle.parse_errors.specs.WrongTokens.{IsWrongPlace};
 ghost use Rattle.hume_front.specs.Accepted.{IsUnaccepted};
 
 use crate::acceptance::FrontError;
 use hume_base::{Refusal, Rule, Token, line_of};
 use hume_lex::LexError;
-use syntax_errors::ParseError;
+use parse_errors::ParseError;
 
 pub(crate) fn refused(rule: Rule, line: u32) -> FrontError
     ensures { result ≡ FrontError.Refused (record { rule = rule; line = line }) }

@@ -42,9 +42,9 @@ pub use evaluate::eval_plain;
 pub use exceptions::{DIV_ZERO, NO_CASE, RANGE, own_exceptions};
 pub use firing::first_firing;
 pub use laws::{
-    calls_unfold, evaluation_keeps_types, firing_keeps_types, flat_words_are_read_back, handled_boxes_give_all_outputs,
-    own_exceptions_have_their_numbers, results_keep_types, well_formed_cores_are_sound,
-    well_formed_types_are_readable, what_is_taken_is_there,
+    calls_unfold, evaluation_keeps_types, firing_keeps_types, flat_words_are_read_back,
+    handled_boxes_give_all_outputs, own_exceptions_have_their_numbers, results_keep_types,
+    well_formed_cores_are_sound, well_formed_types_are_readable, what_is_taken_is_there,
 };
 pub use outcome::{Firing, Outcome, Outputs, Several};
 pub use reading::value_of;

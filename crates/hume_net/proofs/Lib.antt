@@ -21,3 +21,4 @@ pub mod StateTypes
 pub mod StreamSteps
 pub mod Times
 pub mod WellFormedNets
+pub mod rounds_lemmas

@@ -11,3 +11,4 @@ pub mod StreamSteps
 pub mod Plan
 pub mod Times
 pub mod inner
+pub mod rounds

@@ -28,6 +28,7 @@ mod laws;
 mod net;
 mod phases;
 mod plan;
+pub mod rounds;
 mod start;
 mod state;
 mod super_steps;

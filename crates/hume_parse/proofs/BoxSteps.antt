@@ -7,8 +7,8 @@ use Rattle.hume_base.specs.declared.symbol.Symbol.TheVariants as symbol
 use Rattle.hume_base.specs.declared.token.Kind.{Kind}
 use Rattle.hume_base.specs.declared.token.Kind.TheVariants.{Word}
 use Rattle.hume_ast.specs.declared.tree.Pat.TheVariants.{rolls-Name, rolls-Any}
-use Rattle.token_readers.specs.inner.Readers.{◌>>=◌, next, behind, is_word, after, listed}
-use Rattle.token_readers.specs.inner.Declarations.{order, handlers, handler}
+use Rattle.parse_readers.specs.inner.Readers.{◌>>=◌, next, behind, is_word, after, listed}
+use Rattle.parse_readers.specs.inner.Declarations.{order, handlers, handler}
 
 pub order_fair : (ks : List Kind) → next (is_word word.Fair) ks ≡ true → order ks ≡ Ok (true, behind ks)
 order_fair [] t = cc

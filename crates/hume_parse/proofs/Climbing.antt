@@ -11,16 +11,16 @@ use Rattle.hume_ast.specs.declared.tree.Exp.{Exp, roll-Exp, out-Exp, roll-out-Ex
 use Rattle.hume_ast.specs.declared.tree.Exp.TheOpen.{Exp-F}
 use Rattle.hume_ast.specs.Depth.{exp_depth}
 use Rattle.hume_ast.specs.Fits.{op_level}
-use Rattle.syntax_errors.specs.inner.Gives.{Fails}
+use Rattle.parse_errors.specs.inner.Gives.{Fails}
 use Rattle.hume_parse.specs.inner.Climbing.{level_rest, climbed, within, operator_within, limit_behind, operand_level}
-use Rattle.syntax_errors.specs.declared.stop.Stop.{Stop}
-use Rattle.token_readers.specs.inner.Readers.{Reader, Wrong, ◌>>=◌, behind, made}
-use Rattle.token_readers.specs.inner.Types.{types}
-use Rattle.token_readers.specs.inner.Expressions.{exps, expressions_with, at_level, if_level, next_operator, one_operand, with_operator, operands, operator_of, app_layer, unary_layer}
-use Rattle.token_readers.proofs.Local.{bind_ok, bind_same, chosen_ok}
-use Rattle.token_readers.proofs.Chains.{turn_at, stop_at}
-use Rattle.token_readers.proofs.ExpressionsRead.{all_shrink}
-use Rattle.syntax_errors.proofs.ReportedPlaces.{kinds_length}
+use Rattle.parse_errors.specs.declared.stop.Stop.{Stop}
+use Rattle.parse_readers.specs.inner.Readers.{Reader, Wrong, ◌>>=◌, behind, made}
+use Rattle.parse_readers.specs.inner.Types.{types}
+use Rattle.parse_readers.specs.inner.Expressions.{exps, expressions_with, at_level, if_level, next_operator, one_operand, with_operator, operands, operator_of, app_layer, unary_layer}
+use Rattle.parse_readers.proofs.Local.{bind_ok, bind_same, chosen_ok}
+use Rattle.parse_readers.proofs.Chains.{turn_at, stop_at}
+use Rattle.parse_readers.proofs.ExpressionsRead.{all_shrink}
+use Rattle.parse_errors.proofs.ReportedPlaces.{kinds_length}
 use Rattle.hume_parse.proofs.Loops.{fails_on}
 
 -- what is rolled, and what it was before

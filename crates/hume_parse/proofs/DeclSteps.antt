@@ -9,13 +9,13 @@ use Rattle.hume_base.specs.declared.token.Kind.TheVariants.{Word, Sign}
 use Rattle.hume_base.specs.declared.token.Token.{Token}
 use Rattle.hume_ast.specs.declared.tree.TyExp.{TyExp}
 use Rattle.hume_ast.specs.Places.{kinds}
-use Rattle.token_readers.specs.inner.Readers.{Reader, ◌>>=◌, next, behind, is_word, is_sign, after, led, made, both, closed, listed, maybe, pick, lower_name, upper_name, port_name, number_of}
-use Rattle.token_readers.specs.inner.Types.{types}
-use Rattle.token_readers.specs.inner.Declarations.{whole_decl, sum_of, constructor, exn_of, starts_type, box_of, sides, rules, stream_of, way, wire_of, wire_end, wire_depth, first_value, expression}
-use Rattle.token_readers.proofs.TypesRead.{types_read}
-use Rattle.token_readers.proofs.DeclarationParts.{first_type}
-use Rattle.token_readers.proofs.Forms.{shrinks}
-use Rattle.syntax_errors.proofs.ReportedPlaces.{kinds_length}
+use Rattle.parse_readers.specs.inner.Readers.{Reader, ◌>>=◌, next, behind, is_word, is_sign, after, led, made, both, closed, listed, maybe, pick, lower_name, upper_name, port_name, number_of}
+use Rattle.parse_readers.specs.inner.Types.{types}
+use Rattle.parse_readers.specs.inner.Declarations.{whole_decl, sum_of, constructor, exn_of, starts_type, box_of, sides, rules, stream_of, way, wire_of, wire_end, wire_depth, first_value, expression}
+use Rattle.parse_readers.proofs.TypesRead.{types_read}
+use Rattle.parse_readers.proofs.DeclarationParts.{first_type}
+use Rattle.parse_readers.proofs.Forms.{shrinks}
+use Rattle.parse_errors.proofs.ReportedPlaces.{kinds_length}
 
 pub types_shrink : (room : ℕ) (ks : List Kind) (x : TyExp × List Kind) → types room ks ≡ Ok x → length x.1 < length ks
 types_shrink room ks x e = shrinks (types_read room) starts_type (λ t rest f. first_type t rest) (λ t rest f. tt) ks x e

@@ -10,14 +10,14 @@ use Rattle.hume_ast.specs.Places.{kinds}
 use Rattle.hume_ast.specs.Spelling.{spelled_pat, spelled_exp}
 use Rattle.hume_ast.specs.declared.tree.Exp.{Exp}
 use Rattle.hume_ast.specs.declared.tree.Pat.{Pat}
-use Rattle.syntax_errors.specs.declared.stop.Stop.{Stop}
-use Rattle.syntax_errors.specs.inner.Gives.{Fails}
+use Rattle.parse_errors.specs.declared.stop.Stop.{Stop}
+use Rattle.parse_errors.specs.inner.Gives.{Fails}
 use Rattle.hume_parse.specs.inner.Parts.{other_parts}
-use Rattle.token_readers.specs.inner.Readers.{Wrong, ◌>>=◌, after, made, many, led, is_sign}
-use Rattle.token_readers.specs.inner.Patterns.{patterns}
-use Rattle.token_readers.specs.inner.Expressions.{exps, alternative}
-use Rattle.token_readers.proofs.ExpressionsRead.{expressions_read, alternatives_of, atom_shrink}
-use Rattle.syntax_errors.proofs.ReportedPlaces.{kinds_length}
+use Rattle.parse_readers.specs.inner.Readers.{Wrong, ◌>>=◌, after, made, many, led, is_sign}
+use Rattle.parse_readers.specs.inner.Patterns.{patterns}
+use Rattle.parse_readers.specs.inner.Expressions.{exps, alternative}
+use Rattle.parse_readers.proofs.ExpressionsRead.{expressions_read, alternatives_of, atom_shrink}
+use Rattle.parse_errors.proofs.ReportedPlaces.{kinds_length}
 use Rattle.hume_parse.proofs.Loops.{joined, fails_on}
 
 -- behind the parts stands a token

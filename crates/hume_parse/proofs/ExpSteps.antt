@@ -18,17 +18,17 @@ use Rattle.hume_ast.specs.declared.tree.Exp.TheVariants.{rolls-Let, rolls-If, ro
 use Rattle.hume_ast.specs.declared.tree.Exp.TheOpen.{Exp-F}
 use Rattle.hume_ast.specs.Depth.{exp_depth}
 use Rattle.hume_ast.specs.Places.{kinds}
-use Rattle.syntax_errors.specs.inner.Gives.{Fails}
+use Rattle.parse_errors.specs.inner.Gives.{Fails}
 use Rattle.hume_parse.specs.inner.Climbing.{operand_level}
 use Rattle.hume_parse.specs.inner.Parts.{let_parts, if_parts, case_parts, raise_parts, minus_parts, update_parts, other_parts, parens_parts, vect_parts, in_list, head_of, is_name, call_of, call_with, opens_form, opens_parts, too_deep, no_part, no_atom, plain_atom}
-use Rattle.syntax_errors.specs.declared.stop.Stop.{Stop}
+use Rattle.parse_errors.specs.declared.stop.Stop.{Stop}
 use Rattle.hume_parse.specs.declared.trees.Head.{Head}
 use Rattle.hume_parse.specs.declared.trees.Head.TheVariants.{Function, Constructor}
-use Rattle.token_readers.specs.inner.Readers.{Reader, Wrong, ◌>>=◌, next, behind, is_word, is_sign, made, both, closed, led, pick, many, cons, after, number_of}
-use Rattle.token_readers.specs.inner.Types.{types}
-use Rattle.token_readers.specs.inner.Patterns.{is_upper}
-use Rattle.token_readers.specs.inner.Expressions.{exps, expressions_with, at_level, with_operator, starts_atom, is_lower, is_number, update_of, exp_in_parens, parts_tail, cast_tail, app_of, con_exp_of, ExpReaders}
-use Rattle.syntax_errors.proofs.ReportedPlaces.{kinds_length}
+use Rattle.parse_readers.specs.inner.Readers.{Reader, Wrong, ◌>>=◌, next, behind, is_word, is_sign, made, both, closed, led, pick, many, cons, after, number_of}
+use Rattle.parse_readers.specs.inner.Types.{types}
+use Rattle.parse_readers.specs.inner.Patterns.{is_upper}
+use Rattle.parse_readers.specs.inner.Expressions.{exps, expressions_with, at_level, with_operator, starts_atom, is_lower, is_number, update_of, exp_in_parens, parts_tail, cast_tail, app_of, con_exp_of, ExpReaders}
+use Rattle.parse_errors.proofs.ReportedPlaces.{kinds_length}
 use Rattle.hume_parse.proofs.Loops.{made_twice, fails_on}
 
 -- where a test holds of the next token, and where a token would be too deep

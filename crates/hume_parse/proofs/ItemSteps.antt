@@ -7,11 +7,11 @@ use Rattle.hume_base.specs.declared.token.Kind.{Kind}
 use Rattle.hume_base.specs.declared.token.Token.{Token}
 use Rattle.hume_ast.specs.Places.{kinds}
 use Rattle.hume_parse.specs.inner.Items.{named, signed}
-use Rattle.token_readers.specs.inner.Readers.{made}
-use Rattle.token_readers.specs.inner.Declarations.{whole_decl}
-use Rattle.token_readers.specs.inner.Items.{Item as Line, Whole, Expecting as Place, Outside, Wanting, Within, signature_item as signature_line, equation_item as equation_line, behind_name, named_item as named_line, item as line}
-use Rattle.token_readers.proofs.ItemsRead.{spelled_item as spelled_line, item_reads as line_reads}
-use Rattle.syntax_errors.proofs.ReportedPlaces.{kinds_length}
+use Rattle.parse_readers.specs.inner.Readers.{made}
+use Rattle.parse_readers.specs.inner.Declarations.{whole_decl}
+use Rattle.parse_readers.specs.inner.Items.{Item as Line, Whole, Expecting as Place, Outside, Wanting, Within, signature_item as signature_line, equation_item as equation_line, behind_name, named_item as named_line, item as line}
+use Rattle.parse_readers.proofs.ItemsRead.{spelled_item as spelled_line, item_reads as line_reads}
+use Rattle.parse_errors.proofs.ReportedPlaces.{kinds_length}
 
 pub line_named : (place : Place) (ks : List Kind) → named place ks ≡ true → line MAX_DEPTH place ks ≡ named_line MAX_DEPTH place ks
 line_named Outside ks t = rw t

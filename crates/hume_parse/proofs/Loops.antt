@@ -4,12 +4,12 @@ use Rattle.std.specs.Prelude.{Result, Ok, Err}
 use Rattle.hume_base.specs.declared.symbol.Symbol.{Symbol}
 use Rattle.hume_base.specs.declared.token.Kind.{Kind}
 use Rattle.hume_base.specs.declared.token.Kind.TheVariants.{Sign}
-use Rattle.syntax_errors.specs.inner.Gives.{Fails}
-use Rattle.syntax_errors.specs.declared.stop.Stop.{Stop}
-use Rattle.syntax_errors.specs.declared.stop.Stop.TheVariants.{Memory, Syntax, Deep}
-use Rattle.token_readers.specs.inner.Readers.{Reader, Wrong, ◌>>=◌, next, behind, is_sign, made, many, led}
-use Rattle.token_readers.proofs.Local.{many_stop, many_turn}
-use Rattle.token_readers.proofs.Forms.{Reads, led_reads}
+use Rattle.parse_errors.specs.inner.Gives.{Fails}
+use Rattle.parse_errors.specs.declared.stop.Stop.{Stop}
+use Rattle.parse_errors.specs.declared.stop.Stop.TheVariants.{Memory, Syntax, Deep}
+use Rattle.parse_readers.specs.inner.Readers.{Reader, Wrong, ◌>>=◌, next, behind, is_sign, made, many, led}
+use Rattle.parse_readers.proofs.Local.{many_stop, many_turn}
+use Rattle.parse_readers.proofs.Forms.{Reads, led_reads}
 
 -- made twice is made once
 made_by : {A B C : Type 0} (r : Result (A × List Kind) Wrong) (f : A → B) (g : B → C) (h : A → C) → ((a : A) → g (f a) ≡ h a) → made g (made f (λ ks. r)) [] ≡ made h (λ ks. r) []

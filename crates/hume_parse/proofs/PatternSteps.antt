@@ -12,12 +12,12 @@ use Rattle.hume_ast.specs.declared.tree.Pat.TheVariants as tree
 use Rattle.hume_ast.specs.declared.tree.Pat.TheVariants.{rolls-Name, rolls-Any, rolls-Num, rolls-Letter, rolls-Truth, rolls-Con, rolls-Paren, rolls-Tuple, rolls-Star, rolls-AnyStar}
 use Rattle.hume_ast.specs.declared.tree.Pat.TheOpen.{Pat-F}
 use Rattle.hume_ast.specs.Places.{kinds}
-use Rattle.syntax_errors.specs.inner.Gives.{Fails}
+use Rattle.parse_errors.specs.inner.Gives.{Fails}
 use Rattle.hume_parse.specs.inner.Parts.{no_pattern}
-use Rattle.syntax_errors.specs.declared.stop.Stop.{Stop}
-use Rattle.token_readers.specs.inner.Readers.{Reader, Wrong, next, behind, is_word, is_sign, after, made, both, closed, give, pick, number_of, many, led}
-use Rattle.token_readers.specs.inner.Patterns.{patterns, pat_leaf, is_upper, con_pat, pat_in_parens, input_pattern}
-use Rattle.syntax_errors.proofs.ReportedPlaces.{kinds_length}
+use Rattle.parse_errors.specs.declared.stop.Stop.{Stop}
+use Rattle.parse_readers.specs.inner.Readers.{Reader, Wrong, next, behind, is_word, is_sign, after, made, both, closed, give, pick, number_of, many, led}
+use Rattle.parse_readers.specs.inner.Patterns.{patterns, pat_leaf, is_upper, con_pat, pat_in_parens, input_pattern}
+use Rattle.parse_errors.proofs.ReportedPlaces.{kinds_length}
 use Rattle.hume_parse.proofs.Loops.{made_twice, fails_on}
 
 pub pat_zero : (n : ℕ) (ks : List Kind) → n ≡ 0 → (patterns n).atom ks ≡ no_pattern ks

@@ -13,20 +13,20 @@ use Rattle.hume_ast.specs.declared.tree.Decl.{Decl}
 use Rattle.hume_ast.specs.declared.tree.Decl.TheVariants.{Fun}
 use Rattle.hume_ast.specs.Spelling.{spelled_equation, spelled_decl, separated, spelled_ty, beside}
 use Rattle.hume_ast.specs.Places.{unplaced, placed, first_place}
-use Rattle.syntax_errors.specs.declared.stop.Stop.{Stop}
-use Rattle.gathered_declarations.specs.declared.progress.OpenFunction.{OpenFunction}
-use Rattle.gathered_declarations.specs.declared.progress.Progress.{Progress}
+use Rattle.parse_errors.specs.declared.stop.Stop.{Stop}
+use Rattle.parse_items.specs.declared.progress.OpenFunction.{OpenFunction}
+use Rattle.parse_items.specs.declared.progress.Progress.{Progress}
 use Rattle.hume_ast.specs.Places.{kinds}
-use Rattle.syntax_errors.specs.inner.Gives.{Fails}
-use Rattle.gathered_declarations.specs.inner.Items.{wants}
-use Rattle.gathered_declarations.specs.inner.Progress.{place_with, place_behind, as_decl, closed, with_equation, took}
-use Rattle.token_readers.specs.inner.Readers.{Wrong, ◌>>=◌}
-use Rattle.token_readers.specs.inner.Items.{Item as Line, Whole, Signature, Equation, Expecting as Place, Outside, Wanting, Within, expecting_after as place_after, no_items as no_lines, item as line, items as lines}
-use Rattle.token_readers.specs.inner.Programs.{Gathered, with_line, gathered, program}
-use Rattle.token_readers.proofs.ItemsRead.{spelled_item as spelled_line, MayStand, item_reads as line_reads}
-use Rattle.token_readers.proofs.AllItemsRead.{items_end as lines_end, items_turn as lines_turn}
-use Rattle.token_readers.proofs.ProgramsRead.{all_tokens}
-use Rattle.syntax_errors.proofs.ReportedPlaces.{kinds_length}
+use Rattle.parse_errors.specs.inner.Gives.{Fails}
+use Rattle.parse_items.specs.inner.Items.{wants}
+use Rattle.parse_items.specs.inner.Progress.{place_with, place_behind, as_decl, closed, with_equation, took}
+use Rattle.parse_readers.specs.inner.Readers.{Wrong, ◌>>=◌}
+use Rattle.parse_readers.specs.inner.Items.{Item as Line, Whole, Signature, Equation, Expecting as Place, Outside, Wanting, Within, expecting_after as place_after, no_items as no_lines, item as line, items as lines}
+use Rattle.parse_readers.specs.inner.Programs.{Gathered, with_line, gathered, program}
+use Rattle.parse_readers.proofs.ItemsRead.{spelled_item as spelled_line, MayStand, item_reads as line_reads}
+use Rattle.parse_readers.proofs.AllItemsRead.{items_end as lines_end, items_turn as lines_turn}
+use Rattle.parse_readers.proofs.ProgramsRead.{all_tokens}
+use Rattle.parse_errors.proofs.ReportedPlaces.{kinds_length}
 use Rattle.hume_parse.proofs.Loops.{fails_on}
 
 abbrev Equations : Type 0

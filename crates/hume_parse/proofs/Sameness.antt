@@ -4,8 +4,8 @@ use Rattle.std.specs.Prelude.{◌↔◌, IsTrue}
 use Rattle.std.proofs.lemmas.Bool.{cases_Bool}
 use Rattle.hume_base.specs.declared.keyword.Keyword.{Keyword}
 use Rattle.hume_base.specs.declared.symbol.Symbol.{Symbol}
-use Rattle.token_readers.specs.inner.Readers.{same_symbol, same_keyword}
-use Rattle.token_readers.proofs.TokensApart.{same_symbol-true, same_keyword-true, same_symbol-refl, same_keyword-refl}
+use Rattle.parse_readers.specs.inner.Readers.{same_symbol, same_keyword}
+use Rattle.parse_readers.proofs.TokensApart.{same_symbol-true, same_keyword-true, same_symbol-refl, same_keyword-refl}
 
 decided : {A : Type 0} (same : A → A → Bool) (a b : A) → ((x y : A) → same x y ≡ true → x ≡ y) → ((x : A) → same x x ≡ true) → (r : Bool) → (IsTrue r ↔ (a ≡ b)) → r ≡ same a b
 decided same a b holds is true h = let e : a ≡ b = h.0 refl in sym (is a) ∙ ap (same a) e

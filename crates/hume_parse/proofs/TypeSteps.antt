@@ -12,9 +12,9 @@ use Rattle.hume_ast.specs.declared.tree.TyExp.TheVariants as tree
 use Rattle.hume_ast.specs.declared.tree.TyExp.TheVariants.{rolls-Bool, rolls-Char, rolls-Int, rolls-Nat, rolls-Vector, rolls-Named, rolls-Tuple}
 use Rattle.hume_ast.specs.declared.tree.TyExp.TheOpen.{TyExp-F}
 use Rattle.hume_ast.specs.Places.{kinds}
-use Rattle.token_readers.specs.inner.Readers.{◌>>=◌, next, behind, is_word, is_sign, made, both, closed, pick, number_of, upper_name, several}
-use Rattle.token_readers.specs.inner.Types.{types, vector_of}
-use Rattle.syntax_errors.proofs.ReportedPlaces.{kinds_length}
+use Rattle.parse_readers.specs.inner.Readers.{◌>>=◌, next, behind, is_word, is_sign, made, both, closed, pick, number_of, upper_name, several}
+use Rattle.parse_readers.specs.inner.Types.{types, vector_of}
+use Rattle.parse_errors.proofs.ReportedPlaces.{kinds_length}
 use Rattle.hume_parse.proofs.Loops.{made_twice}
 
 pub type_bool : (n : ℕ) (ks : List Kind) → 0 < n → next (is_word word.Bool) ks ≡ true → types n ks ≡ Ok (tree.Bool, behind ks)

@@ -3,13 +3,13 @@ ghost use Rattle.hume_base.specs.declared.symbol.Symbol.TheVariants.{Comma, Bar}
 ghost use Rattle.hume_base.specs.declared.keyword.Keyword.TheVariants.{In};
 ghost use Rattle.hume_base.specs.declared.token.Kind.TheVariants.{Word, Sign};
 ghost use Rattle.hume_ast.specs.Places.{kinds};
-ghost use Rattle.syntax_errors.specs.inner.Gives.{Gives};
-ghost use Rattle.token_readers.specs.inner.Readers.{made, both, closed, listed, maybe, pick, lower_name};
-ghost use Rattle.token_readers.specs.inner.Patterns.{input_pattern as input};
-ghost use Rattle.token_readers.specs.inner.Declarations.{box_of, sides as sides_read, side as ports_read, typed_name as port_read};
-ghost use Rattle.token_readers.specs.inner.Declarations.{rules as rules_read, order as order_read, in_commas, rule as rule_read};
-ghost use Rattle.token_readers.specs.inner.Declarations.{handlers as handlers_read, handler as handler_read};
-ghost use Rattle.token_readers.specs.inner.Declarations.{is_carried, carried_pat};
+ghost use Rattle.parse_errors.specs.inner.Gives.{Gives};
+ghost use Rattle.parse_readers.specs.inner.Readers.{made, both, closed, listed, maybe, pick, lower_name};
+ghost use Rattle.parse_readers.specs.inner.Patterns.{input_pattern as input};
+ghost use Rattle.parse_readers.specs.inner.Declarations.{box_of, sides as sides_read, side as ports_read, typed_name as port_read};
+ghost use Rattle.parse_readers.specs.inner.Declarations.{rules as rules_read, order as order_read, in_commas, rule as rule_read};
+ghost use Rattle.parse_readers.specs.inner.Declarations.{handlers as handlers_read, handler as handler_read};
+ghost use Rattle.parse_readers.specs.inner.Declarations.{is_carried, carried_pat};
 
 use crate::expressions::expression;
 use crate::patterns::input_pattern;
@@ -18,8 +18,8 @@ use crate::types::ty;
 use hume_ast::{Decl, Exp, Pat, TyExp};
 use hume_base::limits::MAX_DEPTH;
 use hume_base::{Keyword, Kind, List, Symbol, Text, Token};
+use parse_errors::Stop;
 use std::alloc::Global;
-use syntax_errors::Stop;
 
 /// The inputs and the outputs of a box.
 #[derive(Drop)]

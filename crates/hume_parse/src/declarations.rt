@@ -3,14 +3,14 @@ ghost use Rattle.hume_base.specs.declared.symbol.Symbol.TheVariants.{Equals, Bar
 ghost use Rattle.hume_base.specs.declared.keyword.Keyword.TheVariants.{To};
 ghost use Rattle.hume_base.specs.declared.token.Kind.TheVariants.{Word, Sign};
 ghost use Rattle.hume_ast.specs.Places.{kinds};
-ghost use Rattle.syntax_errors.specs.inner.Gives.{Gives};
-ghost use Rattle.token_readers.specs.inner.Readers.{made, both, closed, listed, many, maybe, next};
-ghost use Rattle.token_readers.specs.inner.Readers.{pick, lower_name, upper_name, port_name};
-ghost use Rattle.token_readers.specs.inner.Types.{types};
-ghost use Rattle.token_readers.specs.inner.Declarations.{whole_decl as decl_read, sum_of, exn_of, stream_of, wire_of};
-ghost use Rattle.token_readers.specs.inner.Declarations.{constructor as constructor_read, starts_type as type_starts};
-ghost use Rattle.token_readers.specs.inner.Declarations.{way as way_read, wire_end as end_read, wire_depth as depth_read};
-ghost use Rattle.token_readers.specs.inner.Declarations.{first_value as first_read};
+ghost use Rattle.parse_errors.specs.inner.Gives.{Gives};
+ghost use Rattle.parse_readers.specs.inner.Readers.{made, both, closed, listed, many, maybe, next};
+ghost use Rattle.parse_readers.specs.inner.Readers.{pick, lower_name, upper_name, port_name};
+ghost use Rattle.parse_readers.specs.inner.Types.{types};
+ghost use Rattle.parse_readers.specs.inner.Declarations.{whole_decl as decl_read, sum_of, exn_of, stream_of, wire_of};
+ghost use Rattle.parse_readers.specs.inner.Declarations.{constructor as constructor_read, starts_type as type_starts};
+ghost use Rattle.parse_readers.specs.inner.Declarations.{way as way_read, wire_end as end_read, wire_depth as depth_read};
+ghost use Rattle.parse_readers.specs.inner.Declarations.{first_value as first_read};
 
 use crate::boxes::box_decl;
 use crate::expressions::expression;
@@ -21,8 +21,8 @@ use crate::types::ty;
 use hume_ast::{Decl, Exp, TyExp};
 use hume_base::limits::MAX_DEPTH;
 use hume_base::{Keyword, Kind, List, Symbol, Text, Token};
+use parse_errors::Stop;
 use std::alloc::Global;
-use syntax_errors::Stop;
 
 /// A declaration of anything but a function from the front of the tokens.
 #[tactic(auto, using(crate::proofs::DeclSteps::whole_steps))]

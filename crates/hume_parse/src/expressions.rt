@@ -5,11 +5,11 @@ ghost use Rattle.hume_ast.specs.declared.tree.Exp.{roll-Exp, out-Exp};
 ghost use Rattle.hume_ast.specs.Fits.{op_level as level_of};
 ghost use Rattle.hume_ast.specs.Places.{kinds};
 ghost use Rattle.hume_parse.specs.inner.Climbing.{operand_level};
-ghost use Rattle.syntax_errors.specs.inner.Gives.{Gives};
+ghost use Rattle.parse_errors.specs.inner.Gives.{Gives};
 ghost use Rattle.hume_parse.specs.inner.Parts.{let_parts, if_parts, case_parts, case_alternatives, raise_parts, update_parts, other_parts, minus_parts, parens_parts, vect_parts};
-ghost use Rattle.token_readers.specs.inner.Readers.{made, closed, many};
-ghost use Rattle.token_readers.specs.inner.Patterns.{patterns};
-ghost use Rattle.token_readers.specs.inner.Expressions.{exps, at_level, alternative as alternative_read, starts_atom as atom_starts, with_operator};
+ghost use Rattle.parse_readers.specs.inner.Readers.{made, closed, many};
+ghost use Rattle.parse_readers.specs.inner.Patterns.{patterns};
+ghost use Rattle.parse_readers.specs.inner.Expressions.{exps, at_level, alternative as alternative_read, starts_atom as atom_starts, with_operator};
 
 use crate::leaves::{
     atom_stop, closed_type, head, name_and_equals, negative_number, part_stop, pattern_and_arrow,
@@ -29,8 +29,8 @@ use crate::trees::{
 use hume_ast::{BinOp, Exp, Pat};
 use hume_base::limits::MAX_DEPTH;
 use hume_base::{Keyword, Symbol, Token};
+use parse_errors::Stop;
 use std::alloc::Global;
-use syntax_errors::Stop;
 
 /// An expression from the front of the tokens.
 pub fn expression(alloc: Global, rest: &[Token]) -> Result<(Exp, &[Token]), Stop>

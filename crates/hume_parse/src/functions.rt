@@ -1,8 +1,8 @@
 ghost use Rattle.std.specs.Prelude.{◌≡◌, ◌<◌, length, IfOk};
 ghost use Rattle.hume_ast.specs.Places.{kinds};
-ghost use Rattle.syntax_errors.specs.inner.Gives.{Gives};
-ghost use Rattle.token_readers.specs.inner.Declarations.{signature as signature_read, equation as equation_read};
-ghost use Rattle.token_readers.specs.inner.Declarations.{some_patterns as patterns_read};
+ghost use Rattle.parse_errors.specs.inner.Gives.{Gives};
+ghost use Rattle.parse_readers.specs.inner.Declarations.{signature as signature_read, equation as equation_read};
+ghost use Rattle.parse_readers.specs.inner.Declarations.{some_patterns as patterns_read};
 
 use crate::expressions::expression;
 use crate::patterns::{pat_atom, starts_pat};
@@ -11,8 +11,8 @@ use crate::types::{ty, type_list};
 use hume_ast::{Exp, Pat, TyExp};
 use hume_base::limits::MAX_DEPTH;
 use hume_base::{List, Symbol, Token};
+use parse_errors::Stop;
 use std::alloc::Global;
-use syntax_errors::Stop;
 
 /// The types of a function, behind its name.
 pub fn signature(alloc: Global, rest: &[Token]) -> Result<(List<TyExp>, &[Token]), Stop>

@@ -1,18 +1,18 @@
 ghost use Rattle.std.specs.Prelude.{◌≡◌, ◌-◌, ◌<◌, drop, length, IfOk};
 ghost use Rattle.hume_ast.specs.Places.{kinds};
-ghost use Rattle.syntax_errors.specs.inner.Gives.{Gives};
-ghost use Rattle.gathered_declarations.specs.inner.Items.{seen_item, seen_expecting};
+ghost use Rattle.parse_errors.specs.inner.Gives.{Gives};
+ghost use Rattle.parse_items.specs.inner.Items.{seen_item, seen_expecting};
 ghost use Rattle.hume_parse.specs.inner.Items.{named, signed};
-ghost use Rattle.token_readers.specs.inner.Items.{item as line, named_item as named_read};
+ghost use Rattle.parse_readers.specs.inner.Items.{item as line, named_item as named_read};
 
 use crate::declarations::whole_decl;
 use crate::functions::{equation, signature};
 use crate::tokens::{lower, next_is_lower, next_is_sign};
-use gathered_declarations::{Expecting, Item};
 use hume_base::limits::MAX_DEPTH;
 use hume_base::{Symbol, Token};
+use parse_errors::Stop;
+use parse_items::{Expecting, Item};
 use std::alloc::Global;
-use syntax_errors::Stop;
 
 /// The item that stands here, and the end of the tokens behind it.
 pub fn cut_item(

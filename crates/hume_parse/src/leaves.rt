@@ -5,11 +5,11 @@ ghost use Rattle.hume_base.specs.declared.token.Kind.TheVariants.{Sign};
 ghost use Rattle.hume_ast.specs.declared.tree.Exp.TheVariants.{Num as NumTree};
 ghost use Rattle.hume_ast.specs.Depth.{exp_depth};
 ghost use Rattle.hume_ast.specs.Places.{kinds};
-ghost use Rattle.syntax_errors.specs.inner.Gives.{Gives, Fails};
+ghost use Rattle.parse_errors.specs.inner.Gives.{Gives, Fails};
 ghost use Rattle.hume_parse.specs.inner.Parts.{head_of, no_atom, no_part, plain_atom as plain_read};
-ghost use Rattle.token_readers.specs.inner.Readers.{made, closed, pick, lower_name, number_of};
-ghost use Rattle.token_readers.specs.inner.Types.{types};
-ghost use Rattle.token_readers.specs.inner.Patterns.{patterns};
+ghost use Rattle.parse_readers.specs.inner.Readers.{made, closed, pick, lower_name, number_of};
+ghost use Rattle.parse_readers.specs.inner.Types.{types};
+ghost use Rattle.parse_readers.specs.inner.Patterns.{patterns};
 
 use crate::operators::{begins_part, starts_atom};
 use crate::patterns::pattern;
@@ -19,8 +19,8 @@ use crate::types::ty;
 use hume_ast::{Exp, Pat, TyExp};
 use hume_base::limits::MAX_DEPTH;
 use hume_base::{Keyword, Kind, List, Symbol, Text, Token};
+use parse_errors::Stop;
 use std::alloc::Global;
-use syntax_errors::Stop;
 
 /// A name and `=`.
 pub fn name_and_equals(rest: &[Token]) -> Result<(Text, &[Token]), Stop>

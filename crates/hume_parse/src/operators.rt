@@ -1,8 +1,8 @@
 ghost use Rattle.std.specs.Prelude.{◌≡◌, ◌+◌, ◌<◌, ◌≤◌, length, IfSome, IsTrue};
 ghost use Rattle.hume_ast.specs.Fits.{op_level as level_of_op};
 ghost use Rattle.hume_ast.specs.Places.{kinds};
-ghost use Rattle.token_readers.specs.inner.Readers.{next};
-ghost use Rattle.token_readers.specs.inner.Expressions.{operator_of as operator_said, starts_atom as atom_starts, begins_part as part_begins};
+ghost use Rattle.parse_readers.specs.inner.Readers.{next};
+ghost use Rattle.parse_readers.specs.inner.Expressions.{operator_of as operator_said, starts_atom as atom_starts, begins_part as part_begins};
 ghost use Rattle.hume_parse.specs.inner.Climbing.{operator_within, within, limit_behind as limit, operand_level};
 ghost use Rattle.hume_parse.specs.inner.Parts.{opens_form as form_opens, opens_parts as parts_open, too_deep};
 

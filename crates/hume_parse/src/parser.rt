@@ -1,13 +1,13 @@
 ghost use Rattle.std.specs.Prelude.{◌≡◌, ◌⊎◌, IfOk, IfErr, MatchResult};
 ghost use Rattle.hume_ast.specs.declared.tree.Program.{Program as ProgramTree};
 ghost use Rattle.hume_ast.specs.Places.{StandsFor};
-ghost use Rattle.syntax_errors.specs.WrongTokens.{IsWrongPlace};
+ghost use Rattle.parse_errors.specs.WrongTokens.{IsWrongPlace};
 
 use crate::program::program;
 use hume_ast::Program;
 use hume_base::Token;
+use parse_errors::{ParseError, reported};
 use std::alloc::Global;
-use syntax_errors::{ParseError, reported};
 
 /// The program that the tokens of a source stand for. `end` is the place of an early end: the length of the source.
 pub fn parse(alloc: Global, tokens: &[Token], end: u32) -> Result<Program, ParseError>

@@ -3,16 +3,16 @@ ghost use Rattle.hume_base.specs.declared.symbol.Symbol.TheVariants.{CloseParen,
 ghost use Rattle.hume_base.specs.declared.token.Kind.TheVariants.{Sign};
 ghost use Rattle.hume_ast.specs.declared.tree.Pat.{roll-Pat};
 ghost use Rattle.hume_ast.specs.Places.{kinds};
-ghost use Rattle.syntax_errors.specs.inner.Gives.{Gives, Fails};
+ghost use Rattle.parse_errors.specs.inner.Gives.{Gives, Fails};
 ghost use Rattle.hume_parse.specs.inner.Parts.{no_pattern};
-ghost use Rattle.token_readers.specs.inner.Readers.{next, is_sign, led, made, both, closed, many, pick};
-ghost use Rattle.token_readers.specs.inner.Patterns.{patterns, pat_leaf as leaf_said, starts_pat as pat_starts, con_pat, pat_in_parens, input_pattern as input};
+ghost use Rattle.parse_readers.specs.inner.Readers.{next, is_sign, led, made, both, closed, many, pick};
+ghost use Rattle.parse_readers.specs.inner.Patterns.{patterns, pat_leaf as leaf_said, starts_pat as pat_starts, con_pat, pat_in_parens, input_pattern as input};
 
 use crate::tokens::{after_sign, behind, next_is_sign, next_is_upper, next_is_word, number, upper};
 use hume_ast::Pat;
 use hume_base::{Box, Keyword, Kind, List, Symbol, Token};
+use parse_errors::Stop;
 use std::alloc::{AllocError, Global};
-use syntax_errors::Stop;
 
 /// What stands at an input of a box, at most so deep.
 #[tactic(auto, using(crate::proofs::PatternSteps::input_steps))]

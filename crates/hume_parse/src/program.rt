@@ -1,16 +1,16 @@
 ghost use Rattle.std.specs.Prelude.{◌≡◌, [], IfOk};
 ghost use Rattle.hume_ast.specs.Places.{unplaced, placed, first_place as place_of_first};
 ghost use Rattle.hume_ast.specs.Places.{kinds};
-ghost use Rattle.syntax_errors.specs.inner.Gives.{Gives};
-ghost use Rattle.token_readers.specs.inner.Programs.{program as program_read};
+ghost use Rattle.parse_errors.specs.inner.Gives.{Gives};
+ghost use Rattle.parse_readers.specs.inner.Programs.{program as program_read};
 
 use crate::items::cut_item;
-use gathered_declarations::Progress;
 use hume_ast::Decl;
 use hume_base::limits::MAX_DEPTH;
 use hume_base::{List, Token};
+use parse_errors::Stop;
+use parse_items::Progress;
 use std::alloc::Global;
-use syntax_errors::Stop;
 
 /// The declarations that the tokens stand for, each with the place of its first token.
 pub fn program(alloc: Global, tokens: &[Token]) -> Result<List<(u32, Decl)>, Stop>

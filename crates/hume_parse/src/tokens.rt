@@ -1,14 +1,14 @@
 ghost use Rattle.std.specs.Prelude.{◌≡◌, ◌<◌, length, IfOk, IsTrue};
 ghost use Rattle.hume_base.specs.declared.token.Kind.TheVariants.{Word, Sign};
 ghost use Rattle.hume_ast.specs.Places.{kinds};
-ghost use Rattle.syntax_errors.specs.inner.Gives.{Gives};
+ghost use Rattle.parse_errors.specs.inner.Gives.{Gives};
 ghost use Rattle.hume_parse.specs.inner.Parts.{is_name};
-ghost use Rattle.token_readers.specs.inner.Readers.{next, is_sign, is_word, behind as passed, after, pick, lower_name, upper_name, number_of, port_name};
-ghost use Rattle.token_readers.specs.inner.Patterns.{is_upper};
-ghost use Rattle.token_readers.specs.inner.Expressions.{is_lower, is_number};
+ghost use Rattle.parse_readers.specs.inner.Readers.{next, is_sign, is_word, behind as passed, after, pick, lower_name, upper_name, number_of, port_name};
+ghost use Rattle.parse_readers.specs.inner.Patterns.{is_upper};
+ghost use Rattle.parse_readers.specs.inner.Expressions.{is_lower, is_number};
 
 use hume_base::{Keyword, Kind, Symbol, Text, Token};
-use syntax_errors::Stop;
+use parse_errors::Stop;
 
 #[tactic(auto, using(crate::proofs::Sameness::same_symbols))]
 pub fn next_is_sign(rest: &[Token], symbol: Symbol) -> bool

@@ -5,15 +5,15 @@ ghost use Rattle.hume_base.specs.declared.token.Kind.TheVariants.{Word, Sign};
 ghost use Rattle.hume_ast.specs.declared.tree.TyExp.TheOpen.{TyExp-F};
 ghost use Rattle.hume_ast.specs.declared.tree.TyExp.{roll-TyExp};
 ghost use Rattle.hume_ast.specs.Places.{kinds};
-ghost use Rattle.syntax_errors.specs.inner.Gives.{Gives};
-ghost use Rattle.token_readers.specs.inner.Readers.{made, both, closed, pick, number_of, several, listed};
-ghost use Rattle.token_readers.specs.inner.Types.{types, vector_of};
+ghost use Rattle.parse_errors.specs.inner.Gives.{Gives};
+ghost use Rattle.parse_readers.specs.inner.Readers.{made, both, closed, pick, number_of, several, listed};
+ghost use Rattle.parse_readers.specs.inner.Types.{types, vector_of};
 
 use crate::tokens::{after_sign, after_word, behind, next_is_sign, next_is_word, number, upper};
 use hume_ast::TyExp;
 use hume_base::{Box, Keyword, List, Symbol, Token};
+use parse_errors::Stop;
 use std::alloc::Global;
-use syntax_errors::Stop;
 
 /// A type from the front of the tokens, at most so deep.
 #[cycle(types)]

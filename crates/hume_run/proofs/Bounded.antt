@@ -11,8 +11,8 @@ use Rattle.net_costs.specs.Steps.{step_spent}
 use Rattle.net_costs.proofs.StepBounds.{lockstep_within}
 use Rattle.hume_front.specs.declared.acceptance.Accepted.{Accepted}
 use Rattle.hume_front.specs.Accepted.{IsAccepted}
-use Rattle.core_runs.specs.Inputs.{Inputs, AreInputs}
-use Rattle.core_runs.proofs.TypedInputs.{inputs_typed}
+use Rattle.run_rounds.specs.Inputs.{Inputs, AreInputs}
+use Rattle.run_rounds.proofs.TypedInputs.{inputs_typed}
 use Rattle.hume_run.proofs.Runnable.{runnable}
 
 pub run_within : (text : List ℕ) (accepted : Accepted) → IsAccepted text accepted → (texts : List ℕ → List ℕ) (coming : Inputs) → AreInputs accepted.core texts coming

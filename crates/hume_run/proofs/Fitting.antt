@@ -13,9 +13,9 @@ use Rattle.hume_model.specs.declared.core_tree.NodeC.TheVariants.{Rules, From, T
 use Rattle.hume_model.specs.declared.core_tree.StreamC.{StreamC}
 use Rattle.hume_ports.specs.Ports.{is_among, place_of}
 use Rattle.hume_ports.proofs.Names.{bytes_eq-self, bytes_eq-swap, same_name}
-use Rattle.gathered_writes.specs.Places.{IsPlaceOf}
+use Rattle.hume_streams.specs.writes.Places.{IsPlaceOf}
 use Rattle.hume_model.specs.declared.core_tree.Core.{Core}
-use Rattle.core_runs.specs.Streams.{ArePlacesOf, ArePortsApart, ports_of, stream_of}
+use Rattle.run_rounds.specs.Streams.{ArePlacesOf, ArePortsApart, ports_of, stream_of}
 use Rattle.hume_run.specs.Streams.{is_unfit, unfit_line}
 use Rattle.hume_run.specs.inner.FoundPlaces.{IsFitAt, is_port_of}
 use Rattle.hume_run.proofs.FitPorts.{found_place}

@@ -14,10 +14,10 @@ use Rattle.hume_ports.specs.Delivery.{Pairs, Progress, bytes_for}
 use Rattle.hume_ports.proofs.Names.{same_name}
 use Rattle.hume_streams.specs.Good.{IsGoodUntil}
 use Rattle.hume_streams.specs.Lines.{whole_lines}
-use Rattle.net_engine.specs.StreamTypes.{type_at}
-use Rattle.core_runs.specs.Inputs.{Inputs}
-use Rattle.core_runs.specs.Runs.{HasTooFew}
-use Rattle.core_runs.specs.Streams.{input_of, inputs, ports_of, stream_of, streams}
+use Rattle.run_rounds.specs.engine.StreamTypes.{type_at}
+use Rattle.run_rounds.specs.Inputs.{Inputs}
+use Rattle.run_rounds.specs.Runs.{HasTooFew}
+use Rattle.run_rounds.specs.Streams.{input_of, inputs, ports_of, stream_of, streams}
 use Rattle.hume_run.specs.declared.order.Order.{Order}
 use Rattle.hume_run.specs.declared.order.Order.TheVariants.{Run, Check}
 use Rattle.hume_run.specs.Streams.{is_unfit, unfit_line}

@@ -8,10 +8,10 @@ use Rattle.hume_front.specs.Accepted.{IsAccepted}
 use Rattle.hume_front.proofs.OneRefusal.{one_refusal, accepted_unbroken}
 use Rattle.hume_front.proofs.Sources.{one_accepted_core}
 use Rattle.hume_front.proofs.SomeAnswer as front
-use Rattle.core_runs.specs.Streams.{streams}
-use Rattle.core_runs.specs.Inputs.{AreInputs}
-use Rattle.core_runs.proofs.RunEnds.{has_inputs}
-use Rattle.core_runs.proofs.OneInputs.{one_inputs}
+use Rattle.run_rounds.specs.Streams.{streams}
+use Rattle.run_rounds.specs.Inputs.{AreInputs}
+use Rattle.run_rounds.proofs.RunEnds.{has_inputs}
+use Rattle.run_rounds.proofs.OneInputs.{one_inputs}
 use Rattle.hume_run.specs.declared.order.Order.{Order}
 use Rattle.hume_run.specs.declared.order.Order.TheVariants.{Run, Check}
 use Rattle.hume_run.specs.Streams.{unfit_line}

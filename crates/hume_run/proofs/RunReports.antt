@@ -14,20 +14,20 @@ use Rattle.hume_model.specs.declared.core_tree.Core.{Core}
 use Rattle.hume_ports.specs.Port.{PortView}
 use Rattle.hume_ports.specs.Ports.{names, is_among, other_names}
 use Rattle.hume_ports.proofs.Names.{bytes_eq-self, is_among-other_names, same_name}
-use Rattle.gathered_writes.specs.Gathered.{pairs_of, writes_of}
-use Rattle.gathered_writes.specs.Places.{IsPlace, IsPlaceOf, name_at}
+use Rattle.hume_streams.specs.writes.Gathered.{pairs_of, writes_of}
+use Rattle.hume_streams.specs.writes.Places.{IsPlace, IsPlaceOf, name_at}
 use Rattle.hume_run.specs.inner.Places.{names_at}
-use Rattle.core_runs.specs.declared.rounds.TheConstants.{SPAN}
-use Rattle.core_runs.specs.declared.run.RunEnd.{RunEnd}
-use Rattle.core_runs.specs.declared.run.RunError.{RunError}
-use Rattle.core_runs.specs.Runs.{EndsRun, RunsTo}
-use Rattle.core_runs.specs.Streams.{ArePlacesOf, output_of, outputs, ports_of, std_out}
-use Rattle.core_runs.specs.Writes.{blocked_round}
-use Rattle.core_runs.specs.Destinations.{GoToOutputsOr, IsOutputPlace}
+use Rattle.run_rounds.specs.declared.rounds.TheConstants.{SPAN}
+use Rattle.run_rounds.specs.declared.run.RunEnd.{RunEnd}
+use Rattle.run_rounds.specs.declared.run.RunError.{RunError}
+use Rattle.run_rounds.specs.Runs.{EndsRun, RunsTo}
+use Rattle.run_rounds.specs.Streams.{ArePlacesOf, output_of, outputs, ports_of, std_out}
+use Rattle.run_rounds.specs.Writes.{blocked_round}
+use Rattle.run_rounds.specs.Destinations.{GoToOutputsOr, IsOutputPlace}
 use Rattle.hume_run.specs.declared.report.Report.{Report}
 use Rattle.hume_run.specs.declared.status.Status.{Status}
 use Rattle.hume_run.specs.Statuses.{IsAnswer}
-use Rattle.gathered_writes.specs.declared.writes.Writes.{Writes}
+use Rattle.hume_streams.specs.declared.writes.writes.Writes.{Writes}
 use Rattle.hume_run.specs.Owed.{run_finishes, run_status, table_writes}
 use Rattle.hume_run.specs.inner.CoreRuns.{end_status, owed_outputs}
 use Rattle.hume_run.specs.inner.Reports.{IsReport, all_writes}

@@ -3,10 +3,10 @@ use Rattle.std.proofs.Common.{ℕ, List}
 use Rattle.hume_front.specs.Accepted.{IsAccepted}
 use Rattle.hume_front.specs.declared.acceptance.Accepted.{Accepted}
 use Rattle.hume_front.proofs.Sources.{fine_check, formed, wired, within}
-use Rattle.net_engine.specs.Runnable.{IsRunnable}
+use Rattle.run_rounds.specs.engine.Runnable.{IsRunnable}
 use Rattle.hume_run.specs.inner.Bounds.{KeepsBounds}
-use Rattle.printable_cores.proofs.NamedConstructors.{have_names}
-use Rattle.printable_cores.proofs.Printable.{printable}
+use Rattle.hume_front.proofs.printable_lemmas.NamedConstructors.{have_names}
+use Rattle.hume_front.proofs.printable_lemmas.Printable.{printable}
 
 pub runnable : (text : List ℕ) (accepted : Accepted) → IsAccepted text accepted → IsRunnable accepted.core
 runnable text accepted h =

@@ -15,11 +15,11 @@ use Rattle.hume_ports.proofs.Rooms.{Roomy-nothing, Roomy-on}
 use Rattle.hume_ports.proofs.Untouched.{Within, Untouched-more, Untouched-start, Untouched-on, of_first-untouched}
 use Rattle.hume_front.specs.declared.acceptance.Accepted.{Accepted}
 use Rattle.hume_front.specs.Accepted.{IsAccepted, Breaks}
-use Rattle.gathered_writes.specs.Places.{IsPlaceOf}
-use Rattle.core_runs.specs.declared.rounds.TheConstants.{SPAN}
-use Rattle.core_runs.specs.Inputs.{Inputs, AreInputs}
-use Rattle.core_runs.specs.Runs.{FailsToRead, ReadsSome, RunsTo}
-use Rattle.core_runs.specs.Streams.{inputs, ports_of, streams}
+use Rattle.hume_streams.specs.writes.Places.{IsPlaceOf}
+use Rattle.run_rounds.specs.declared.rounds.TheConstants.{SPAN}
+use Rattle.run_rounds.specs.Inputs.{Inputs, AreInputs}
+use Rattle.run_rounds.specs.Runs.{FailsToRead, ReadsSome, RunsTo}
+use Rattle.run_rounds.specs.Streams.{inputs, ports_of, streams}
 use Rattle.hume_run.specs.declared.status.Status.{Status}
 use Rattle.hume_run.specs.declared.status.Status.TheVariants.{Fault, NoMemory}
 use Rattle.hume_run.specs.declared.order.Order.{Order}

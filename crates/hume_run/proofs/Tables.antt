@@ -7,11 +7,11 @@ use Rattle.hume_model.specs.declared.core_tree.Core.{Core}
 use Rattle.hume_ports.specs.Ports.{is_among}
 use Rattle.hume_ports.specs.Delivery.{Pairs}
 use Rattle.hume_ports.proofs.Names.{bytes_eq-self}
-use Rattle.gathered_writes.specs.Gathered.{pairs_of, writes_of}
-use Rattle.gathered_writes.specs.declared.writes.Writes.{Writes}
-use Rattle.gathered_writes.specs.Places.{IsPlace, IsPlaceOf, name_at}
-use Rattle.core_runs.specs.Streams.{std_out}
-use Rattle.space_table.specs.Table.{space_table}
+use Rattle.hume_streams.specs.writes.Gathered.{pairs_of, writes_of}
+use Rattle.hume_streams.specs.declared.writes.writes.Writes.{Writes}
+use Rattle.hume_streams.specs.writes.Places.{IsPlace, IsPlaceOf, name_at}
+use Rattle.run_rounds.specs.Streams.{std_out}
+use Rattle.trace_print.specs.table.Table.{space_table}
 use Rattle.hume_run.specs.declared.status.Status.TheVariants.{Done}
 use Rattle.hume_run.specs.Owed.{owed_accepted, table_writes}
 use Rattle.hume_run.specs.inner.Places.{names_at}

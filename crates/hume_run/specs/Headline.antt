@@ -11,10 +11,10 @@ use Rattle.hume_run.specs.declared.status.Status.TheVariants.{Usage, Fault, NoMe
 use Rattle.hume_run.specs.Statuses.{IsAnswer}
 use Rattle.hume_run.specs.declared.order.Order.{Order}
 use Rattle.hume_run.specs.Words.{order_of, source_of}
-use Rattle.net_rounds.specs.Rounds.{IsRound, begins, length_of}
-use Rattle.core_runs.specs.declared.rounds.TheConstants.{SPAN}
-use Rattle.core_runs.specs.Runs.{HasTooFew}
-use Rattle.core_runs.specs.Streams.{std_out, inputs, ports_of}
+use Rattle.hume_net.specs.rounds.Rounds.{IsRound, begins, length_of}
+use Rattle.run_rounds.specs.declared.rounds.TheConstants.{SPAN}
+use Rattle.run_rounds.specs.Runs.{HasTooFew}
+use Rattle.run_rounds.specs.Streams.{std_out, inputs, ports_of}
 use Rattle.hume_run.specs.Owed.{CoreRun, Owed, IsOwed}
 
 -- The words have no form, or there is no port `std_out`, or none with the source's name.

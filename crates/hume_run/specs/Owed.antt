@@ -8,11 +8,11 @@ use Rattle.hume_ports.specs.Ports.{other_names}
 use Rattle.hume_ports.specs.Delivery.{Pairs}
 use Rattle.hume_front.specs.declared.acceptance.Accepted.{Accepted}
 use Rattle.hume_front.specs.Accepted.{IsAccepted, Breaks}
-use Rattle.core_runs.specs.declared.rounds.TheConstants.{SPAN}
-use Rattle.core_runs.specs.Streams.{std_out, streams, inputs, outputs, ports_of}
-use Rattle.core_runs.specs.Inputs.{Inputs, AreInputs}
-use Rattle.core_runs.specs.Writes.{writes, blocked_round}
-use Rattle.space_table.specs.Table.{space_table}
+use Rattle.run_rounds.specs.declared.rounds.TheConstants.{SPAN}
+use Rattle.run_rounds.specs.Streams.{std_out, streams, inputs, outputs, ports_of}
+use Rattle.run_rounds.specs.Inputs.{Inputs, AreInputs}
+use Rattle.run_rounds.specs.Writes.{writes, blocked_round}
+use Rattle.trace_print.specs.table.Table.{space_table}
 use Rattle.hume_run.specs.declared.status.Status.{Status}
 use Rattle.hume_run.specs.declared.status.Status.TheVariants.{Done, Refused, BadValue}
 use Rattle.hume_run.specs.declared.order.Order.{Order}

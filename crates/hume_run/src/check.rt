@@ -2,9 +2,9 @@ ghost use Rattle.std.specs.Prelude.{◌≡◌, ◌⊎◌, ℕ, List, map, IfOk};
 ghost use Rattle.hume_ports.specs.Ports.{names};
 ghost use Rattle.hume_run.specs.declared.order.Order.TheVariants.{Check};
 ghost use Rattle.hume_run.specs.Headline.{Ends, EndsEarly, Answers};
-ghost use Rattle.core_runs.specs.Streams.{std_out};
+ghost use Rattle.run_rounds.specs.Streams.{std_out};
 ghost use Rattle.hume_run.specs.Owed.{owed_accepted};
-ghost use Rattle.gathered_writes.specs.Places.{IsPlaceOf};
+ghost use Rattle.hume_streams.specs.writes.Places.{IsPlaceOf};
 ghost use Rattle.hume_run.specs.inner.Bounds.{KeepsBounds};
 ghost use Rattle.hume_run.specs.inner.Reports.{IsReport};
 
@@ -12,13 +12,13 @@ use crate::refuse::end_unaccepted;
 use crate::report::{Report, one_place};
 use crate::settle::settle;
 use crate::status::Status;
-use gathered_writes::Writes;
 use hume_front::accept;
 use hume_model::Core;
 use hume_ports::Port;
+use hume_streams::writes::Writes;
 use space_costs::Costs;
-use space_table::gather_table;
 use std::alloc::{AllocError, Global};
+use trace_print::table::gather_table;
 
 /// Says whether a source of that text is accepted. The port of the report is given by its place.
 pub fn check_text(alloc: Global, ports: &mut [Box<dyn Port>], text: &[u8], out: usize) -> Status

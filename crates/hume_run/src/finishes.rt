@@ -1,7 +1,7 @@
 ghost use Rattle.std.specs.Prelude.{◌≡◌, ◌++◌, ℕ, List, length, All, IfOk, OnOk};
-ghost use Rattle.gathered_writes.specs.Places.{IsPlace, IsPlaceOf};
+ghost use Rattle.hume_streams.specs.writes.Places.{IsPlace, IsPlaceOf};
 ghost use Rattle.hume_run.specs.inner.Places.{names_at};
-ghost use Rattle.core_runs.specs.Streams.{ArePlacesOf, output_of, std_out};
+ghost use Rattle.run_rounds.specs.Streams.{ArePlacesOf, output_of, std_out};
 ghost use Rattle.hume_run.specs.Owed.{run_finishes};
 ghost use Rattle.hume_run.specs.inner.FoundPlaces.{finish_at};
 

@@ -9,7 +9,7 @@ ghost use Rattle.box_costs.specs.Bounds.{box_bound};
 ghost use Rattle.net_costs.specs.Steps.{step_spent};
 ghost use Rattle.hume_front.specs.declared.acceptance.Accepted.{Accepted};
 ghost use Rattle.hume_front.specs.Accepted.{IsAccepted};
-ghost use Rattle.core_runs.specs.Inputs.{Inputs, AreInputs};
+ghost use Rattle.run_rounds.specs.Inputs.{Inputs, AreInputs};
 ghost use Rattle.hume_run.specs.declared.order.Order.{Order};
 ghost use Rattle.hume_run.specs.Owed.{Owed, IsOwed};
 

@@ -1,21 +1,21 @@
 ghost use Rattle.std.specs.Prelude.{◌≡◌, ◌⊎◌, ℕ, List, map, IfOk};
 ghost use Rattle.hume_front.specs.Accepted.{IsUnaccepted};
 ghost use Rattle.hume_ports.specs.Ports.{names};
-ghost use Rattle.core_runs.specs.Streams.{std_out};
+ghost use Rattle.run_rounds.specs.Streams.{std_out};
 ghost use Rattle.hume_run.specs.Owed.{owed_refused};
 ghost use Rattle.hume_run.specs.declared.order.Order.{Order};
 ghost use Rattle.hume_run.specs.Headline.{Ends, EndsEarly, Answers};
-ghost use Rattle.gathered_writes.specs.Places.{IsPlaceOf};
+ghost use Rattle.hume_streams.specs.writes.Places.{IsPlaceOf};
 ghost use Rattle.hume_run.specs.inner.Reports.{IsReport};
 
 use crate::lines::refused_line;
 use crate::report::{Report, one_place, one_write};
 use crate::settle::settle;
 use crate::status::Status;
-use gathered_writes::Writes;
 use hume_base::Refusal;
 use hume_front::FrontError;
 use hume_ports::Port;
+use hume_streams::writes::Writes;
 use std::alloc::{AllocError, Global};
 
 /// Ends a call of a source that isn't accepted: a rule that it breaks is told, and want of memory ends it early.

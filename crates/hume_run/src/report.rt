@@ -1,8 +1,8 @@
 ghost use Rattle.std.specs.Prelude.{◌≡◌, ◌∷◌, [], IfOk};
-ghost use Rattle.gathered_writes.specs.Gathered.{writes_of};
+ghost use Rattle.hume_streams.specs.writes.Gathered.{writes_of};
 
 use crate::status::Status;
-use gathered_writes::Writes;
+use hume_streams::writes::Writes;
 use std::alloc::{AllocError, Global};
 
 /// What is left to do when nothing but a port can stop it: the writes in order, those of the table of bounds first, the places

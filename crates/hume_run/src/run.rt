@@ -1,9 +1,9 @@
 ghost use Rattle.std.specs.Prelude.{◌≡◌, ◌⊎◌, ℕ, List, map};
 ghost use Rattle.hume_base.specs.declared.rule.Rule.TheVariants.{C55};
 ghost use Rattle.hume_ports.specs.Ports.{names};
-ghost use Rattle.gathered_writes.specs.Places.{IsPlaceOf};
-ghost use Rattle.net_engine.specs.Runnable.{IsRunnable};
-ghost use Rattle.core_runs.specs.Streams.{ArePlacesOf, ArePortsApart, std_out};
+ghost use Rattle.hume_streams.specs.writes.Places.{IsPlaceOf};
+ghost use Rattle.run_rounds.specs.engine.Runnable.{IsRunnable};
+ghost use Rattle.run_rounds.specs.Streams.{ArePlacesOf, ArePortsApart, std_out};
 ghost use Rattle.hume_run.specs.declared.order.Order.TheVariants.{Run};
 ghost use Rattle.hume_run.specs.Headline.{EndsEarly, Answers};
 ghost use Rattle.hume_run.specs.inner.Bounds.{KeepsBounds};
@@ -15,16 +15,16 @@ use crate::report::Report;
 use crate::settle::settle;
 use crate::status::Status;
 use crate::streams::{PlacesError, find_places};
-use core_runs::{RunEnd, RunError, each_run_has_inputs, run_core};
-use evaluation_depth::{SAFE_DEPTH, SAFE_VALUE_DEPTH, evaluation_depth, value_depth};
-use gathered_writes::Writes;
 use hume_base::{Refusal, Rule};
 use hume_front::accept;
 use hume_model::Core;
 use hume_ports::Port;
+use hume_streams::writes::Writes;
+use run_depth::{SAFE_DEPTH, SAFE_VALUE_DEPTH, evaluation_depth, value_depth};
+use run_rounds::{RunEnd, RunError, each_run_has_inputs, run_core};
 use space_costs::Costs;
-use space_table::gather_table;
 use std::alloc::{AllocError, Global};
+use trace_print::table::gather_table;
 
 /// Runs a source of that text for so many supersteps. The port of the report is given by its place, and that of the
 /// source by its name.

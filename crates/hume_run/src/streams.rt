@@ -1,7 +1,7 @@
 ghost use Rattle.std.specs.Prelude.{◌≡◌, [], ℕ, None, Some, map, IfOk, IfErr, IsErrOf, if◌then◌else◌};
 ghost use Rattle.std.specs.List.{filter_map};
 ghost use Rattle.hume_ports.specs.Ports.{names, place_of, is_among};
-ghost use Rattle.core_runs.specs.Streams.{ArePlacesOf, ArePortsApart, ports_of, stream_of, streams};
+ghost use Rattle.run_rounds.specs.Streams.{ArePlacesOf, ArePortsApart, ports_of, stream_of, streams};
 ghost use Rattle.hume_run.specs.Streams.{is_unfit, unfit_line};
 ghost use Rattle.hume_run.specs.inner.FoundPlaces.{IsFitAt, IsUnfitAt, is_port_of};
 

@@ -1,8 +1,8 @@
 ghost use Rattle.std.specs.Prelude.{◌≡◌, ◌↔◌, ◌⊎◌, map, string_bytes};
 ghost use Rattle.hume_ports.specs.Ports.{names};
 ghost use Rattle.hume_run.specs.Headline.{Headline, IsUsage, EndsEarly, Answers, AnswersFrom};
-ghost use Rattle.gathered_writes.specs.Places.{IsPlaceOf};
-ghost use Rattle.core_runs.specs.Streams.{std_out};
+ghost use Rattle.hume_streams.specs.writes.Places.{IsPlaceOf};
+ghost use Rattle.run_rounds.specs.Streams.{std_out};
 
 use crate::check::check_text;
 use crate::order::Order;

@@ -11,3 +11,5 @@ pub mod Givings
 pub mod GoodOnce
 pub mod GoodAlways
 pub mod FewLines
+pub mod places_lemmas
+pub mod writes_lemmas

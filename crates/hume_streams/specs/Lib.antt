@@ -5,3 +5,5 @@ pub mod Queues
 pub mod Fills
 pub mod Logs
 pub mod inner
+pub mod places
+pub mod writes

@@ -25,8 +25,10 @@ mod laws;
 mod line;
 mod log;
 mod log_line;
+pub mod places;
 mod queue;
 mod rows;
+pub mod writes;
 
 pub use laws::{
     bad_lines_have_small_numbers, each_text_has_good_values, fills_follow_ports_that_tell,

@@ -10,6 +10,8 @@
 
 #[cfg(test)]
 mod call_tests;
+mod cells;
+mod front;
 #[cfg(test)]
 mod last_call_tests;
 #[cfg(test)]

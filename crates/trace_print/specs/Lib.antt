@@ -1,1 +1,2 @@
 pub mod SpaceLines
+pub mod table

@@ -9,13 +9,13 @@ use Rattle.hume_model.specs.BoxTyping.{port_types}
 use Rattle.hume_net.specs.declared.state.Part.{Part}
 use Rattle.hume_front.specs.declared.acceptance.Accepted.{Accepted}
 use Rattle.hume_front.specs.Accepted.{IsAccepted}
-use Rattle.bare_cores.specs.Bare.{bare_of}
+use Rattle.model_bare.specs.Bare.{bare_of}
 use Rattle.box_code.specs.RepresentsBox.{RepresentsBox}
 use Rattle.wire_cells.specs.Cells.{CellView}
-use Rattle.compiled_boxes.specs.Boxes.{IsBoxAt, IsSoundBox}
-use Rattle.compiled_boxes.specs.Views.{CompiledView}
-use Rattle.box_inputs.specs.Inputs.{AreInputs}
-use Rattle.box_inputs.specs.InputCells.{AreInputCells}
+use Rattle.box_step.specs.Boxes.{IsBoxAt, IsSoundBox}
+use Rattle.box_step.specs.Views.{CompiledView}
+use Rattle.box_trials.specs.inputs.Inputs.{AreInputs}
+use Rattle.box_trials.specs.inputs.InputCells.{AreInputCells}
 use Rattle.box_trials.specs.declared.boxes.Place.{Place}
 use Rattle.box_trials.specs.declared.bench.Bench.{Bench}
 use Rattle.box_trials.specs.declared.trial.Trial.{Trial}

@@ -8,7 +8,7 @@ use Rattle.hume_model.specs.Declarations.{IsRefusal}
 use Rattle.hume_model.specs.WireRules.{BreaksWires}
 use Rattle.hume_model.specs.HandlerRules.{BreaksHandlers}
 use Rattle.box_costs.specs.CostRules.{BreaksCosts}
-use Rattle.hume_check.specs.CoreOf.{IsCoreOf}
+use Rattle.check_rules.specs.CoreOf.{IsCoreOf}
 use Rattle.wiring_check.specs.Wires.{IsWiringOf}
 use Rattle.space_costs.specs.NodeCosts.{AreCosts}
 use Rattle.hume_front.specs.Broken.{BreaksProgram}

@@ -5,8 +5,8 @@ use Rattle.hume_ast.specs.declared.tree.BinOp.{BinOp}
 use Rattle.hume_ast.specs.declared.tree.Exp.{Exp}
 use Rattle.hume_ast.specs.declared.tree.Exp.TheOpen.{Exp-F}
 use Rattle.hume_ast.specs.Fits.{op_level}
-use Rattle.token_readers.specs.inner.Readers.{Reader, ◌>>=◌}
-use Rattle.token_readers.specs.inner.Expressions.{exps, at_level, next_operator, one_operand, operands, operator_of}
+use Rattle.parse_readers.specs.inner.Readers.{Reader, ◌>>=◌}
+use Rattle.parse_readers.specs.inner.Expressions.{exps, at_level, next_operator, one_operand, operands, operator_of}
 
 -- behind a left part, the operators of one level; comparisons don't group, and no operator has level 7
 abbrev pub level_rest : ℕ → ℕ → Exp-F Exp → Reader (Exp-F Exp)

@@ -2,9 +2,9 @@
 use Rattle.std.specs.Prelude.{List, Bool, true, false}
 use Rattle.hume_base.specs.declared.symbol.Symbol.TheVariants.{DoubleColon}
 use Rattle.hume_base.specs.declared.token.Kind.{Kind}
-use Rattle.token_readers.specs.inner.Readers.{next, is_sign}
-use Rattle.token_readers.specs.inner.Expressions.{is_lower}
-use Rattle.token_readers.specs.inner.Items.{Expecting as Place, Outside, Wanting, Within}
+use Rattle.parse_readers.specs.inner.Readers.{next, is_sign}
+use Rattle.parse_readers.specs.inner.Expressions.{is_lower}
+use Rattle.parse_readers.specs.inner.Items.{Expecting as Place, Outside, Wanting, Within}
 
 -- whether an item begins with a name
 abbrev pub named : Place → List Kind → Bool

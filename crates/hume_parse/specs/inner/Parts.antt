@@ -11,10 +11,10 @@ use Rattle.hume_ast.specs.declared.tree.Exp.{Exp, roll-Exp}
 use Rattle.hume_ast.specs.declared.tree.Exp.TheOpen.{Exp-F}
 use Rattle.hume_parse.specs.declared.trees.Head.{Head}
 use Rattle.hume_parse.specs.declared.trees.Head.TheVariants.{Function, Constructor}
-use Rattle.token_readers.specs.inner.Readers.{Reader, stop, too_deep as deeper, choice, next, is_word, is_sign, any_token, made, both, closed, led, listed, many, maybe, pick, give, alternatives, lower_name, upper_name}
-use Rattle.token_readers.specs.inner.Types.{types}
-use Rattle.token_readers.specs.inner.Patterns.{patterns, starts_pat}
-use Rattle.token_readers.specs.inner.Expressions.{exps, let_of, if_of, case_of, alternative, raise_of, update_of, exp_in_parens, tail_ways, starts_atom, begins_part, exp_leaf, minus_ways}
+use Rattle.parse_readers.specs.inner.Readers.{Reader, stop, too_deep as deeper, choice, next, is_word, is_sign, any_token, made, both, closed, led, listed, many, maybe, pick, give, alternatives, lower_name, upper_name}
+use Rattle.parse_readers.specs.inner.Types.{types}
+use Rattle.parse_readers.specs.inner.Patterns.{patterns, starts_pat}
+use Rattle.parse_readers.specs.inner.Expressions.{exps, let_of, if_of, case_of, alternative, raise_of, update_of, exp_in_parens, tail_ways, starts_atom, begins_part, exp_leaf, minus_ways}
 
 abbrev pub let_parts : ℕ → Reader Exp
 let_parts room =

@@ -3,7 +3,7 @@ use Rattle.std.specs.Prelude.{◌≡◌, ℕ, Bool, true, false, List, None, IfS
 use Rattle.hume_model.specs.declared.core_tree.Core.{Core}
 use Rattle.hume_ports.specs.Port.{PortView}
 use Rattle.hume_ports.specs.Ports.{left_of}
-use Rattle.core_runs.specs.Inputs.{Inputs, AreInputs}
+use Rattle.run_rounds.specs.Inputs.{Inputs, AreInputs}
 use Rattle.hume_run.specs.declared.status.Status.{Status}
 use Rattle.hume_run.specs.declared.status.Status.TheVariants.{Done, BadValue}
 use Rattle.hume_run.specs.Owed.{Owed, owed_run}

@@ -5,7 +5,7 @@ use Rattle.std.specs.Str.{bytes_eq}
 use Rattle.hume_model.specs.declared.core_tree.NodeC.{NodeC}
 use Rattle.hume_model.specs.declared.core_tree.StreamC.{StreamC}
 use Rattle.hume_ports.specs.Ports.{place_of}
-use Rattle.core_runs.specs.Streams.{ports_of, stream_of}
+use Rattle.run_rounds.specs.Streams.{ports_of, stream_of}
 use Rattle.hume_run.specs.Streams.{is_unfit}
 
 -- If the node is a stream, its port is fit behind those of the earlier nodes, and stands at that place.

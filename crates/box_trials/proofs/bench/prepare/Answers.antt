@@ -1,4 +1,4 @@
-use Rattle.compiled_boxes.specs.Boxes.{first_part}
+use Rattle.box_step.specs.Boxes.{first_part}
 use Rattle.box_trials.proofs.Sources.{sound_box, takes_little, wired_box}
 use Rattle.box_trials.proofs.Benches.{bare_forms, its_program}
 use Rattle.box_trials.proofs.bench.prepare.Goals as goal

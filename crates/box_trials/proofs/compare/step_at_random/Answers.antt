@@ -1,7 +1,7 @@
 use Rattle.std.proofs.Common.{List, sym, subst}
 use Rattle.hume_model.specs.declared.core_tree.PortC.{PortC}
 use Rattle.hume_model.specs.BoxTyping.{port_types}
-use Rattle.box_inputs.specs.Inputs.{AreInputs, HaveTexts}
+use Rattle.box_trials.specs.inputs.Inputs.{AreInputs, HaveTexts}
 use Rattle.box_trials.proofs.Benches.{has_outputs}
 use Rattle.box_trials.proofs.compare.step_at_random.Goals as goal
 

@@ -1,7 +1,7 @@
 use Rattle.std.proofs.Common.{sym, subst, arith}
 use Rattle.hume_model.specs.declared.core_tree.PortC.{PortC}
-use Rattle.box_inputs.specs.Inputs.{HasTexts}
-use Rattle.box_inputs.proofs.Places.{port_at}
+use Rattle.box_trials.specs.inputs.Inputs.{HasTexts}
+use Rattle.box_trials.proofs.inputs_lemmas.Places.{port_at}
 use Rattle.box_trials.proofs.fire.tell_outputs.Goals as goal
 
 pub tell_output-requires : goal.tell_output-requires

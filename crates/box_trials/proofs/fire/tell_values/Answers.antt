@@ -1,7 +1,7 @@
 use Rattle.std.proofs.Common.{List, sym, subst}
 use Rattle.hume_model.specs.declared.core_tree.PortC.{PortC}
 use Rattle.hume_model.specs.BoxTyping.{port_types}
-use Rattle.box_inputs.specs.Inputs.{HaveTexts}
+use Rattle.box_trials.specs.inputs.Inputs.{HaveTexts}
 use Rattle.box_trials.specs.inner.Trials.{HasOutputs}
 use Rattle.box_trials.proofs.fire.tell_values.Goals as goal
 

@@ -1,5 +1,5 @@
 use Rattle.std.proofs.Common.{arith}
-use Rattle.box_inputs.proofs.Places.{port_at}
+use Rattle.box_trials.proofs.inputs_lemmas.Places.{port_at}
 use Rattle.box_trials.proofs.PlainOutputs.{output_typed}
 use Rattle.box_trials.proofs.plain.have_same_words.Goals as goal
 

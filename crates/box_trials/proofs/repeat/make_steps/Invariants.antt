@@ -1,7 +1,7 @@
 use Rattle.hume_model.specs.declared.core_tree.BoxC.{BoxC}
 use Rattle.hume_model.specs.declared.core_tree.Core.{Core}
 use Rattle.hume_model.specs.BoxTyping.{port_types}
-use Rattle.box_inputs.specs.Inputs.{AreInputs}
+use Rattle.box_trials.specs.inputs.Inputs.{AreInputs}
 use Rattle.box_trials.specs.inner.Trials.{IsReady}
 use Rattle.box_trials.proofs.repeat.make_steps.Given as goal
 

@@ -1,6 +1,6 @@
 use Rattle.std.proofs.Common.{◌≡◌, subst}
 use Rattle.hume_model.specs.BoxTyping.{port_types}
-use Rattle.box_inputs.specs.Inputs.{AreInputs}
+use Rattle.box_trials.specs.inputs.Inputs.{AreInputs}
 use Rattle.box_trials.proofs.Benches.{has_outputs}
 use Rattle.box_trials.proofs.repeat.repeat_step.Goals as goal
 

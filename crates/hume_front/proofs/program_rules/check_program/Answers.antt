@@ -1,5 +1,5 @@
 use Rattle.std.proofs.Common.{sym, subst}
-use Rattle.program_check.specs.Refused.{IsUnchecked}
+use Rattle.hume_check.specs.Refused.{IsUnchecked}
 use Rattle.hume_front.specs.Accepted.{Breaks, in_program}
 use Rattle.hume_front.proofs.ProgramRules.{refused_check}
 use Rattle.hume_front.proofs.Sources.{few_declarations}

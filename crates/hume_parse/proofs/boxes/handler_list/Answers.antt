@@ -2,7 +2,7 @@ use Rattle.std.proofs.Common.{sym, refl, arith, []}
 use Rattle.hume_base.specs.declared.limits.TheConstants.{MAX_DEPTH}
 use Rattle.std.proofs.lemmas.Result.{err_from_is_err_and}
 use Rattle.hume_base.specs.declared.symbol.Symbol.TheVariants.{Bar}
-use Rattle.token_readers.proofs.DeclarationParts.{handler_reads}
+use Rattle.parse_readers.proofs.DeclarationParts.{handler_reads}
 use Rattle.hume_parse.proofs.Loops.{parts_stop, parts_turn, parts_fail}
 use Rattle.hume_parse.proofs.boxes.handler_list.Goals as goal
 

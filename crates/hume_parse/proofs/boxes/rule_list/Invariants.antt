@@ -3,8 +3,8 @@ use Rattle.hume_base.specs.declared.limits.TheConstants.{MAX_DEPTH}
 use Rattle.hume_base.specs.declared.symbol.Symbol.TheVariants.{Bar}
 use Rattle.hume_base.specs.declared.token.Kind.TheVariants.{Sign}
 use Rattle.hume_ast.specs.Places.{kinds}
-use Rattle.token_readers.specs.inner.Readers.{listed, many, led, is_sign}
-use Rattle.token_readers.specs.inner.Declarations.{rule}
+use Rattle.parse_readers.specs.inner.Readers.{listed, many, led, is_sign}
+use Rattle.parse_readers.specs.inner.Declarations.{rule}
 use Rattle.hume_parse.proofs.Loops.{joined}
 use Rattle.hume_parse.proofs.boxes.rule_list.Given as goal
 

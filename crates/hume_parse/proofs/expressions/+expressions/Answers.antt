@@ -5,8 +5,8 @@ use Rattle.hume_base.specs.declared.symbol.Symbol.TheVariants.{Comma, Bar}
 use Rattle.hume_base.specs.declared.token.Kind.TheVariants.{Word, Sign}
 use Rattle.hume_ast.specs.declared.tree.Exp.{out-Exp}
 use Rattle.hume_ast.specs.Places.{kinds}
-use Rattle.token_readers.specs.inner.Expressions.{exps, at_level, starts_atom}
-use Rattle.token_readers.proofs.ExpressionsRead.{expressions_read, atom_shrink, alternatives_of}
+use Rattle.parse_readers.specs.inner.Expressions.{exps, at_level, starts_atom}
+use Rattle.parse_readers.proofs.ExpressionsRead.{expressions_read, atom_shrink, alternatives_of}
 use Rattle.hume_parse.proofs.Loops.{parts_stop, parts_turn, parts_fail, beside_stop, beside_turn, beside_fail}
 use Rattle.hume_parse.proofs.ExpLoops.{closing, closing_ends, closing_stops, others_begin, exp_left, alternative_left, atom_left}
 use Rattle.hume_parse.proofs.Climbing.{loop_begins, loop_none, loop_ends, loop_turns, loop_stops, loop_limit, operand_high, right_left}

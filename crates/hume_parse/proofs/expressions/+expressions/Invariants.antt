@@ -7,9 +7,9 @@ use Rattle.hume_ast.specs.declared.tree.Exp.{roll-Exp, out-Exp}
 use Rattle.hume_ast.specs.Places.{kinds}
 use Rattle.hume_parse.specs.inner.Climbing.{climbed}
 use Rattle.hume_parse.specs.inner.Parts.{case_alternatives, other_parts}
-use Rattle.token_readers.specs.inner.Readers.{many, led, is_sign, made}
-use Rattle.token_readers.specs.inner.Patterns.{patterns}
-use Rattle.token_readers.specs.inner.Expressions.{exps, at_level, starts_atom, alternative}
+use Rattle.parse_readers.specs.inner.Readers.{many, led, is_sign, made}
+use Rattle.parse_readers.specs.inner.Patterns.{patterns}
+use Rattle.parse_readers.specs.inner.Expressions.{exps, at_level, starts_atom, alternative}
 use Rattle.hume_parse.proofs.Loops.{joined}
 use Rattle.hume_parse.proofs.ExpLoops.{closing}
 use Rattle.hume_parse.proofs.expressions.+expressions.Given as goal

@@ -1,8 +1,8 @@
 use Rattle.std.proofs.Common.{sym, refl, arith}
 use Rattle.hume_base.specs.declared.limits.TheConstants.{MAX_DEPTH}
 use Rattle.std.proofs.lemmas.Result.{err_from_is_err_and}
-use Rattle.token_readers.specs.inner.Patterns.{patterns, starts_pat}
-use Rattle.token_readers.proofs.PatternsRead.{atoms_shrink}
+use Rattle.parse_readers.specs.inner.Patterns.{patterns, starts_pat}
+use Rattle.parse_readers.proofs.PatternsRead.{atoms_shrink}
 use Rattle.hume_parse.proofs.Loops.{beside_stop, beside_turn, beside_fail}
 use Rattle.hume_parse.proofs.functions.some_patterns.Goals as goal
 

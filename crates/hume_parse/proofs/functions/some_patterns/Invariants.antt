@@ -1,9 +1,9 @@
 use Rattle.std.proofs.Common.{◌≡◌, ◌<◌, length}
 use Rattle.hume_base.specs.declared.limits.TheConstants.{MAX_DEPTH}
 use Rattle.hume_ast.specs.Places.{kinds}
-use Rattle.token_readers.specs.inner.Readers.{many}
-use Rattle.token_readers.specs.inner.Patterns.{patterns, starts_pat}
-use Rattle.token_readers.specs.inner.Declarations.{some_patterns}
+use Rattle.parse_readers.specs.inner.Readers.{many}
+use Rattle.parse_readers.specs.inner.Patterns.{patterns, starts_pat}
+use Rattle.parse_readers.specs.inner.Declarations.{some_patterns}
 use Rattle.hume_parse.proofs.Loops.{joined}
 use Rattle.hume_parse.proofs.functions.some_patterns.Given as goal
 

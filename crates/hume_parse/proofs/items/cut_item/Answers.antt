@@ -1,7 +1,7 @@
 use Rattle.std.proofs.Common.{◌-◌, length, Ok, refl, sym, ap, ◌∙◌}
 use Rattle.std.proofs.lemmas.List.{take_rest}
 use Rattle.hume_ast.specs.Places.{kinds}
-use Rattle.gathered_declarations.specs.inner.Items.{seen_item, seen_expecting}
+use Rattle.parse_items.specs.inner.Items.{seen_item, seen_expecting}
 use Rattle.hume_parse.proofs.ItemSteps.{same_end}
 use Rattle.hume_parse.proofs.items.cut_item.Goals as goal
 

@@ -1,12 +1,12 @@
 use Rattle.std.proofs.Common.{◌≡◌, ◌⊎◌, inl, inr, sym, subst}
 use Rattle.hume_ast.specs.Places.{StandsFor}
-use Rattle.syntax_errors.specs.declared.stop.Stop.{Stop}
-use Rattle.syntax_errors.specs.declared.stop.Stop.TheVariants.{Memory}
-use Rattle.syntax_errors.specs.declared.parse_error.ParseError.{ParseError}
-use Rattle.syntax_errors.specs.declared.parse_error.ParseError.TheVariants.{NoMemory}
-use Rattle.syntax_errors.proofs.Answered.{only_memory}
-use Rattle.token_readers.proofs.OneSpelling.{one_placed}
-use Rattle.token_readers.proofs.StandingFor.{read_stands}
+use Rattle.parse_errors.specs.declared.stop.Stop.{Stop}
+use Rattle.parse_errors.specs.declared.stop.Stop.TheVariants.{Memory}
+use Rattle.parse_errors.specs.declared.parse_error.ParseError.{ParseError}
+use Rattle.parse_errors.specs.declared.parse_error.ParseError.TheVariants.{NoMemory}
+use Rattle.parse_errors.proofs.Answered.{only_memory}
+use Rattle.parse_readers.proofs.OneSpelling.{one_placed}
+use Rattle.parse_readers.proofs.StandingFor.{read_stands}
 use Rattle.hume_parse.proofs.parser.parse.Goals as goal
 
 pub returns-in-Ok-clause-program : goal.returns-in-Ok-clause-program

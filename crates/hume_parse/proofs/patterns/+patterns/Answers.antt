@@ -1,9 +1,9 @@
 use Rattle.std.proofs.Common.{◌-◌, [], sym, refl, arith}
 use Rattle.std.proofs.lemmas.Result.{err_from_is_err_and}
 use Rattle.hume_base.specs.declared.symbol.Symbol.TheVariants.{Comma}
-use Rattle.token_readers.specs.inner.Patterns.{patterns, starts_pat}
+use Rattle.parse_readers.specs.inner.Patterns.{patterns, starts_pat}
 use Rattle.hume_parse.proofs.Loops.{parts_stop, parts_turn, parts_fail, beside_stop, beside_turn, beside_fail}
-use Rattle.token_readers.proofs.PatternsRead.{patterns_read, atoms_shrink}
+use Rattle.parse_readers.proofs.PatternsRead.{patterns_read, atoms_shrink}
 use Rattle.hume_parse.proofs.PatternSteps.{con_from, con_stop, parens_from, parens_stop, parens_fail}
 use Rattle.hume_parse.proofs.patterns.+patterns.Goals as goal
 

@@ -3,8 +3,8 @@ use Rattle.hume_base.specs.declared.symbol.Symbol.TheVariants.{CloseParen, Comma
 use Rattle.hume_base.specs.declared.token.Kind.TheVariants.{Sign}
 use Rattle.hume_ast.specs.declared.tree.Pat.{roll-Pat}
 use Rattle.hume_ast.specs.Places.{kinds}
-use Rattle.token_readers.specs.inner.Readers.{many, led, is_sign, made, both, closed}
-use Rattle.token_readers.specs.inner.Patterns.{patterns, con_pat, starts_pat, pat_in_parens}
+use Rattle.parse_readers.specs.inner.Readers.{many, led, is_sign, made, both, closed}
+use Rattle.parse_readers.specs.inner.Patterns.{patterns, con_pat, starts_pat, pat_in_parens}
 use Rattle.hume_parse.proofs.Loops.{joined}
 use Rattle.hume_parse.proofs.PatternSteps.{con_from, parens_from}
 use Rattle.hume_parse.proofs.patterns.+patterns.Given as goal

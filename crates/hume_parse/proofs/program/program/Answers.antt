@@ -5,10 +5,10 @@ use Rattle.std.proofs.lemmas.Bool.{eqb-true}
 use Rattle.std.proofs.lemmas.Result.{err_from_is_err_and}
 use Rattle.hume_ast.specs.Places.{unplaced, placed}
 use Rattle.hume_ast.specs.Places.{kinds}
-use Rattle.syntax_errors.specs.inner.Gives.{Fails}
-use Rattle.gathered_declarations.specs.inner.Items.{seen_item, wants}
-use Rattle.gathered_declarations.specs.inner.Progress.{took}
-use Rattle.token_readers.specs.inner.Items.{item as line}
+use Rattle.parse_errors.specs.inner.Gives.{Fails}
+use Rattle.parse_items.specs.inner.Items.{seen_item, wants}
+use Rattle.parse_items.specs.inner.Progress.{took}
+use Rattle.parse_readers.specs.inner.Items.{item as line}
 use Rattle.hume_parse.proofs.Running.{Running, running_turn, running_fails, running_wants, running_ends, running_placed}
 use Rattle.hume_parse.proofs.program.program.Goals as goal
 

@@ -1,7 +1,7 @@
 use Rattle.std.proofs.Common.{sym, refl, arith, []}
 use Rattle.std.proofs.lemmas.Result.{err_from_is_err_and}
 use Rattle.hume_parse.proofs.Loops.{parts_stop, parts_turn, parts_fail}
-use Rattle.token_readers.proofs.TypesRead.{types_read}
+use Rattle.parse_readers.proofs.TypesRead.{types_read}
 use Rattle.hume_parse.proofs.types.+types.Goals as goal
 
 pub type_list-returns-in_err-item-clause-reads : goal.type_list-returns-in_err-item-clause-reads

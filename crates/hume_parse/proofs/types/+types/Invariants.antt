@@ -1,8 +1,8 @@
 use Rattle.std.proofs.Common.{◌≡◌, ◌+◌, ◌-◌, ◌<◌, ◌*◌, length}
 use Rattle.hume_base.specs.declared.token.Kind.TheVariants.{Sign}
 use Rattle.hume_ast.specs.Places.{kinds}
-use Rattle.token_readers.specs.inner.Readers.{listed, many, led, is_sign}
-use Rattle.token_readers.specs.inner.Types.{types}
+use Rattle.parse_readers.specs.inner.Readers.{listed, many, led, is_sign}
+use Rattle.parse_readers.specs.inner.Types.{types}
 use Rattle.hume_parse.proofs.Loops.{joined}
 use Rattle.hume_parse.proofs.types.+types.Given as goal
 

@@ -1,6 +1,0 @@
-use Rattle.std.proofs.Common.{◌≡◌, take, map}
-use Rattle.bare_cores.specs.Bare.{bare_rule}
-use Rattle.bare_cores.proofs.cores.bare_rules.Given as goal
-
-abbrev pub invariant-loop-rule : goal.invariant-loop-rule
-invariant-loop-rule l = l.copies ≡ map bare_rule (take l.rule-index l.rules)

@@ -1,9 +1,0 @@
-use Rattle.std.proofs.Common.{List}
-use Rattle.hume_base.specs.declared.types.Ty.{Ty}
-use Rattle.hume_model.specs.declared.core_tree.Core.{Core}
-use Rattle.box_inputs.specs.InputCells.{AreInputCells}
-use Rattle.box_inputs.specs.Inputs.{AreInputs}
-use Rattle.box_inputs.proofs.cells.fill_cells.Given as goal
-
-abbrev pub invariant-loop-i : goal.invariant-loop-i
-invariant-loop-i l = (core : Core) (tys : List Ty) → AreInputCells core tys l.initial.cells → AreInputs core.types tys l.inputs → AreInputCells core tys l.cells

@@ -1,0 +1,15 @@
+pub mod BareForms
+pub mod InputValues
+pub mod Opening
+pub mod Orders
+pub mod PendingWords
+pub mod Rooms
+pub mod Ready
+pub mod Idling
+pub mod Fitting
+pub mod Firing
+pub mod Built
+pub mod Making
+pub mod PendingValues
+pub mod AcceptedBoxes
+pub mod runs_lemmas

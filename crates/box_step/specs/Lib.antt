@@ -1,0 +1,5 @@
+pub mod Views
+pub mod Steps
+pub mod Boxes
+pub mod inner
+pub mod runs

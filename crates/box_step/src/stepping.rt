@@ -1,0 +1,121 @@
+//! The execute step of a compiled box.
+ghost use Rattle.std.specs.Prelude.{◌≡◌, ◌≤◌, ℕ, List, length, map, true, if◌then◌else◌, Some, slice_get};
+ghost use Rattle.hume_base.specs.declared.types.Ty.{Ty};
+ghost use Rattle.hume_base.specs.declared.types.Value.{Value};
+ghost use Rattle.hume_model.specs.declared.core_tree.BoxC.{BoxC as AnyBox};
+ghost use Rattle.hume_model.specs.declared.core_tree.Core.{Core as AnyCore};
+ghost use Rattle.hume_model.specs.Matching.{fits};
+ghost use Rattle.hume_model.specs.WellFormed.{HasSoundFrame};
+ghost use Rattle.hume_net.specs.declared.state.HalfStep.{HalfStep};
+ghost use Rattle.hume_net.specs.HalfSteps.{moved_last, oldest};
+ghost use Rattle.box_costs.specs.Bounds.{built_patterns};
+ghost use Rattle.box_costs.specs.ResultSpending.{built_values, inputs_built};
+ghost use Rattle.wire_cells.specs.Cells.{without_values};
+ghost use Rattle.match_rules.specs.Inputs.{AreCellsOf};
+ghost use Rattle.box_step.specs.Boxes.{AreBareForms, HasExecuted, IsAt};
+ghost use Rattle.box_step.specs.inner.Buffers.{cleared};
+ghost use Rattle.box_step.specs.inner.Firing.{AreBuiltAnew, Fires, HasFired};
+
+use crate::compiled::CompiledBox;
+use crate::runs::run_ready_rule;
+use box_heap::{BoxHeap, BoxStack, OutBuf};
+use box_machine::Ran;
+use hume_model::{BoxC, Core, RuleC};
+use match_rules::{RuleOrder, build_inputs, consume, first_match, orders_have_each_rule_once};
+use wire_cells::WireCell;
+
+impl CompiledBox {
+    /// Makes the execute step over the cells of the box's inputs, by the bare forms of core and box. The answer is how the rule
+    /// ran that fired, and none exactly where none did. Of the cells nothing changes but their values. It takes no memory.
+    pub fn execute(&mut self, core: &Core, b: &BoxC, ins: &mut [WireCell]) -> Option<Ran>
+        requires { (whole : AnyCore) × (its : AnyBox) × (before : HalfStep) × AreBareForms whole its core.now b.now × IsAt whole its before self.old ins.old }
+        ensures executed { (whole : AnyCore) (its : AnyBox) (before : HalfStep) → AreBareForms whole its core.now b.now → IsAt whole its before self.old ins.old
+            → HasExecuted whole its before self.old self.new ins.new result }
+        ensures rest { map without_values ins.new ≡ map without_values ins.old }
+    {
+        self.work = 0;
+        if self.pending {
+            return None;
+        }
+        let Some(number) = first_match(core, b, &self.order, ins) else {
+            return None;
+        };
+        match b.rules.get(number) {
+            None => None,
+            Some(rule) => Some(self.fire(core, b.fair, number as u32, rule, ins)),
+        }
+    }
+
+    // Fires the rule, of that number, which fits.
+    fn fire(
+        &mut self,
+        core: &Core,
+        fair: bool,
+        number: u32,
+        rule: &RuleC,
+        ins: &mut [WireCell],
+    ) -> Ran
+        requires { (whole : AnyCore) × (its : AnyBox) × (before : HalfStep) × Fires whole its before self.old ins.old core.now fair number rule.now }
+        ensures fired { (whole : AnyCore) (its : AnyBox) (before : HalfStep) → Fires whole its before self.old ins.old core.now fair number rule.now
+            → HasFired whole its before number self.old self.new ins.new result }
+        ensures rest { map without_values ins.new ≡ map without_values ins.old }
+    {
+        build(
+            core,
+            rule,
+            ins,
+            &mut self.heap,
+            &mut self.stack,
+            &mut self.outputs,
+        );
+        let ran = run_ready_rule(
+            &core.types,
+            &self.program,
+            number,
+            &mut self.heap,
+            &mut self.stack,
+            &mut self.outputs,
+            &mut self.work,
+        );
+        consume(rule, ins);
+        put_last(&mut self.order, fair, number);
+        self.pending = true;
+        ran
+    }
+}
+
+// Builds the inputs of a rule that fits, in an empty heap and on an empty stack, and takes the outputs away.
+fn build(
+    core: &Core,
+    rule: &RuleC,
+    ins: &[WireCell],
+    heap: &mut BoxHeap,
+    stack: &mut BoxStack,
+    outputs: &mut OutBuf,
+)
+    requires core { HasSoundFrame core.now }
+    requires fitting { (types : List Ty) × (values : List (List Value)) × AreCellsOf core.now types ins.now values
+        × (fits rule.now.pats (map oldest values) ≡ true)
+        × (inputs_built rule.now.pats (map oldest values) ≤ heap.old.room)
+        × (length (built_patterns rule.now.pats) ≤ stack.old.room) }
+    ensures built { (types : List Ty) (values : List (List Value)) → AreCellsOf core.now types ins.now values
+        → fits rule.now.pats (map oldest values) ≡ true
+        → AreBuiltAnew (built_values rule.now.pats (map oldest values)) heap.old heap.new stack.old stack.new }
+    ensures absent { outputs.new ≡ cleared outputs.old }
+{
+    heap.empty();
+    stack.empty();
+    outputs.clear();
+    build_inputs(core, rule, ins, heap, stack);
+}
+
+// The rule, which stands in the order, goes last in that of a fair box.
+fn put_last(order: &mut RuleOrder, fair: bool, number: u32)
+    requires { (place : ℕ) × (slice_get order.old place ≡ Some number) }
+    ensures { order.new ≡ (if fair then moved_last number order.old else order.old) }
+{
+    orders_have_each_rule_once(order);
+    if fair {
+        order.fired(number);
+    }
+}

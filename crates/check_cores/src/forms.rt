@@ -1,0 +1,155 @@
+//! The core of each form of expression, from the last cores of a stack.
+ghost use Rattle.std.specs.Prelude.{◌≡◌, ◌∷◌, [], ◌||◌, drop, OnOk};
+ghost use Rattle.hume_model.specs.declared.core_tree.Expr.{Prim, Case as CaseCore};
+ghost use Rattle.check_typing.specs.Cores.{let_core, if_core, and_core, or_core, operation_core, index_core, update_core, raise_with_core};
+ghost use Rattle.check_cores.specs.Stacks.{top_core};
+
+use crate::stack::Stack;
+use hume_base::{Box, List, Ty};
+use hume_model::{Expr, Op, PatC};
+use std::alloc::{AllocError, Global};
+
+type Cores = Stack<(Expr, bool)>;
+
+pub(crate) fn raise_with(alloc: Global, cores: &mut Cores, exn: u32) -> Result<(), AllocError>
+    ensures { OnOk result (cores.new ≡ raise_with_core exn (top_core cores.old) ∷ drop 1 cores.old) }
+{
+    let Some((part, too_wide)) = cores.pop() else {
+        return Err(AllocError);
+    };
+    let part = Box::new(alloc, part)?;
+    cores.push((Expr::Raise(exn, Some(part)), too_wide))
+}
+
+pub(crate) fn binding(alloc: Global, cores: &mut Cores) -> Result<(), AllocError>
+    ensures { OnOk result (cores.new ≡ let_core (top_core (drop 1 cores.old)) (top_core cores.old) ∷ drop 2 cores.old) }
+{
+    let Some((body, body_wide)) = cores.pop() else {
+        return Err(AllocError);
+    };
+    let Some((part, part_wide)) = cores.pop() else {
+        return Err(AllocError);
+    };
+    let part = Box::new(alloc, part)?;
+    let body = Box::new(alloc, body)?;
+    cores.push((Expr::Let(part, body), part_wide || body_wide))
+}
+
+pub(crate) fn branches(alloc: Global, cores: &mut Cores) -> Result<(), AllocError>
+    ensures { OnOk result (cores.new ≡ if_core (top_core (drop 2 cores.old)) (top_core (drop 1 cores.old)) (top_core cores.old) ∷ drop 3 cores.old) }
+{
+    let Some((when_false, b)) = cores.pop() else {
+        return Err(AllocError);
+    };
+    let Some((when_true, a)) = cores.pop() else {
+        return Err(AllocError);
+    };
+    let Some((test, t)) = cores.pop() else {
+        return Err(AllocError);
+    };
+    let test = Box::new(alloc, test)?;
+    let when_true = Box::new(alloc, when_true)?;
+    let when_false = Box::new(alloc, when_false)?;
+    cores.push((Expr::If(test, when_true, when_false), t || (a || b)))
+}
+
+pub(crate) fn both(alloc: Global, cores: &mut Cores) -> Result<(), AllocError>
+    ensures { OnOk result (cores.new ≡ and_core (top_core (drop 1 cores.old)) (top_core cores.old) ∷ drop 2 cores.old) }
+{
+    cores.push((Expr::Word(0), false))?;
+    branches(alloc, cores)
+}
+
+pub(crate) fn either(alloc: Global, cores: &mut Cores) -> Result<(), AllocError>
+    ensures { OnOk result (cores.new ≡ or_core (top_core (drop 1 cores.old)) (top_core cores.old) ∷ drop 2 cores.old) }
+{
+    let Some(right) = cores.pop() else {
+        return Err(AllocError);
+    };
+    cores.push((Expr::Word(1), false))?;
+    cores.push(right)?;
+    branches(alloc, cores)
+}
+
+pub(crate) fn operation(
+    alloc: Global,
+    cores: &mut Cores,
+    operation: Op,
+    ty: Ty,
+) -> Result<(), AllocError>
+    ensures { OnOk result (cores.new ≡ operation_core operation ty (top_core (drop 1 cores.old)) (top_core cores.old) ∷ drop 2 cores.old) }
+{
+    let Some((right, right_wide)) = cores.pop() else {
+        return Err(AllocError);
+    };
+    let Some((left, left_wide)) = cores.pop() else {
+        return Err(AllocError);
+    };
+    let mut parts = List::of_one(alloc, left)?;
+    parts.push(right)?;
+    cores.push((Expr::Prim(operation, ty, parts), left_wide || right_wide))
+}
+
+/// An operation on one core.
+pub(crate) fn applied(
+    alloc: Global,
+    cores: &mut Cores,
+    operation: Op,
+    ty: Ty,
+) -> Result<(), AllocError>
+    ensures { OnOk result (cores.new ≡ (Prim operation ty ((top_core cores.old).0 ∷ []), (top_core cores.old).1) ∷ drop 1 cores.old) }
+{
+    let Some((part, too_wide)) = cores.pop() else {
+        return Err(AllocError);
+    };
+    let parts = List::of_one(alloc, part)?;
+    cores.push((Expr::Prim(operation, ty, parts), too_wide))
+}
+
+pub(crate) fn element(alloc: Global, cores: &mut Cores, count: u32) -> Result<(), AllocError>
+    ensures { OnOk result (cores.new ≡ index_core count (top_core (drop 1 cores.old)) (top_core cores.old) ∷ drop 2 cores.old) }
+{
+    let Some((place, p)) = cores.pop() else {
+        return Err(AllocError);
+    };
+    let Some((vector, v)) = cores.pop() else {
+        return Err(AllocError);
+    };
+    let vector = Box::new(alloc, vector)?;
+    let place = Box::new(alloc, place)?;
+    cores.push((Expr::Index(count, vector, place), v || p))
+}
+
+pub(crate) fn update(alloc: Global, cores: &mut Cores, count: u32) -> Result<(), AllocError>
+    ensures { OnOk result (cores.new ≡ update_core count (top_core (drop 2 cores.old)) (top_core (drop 1 cores.old)) (top_core cores.old) ∷ drop 3 cores.old) }
+{
+    let Some((item, i)) = cores.pop() else {
+        return Err(AllocError);
+    };
+    let Some((place, p)) = cores.pop() else {
+        return Err(AllocError);
+    };
+    let Some((vector, v)) = cores.pop() else {
+        return Err(AllocError);
+    };
+    let vector = Box::new(alloc, vector)?;
+    let place = Box::new(alloc, place)?;
+    let item = Box::new(alloc, item)?;
+    cores.push((Expr::Update(count, vector, place, item), v || (p || i)))
+}
+
+pub(crate) fn alternatives(
+    alloc: Global,
+    cores: &mut Cores,
+    ty: Ty,
+    arms: (List<(PatC, Expr)>, bool),
+) -> Result<(), AllocError>
+    ensures { OnOk result (cores.new ≡ (CaseCore (top_core cores.old).0 ty arms.0, (top_core cores.old).1 || arms.1) ∷ drop 1 cores.old) }
+{
+    let (arms, some_too_wide) = arms;
+    let Some((part, too_wide)) = cores.pop() else {
+        return Err(AllocError);
+    };
+    let part = Box::new(alloc, part)?;
+    cores.push((Expr::Case(part, ty, arms), too_wide || some_too_wide))
+}

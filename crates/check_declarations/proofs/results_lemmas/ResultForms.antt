@@ -1,0 +1,46 @@
+-- Forms through which a result is followed.
+use Rattle.std.proofs.Common.{◌≡◌, ℕ, List, [], ◌∷◌, length}
+use Rattle.std.proofs.lemmas.Grind.{common_steps}
+use denote.Ref.{Bor}
+use Rattle.hume_ast.specs.declared.tree.Pat.{Pat}
+use Rattle.hume_ast.specs.declared.tree.Exp.{Exp}
+use Rattle.check_typing.specs.inner.Walk.{star_walk}
+use Rattle.check_tasks.specs.declared.task.Task.TheVariants as plain
+use Rattle.check_tasks.specs.declared.task.TypeTask.TheVariants as types
+use Rattle.check_tasks.specs.declared.results.task.ResultTask.TheVariants as task
+use Rattle.check_tasks.specs.declared.results.task.ResultMake.TheVariants as make
+use Rattle.check_tasks.specs.results.ResultStates.{ResultState}
+use Rattle.check_tasks.specs.results.ResultTasks.{scope_of, signatures_of, last_outputs, result_run, result_of}
+use Rattle.check_tasks.proofs.results_lemmas.ResultForms.{let_result, if_result}
+use Rattle.check_tasks.proofs.results_lemmas.ResultWholes.{case_result}
+use Rattle.check_declarations.specs.results.inner.ResultPlans.{let_found, if_found, case_found}
+
+-- the laws of forms, where what the other walk finds of the whole is left out
+pub let_does : (st : ResultState) (name : Bor (List ℕ)) (a b : Bor Exp) →
+    result_run (task.Plain (plain.Own a) ∷ task.Plain (plain.Enter name) ∷ task.Result b ∷ task.Plain (plain.Leave (length (scope_of st)))
+    ∷ task.Make make.Binding ∷ []) st
+    ≡ result_of ((let_found (signatures_of st) name.now a.now b.now).result (scope_of st) (last_outputs st)) st
+unfolding let_found
+let_does st name a b = let_result st star_walk a b name
+
+pub if_does : (st : ResultState) (t a b : Bor Exp) →
+    result_run (task.Plain (plain.Types types.PushBool) ∷ task.Plain (plain.Against t) ∷ task.Plain (plain.Types types.Pop) ∷ task.Result a ∷ task.Result b
+    ∷ task.Make make.Branches ∷ []) st
+    ≡ result_of ((if_found (signatures_of st) t.now a.now b.now).result (scope_of st) (last_outputs st)) st
+unfolding if_found
+if_does st t a b = if_result st star_walk t a b
+
+pub case_does : (st : ResultState) (a : Bor Exp) (arms : Bor (List (Pat × Exp))) (count : ℕ) → count ≡ length arms.now →
+    result_run (task.Plain (plain.Own a) ∷ task.Plain (plain.Types types.RepeatBelow) ∷ task.Arms arms ∷ task.Plain (plain.Types types.Pop)
+    ∷ task.Make (make.Alternatives count) ∷ task.Plain (plain.Types types.Pop) ∷ []) st
+    ≡ result_of ((case_found (signatures_of st) a.now arms.now).result (scope_of st) (last_outputs st)) st
+unfolding case_found
+case_does st a arms count is = case_result st star_walk a arms count is
+
+pub ruleset let_steps = (common_steps, let_does)
+
+pub ruleset if_steps = (common_steps, if_does)
+
+pub ruleset case_steps = (common_steps, case_does)
+
+pub ruleset same_steps = (common_steps)

@@ -1,0 +1,5 @@
+pub mod Mistyped
+pub mod inner
+pub mod functions
+pub mod results
+pub mod boxes

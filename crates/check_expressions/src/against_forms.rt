@@ -1,0 +1,160 @@
+//! The tasks of each form of expression against the last type.
+ghost use Rattle.std.specs.Prelude.{◌≡◌, OnOk, IfErr};
+ghost use Rattle.check_scopes.specs.types.Contexts.{top};
+ghost use Rattle.check_typing.specs.inner.Walk.{walk, let_walk, if_walk, case_walk, arithmetic_walk, neg_walk, update_walk, tuple_walk};
+ghost use Rattle.check_tasks.specs.Tasks.{walks, arm_walks};
+ghost use Rattle.check_expressions.specs.inner.Plans.{DoesAgainst};
+ghost use Rattle.check_expressions.specs.declared.stop.Stop.TheVariants.{NoMemory};
+
+use crate::elaboration::Elaboration;
+use crate::first::first;
+use crate::stop::Stop;
+use check_cores::Stack;
+use check_tasks::{CoreTask, Task, TypeTask};
+use hume_ast::{Exp, Pat};
+use hume_base::Text;
+use hume_model::Op;
+
+#[tactic(auto, using(crate::proofs::Forms::let_against_steps))]
+pub(crate) fn let_against<'a>(
+    at: &Elaboration<'a>,
+    tasks: &mut Stack<Task<'a>>,
+    name: &'a Text,
+    a: &'a Exp,
+    b: &'a Exp,
+) -> Result<(), Stop>
+    ensures ok { OnOk result (DoesAgainst ((let_walk name.now (walk at.now.0.2 a.now) (walk at.now.0.2 b.now)).against at.now.0.0 (top at.now.0.1)) at.now tasks.old tasks.new) }
+    ensures none { IfErr result (λ stop. stop ≡ NoMemory) }
+{
+    let count = at.environment.variables();
+    first(
+        tasks,
+        &[
+            Task::Own(a),
+            Task::Enter(name.bytes()),
+            Task::Against(b),
+            Task::Leave(count),
+            Task::Cores(CoreTask::Binding),
+        ],
+    )
+}
+
+#[tactic(auto, using(crate::proofs::Forms::if_against_steps))]
+pub(crate) fn if_against<'a>(
+    at: &Elaboration<'a>,
+    tasks: &mut Stack<Task<'a>>,
+    test: &'a Exp,
+    a: &'a Exp,
+    b: &'a Exp,
+) -> Result<(), Stop>
+    ensures ok { OnOk result (DoesAgainst ((if_walk (walk at.now.0.2 test.now) (walk at.now.0.2 a.now) (walk at.now.0.2 b.now)).against at.now.0.0 (top at.now.0.1)) at.now tasks.old tasks.new) }
+    ensures none { IfErr result (λ stop. stop ≡ NoMemory) }
+{
+    first(
+        tasks,
+        &[
+            Task::Types(TypeTask::PushBool),
+            Task::Against(test),
+            Task::Types(TypeTask::Pop),
+            Task::Against(a),
+            Task::Against(b),
+            Task::Cores(CoreTask::Branches),
+        ],
+    )
+}
+
+#[tactic(auto, using(crate::proofs::Forms::case_against_steps))]
+pub(crate) fn case_against<'a>(
+    at: &Elaboration<'a>,
+    tasks: &mut Stack<Task<'a>>,
+    a: &'a Exp,
+    arms: &'a [(Pat, Exp)],
+) -> Result<(), Stop>
+    ensures ok { OnOk result (DoesAgainst ((case_walk at.now.0.2 (walk at.now.0.2 a.now) (arm_walks at.now.0.2 arms.now)).against at.now.0.0 (top at.now.0.1)) at.now tasks.old tasks.new) }
+    ensures none { IfErr result (λ stop. stop ≡ NoMemory) }
+{
+    first(
+        tasks,
+        &[
+            Task::Own(a),
+            Task::Types(TypeTask::RepeatBelow),
+            Task::Arms(arms),
+            Task::Types(TypeTask::Pop),
+            Task::Cores(CoreTask::Alternatives(arms.len())),
+            Task::Types(TypeTask::Pop),
+        ],
+    )
+}
+
+#[tactic(auto, using(crate::proofs::Forms::arithmetic_against_steps))]
+pub(crate) fn arithmetic_against<'a>(
+    at: &Elaboration<'a>,
+    tasks: &mut Stack<Task<'a>>,
+    operation: Op,
+    a: &'a Exp,
+    b: &'a Exp,
+) -> Result<(), Stop>
+    ensures ok { OnOk result (DoesAgainst ((arithmetic_walk operation (walk at.now.0.2 a.now) (walk at.now.0.2 b.now)).against at.now.0.0 (top at.now.0.1)) at.now tasks.old tasks.new) }
+    ensures none { IfErr result (λ stop. stop ≡ NoMemory) }
+{
+    first(
+        tasks,
+        &[
+            Task::Types(TypeTask::IsNumber),
+            Task::Against(a),
+            Task::Against(b),
+            Task::Cores(CoreTask::Operation(operation)),
+        ],
+    )
+}
+
+#[tactic(auto, using(crate::proofs::Forms::neg_against_steps))]
+pub(crate) fn neg_against<'a>(
+    at: &Elaboration<'a>,
+    tasks: &mut Stack<Task<'a>>,
+    a: &'a Exp,
+) -> Result<(), Stop>
+    ensures ok { OnOk result (DoesAgainst ((neg_walk (walk at.now.0.2 a.now)).against at.now.0.0 (top at.now.0.1)) at.now tasks.old tasks.new) }
+    ensures none { IfErr result (λ stop. stop ≡ NoMemory) }
+{
+    first(
+        tasks,
+        &[
+            Task::Types(TypeTask::IsNumber),
+            Task::Against(a),
+            Task::Cores(CoreTask::Negation),
+        ],
+    )
+}
+
+#[tactic(auto, using(crate::proofs::Forms::update_against_steps))]
+pub(crate) fn update_against<'a>(
+    at: &Elaboration<'a>,
+    tasks: &mut Stack<Task<'a>>,
+    a: &'a Exp,
+    b: &'a Exp,
+    d: &'a Exp,
+) -> Result<(), Stop>
+    ensures ok { OnOk result (DoesAgainst ((update_walk (walk at.now.0.2 a.now) (walk at.now.0.2 b.now) (walk at.now.0.2 d.now)).against at.now.0.0 (top at.now.0.1)) at.now tasks.old tasks.new) }
+    ensures none { IfErr result (λ stop. stop ≡ NoMemory) }
+{
+    first(tasks, &[Task::Against(a), Task::Update(b, d)])
+}
+
+#[tactic(auto, using(crate::proofs::Forms::tuple_against_steps))]
+pub(crate) fn tuple_against<'a>(
+    at: &Elaboration<'a>,
+    tasks: &mut Stack<Task<'a>>,
+    parts: &'a [Exp],
+) -> Result<(), Stop>
+    ensures ok { OnOk result (DoesAgainst ((tuple_walk (walks at.now.0.2 parts.now)).against at.now.0.0 (top at.now.0.1)) at.now tasks.old tasks.new) }
+    ensures none { IfErr result (λ stop. stop ≡ NoMemory) }
+{
+    first(
+        tasks,
+        &[
+            Task::Parts(parts, 0),
+            Task::Cores(CoreTask::Tuple(parts.len())),
+        ],
+    )
+}

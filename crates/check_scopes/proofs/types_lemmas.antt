@@ -1,0 +1,4 @@
+pub mod Held
+pub mod Numbers
+pub mod TreeSteps
+pub mod Vars

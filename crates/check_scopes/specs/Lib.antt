@@ -1,0 +1,5 @@
+pub mod Known
+pub mod Written
+pub mod inner
+pub mod signatures
+pub mod types

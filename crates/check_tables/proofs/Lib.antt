@@ -1,0 +1,2 @@
+pub mod names_lemmas
+pub mod graph_lemmas

@@ -1,0 +1,3 @@
+pub mod types
+pub mod first_values
+pub mod cores

@@ -1,5 +1,0 @@
-use Rattle.code_meaning.proofs.WholeRules.{rule_runs}
-use Rattle.code_meaning.proofs.laws.rules_run.Goals as goal
-
-pub returns : goal.returns
-returns c = λ core sound b typed handles program represents number rule there ins are fit m ready. rule_runs core sound b typed handles program represents number rule there ins are fit m ready

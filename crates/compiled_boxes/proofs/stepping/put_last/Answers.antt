@@ -1,5 +1,0 @@
-use Rattle.compiled_boxes.proofs.Orders.{stands_below}
-use Rattle.compiled_boxes.proofs.stepping.put_last.Goals as goal
-
-pub fired-requires : goal.fired-requires
-fired-requires c = stands_below c.args.number c.args.order.now c.orders_have_each_rule_once.ensures.below c.requires.0 c.requires.1

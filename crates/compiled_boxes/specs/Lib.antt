@@ -1,4 +1,0 @@
-pub mod Views
-pub mod Steps
-pub mod Boxes
-pub mod inner

@@ -1,6 +1,0 @@
-use Rattle.std.proofs.Common.{◌≡◌}
-use Rattle.hume_typing.specs.Cores.{cores, some_too_wide}
-use Rattle.core_builder.proofs.gather.apart.Given as goal
-
-abbrev pub invariant-loop-part : goal.invariant-loop-part
-invariant-loop-part l = (l.parts ≡ cores l.yielded) × (l.some_too_wide ≡ some_too_wide l.yielded)

@@ -1,6 +1,0 @@
-use Rattle.gathered_writes.specs.Gathered.{writes_of}
-use Rattle.core_runs.proofs.GatheredValues.{GatheredTo}
-use Rattle.core_runs.proofs.gathering.gather_values.Given as goal
-
-abbrev pub invariant-loop-value : goal.invariant-loop-value
-invariant-loop-value l = GatheredTo l.types l.ty l.at l.values (writes_of l.initial.writes) (writes_of l.writes) l.value-index

@@ -1,6 +1,0 @@
-pub mod Streams
-pub mod Inputs
-pub mod Writes
-pub mod Destinations
-pub mod Runs
-pub mod inner

@@ -1,7 +1,0 @@
-pub mod FormLaws
-pub mod Given
-pub mod Lengths
-pub mod ListLaws
-pub mod Order
-pub mod PatternLaws
-pub mod WholeLaws

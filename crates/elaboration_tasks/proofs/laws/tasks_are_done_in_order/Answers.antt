@@ -1,5 +1,0 @@
-use Rattle.elaboration_tasks.proofs.Order.{run_append}
-use Rattle.elaboration_tasks.proofs.laws.tasks_are_done_in_order.Goals as goal
-
-pub returns : goal.returns
-returns c = λ first rest state. run_append first rest state

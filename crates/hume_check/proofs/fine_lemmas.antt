@@ -1,0 +1,9 @@
+pub mod Orders
+pub mod Places
+pub mod Ends
+pub mod Wires
+pub mod Signatures
+pub mod Cores
+pub mod Decided
+pub mod Cycles
+pub mod LeastRules

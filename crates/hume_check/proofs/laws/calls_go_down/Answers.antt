@@ -1,5 +1,0 @@
-use Rattle.hume_check.proofs.FunctionsOrdered.{calls_go_down}
-use Rattle.hume_check.proofs.laws.calls_go_down.Goals as goal
-
-pub returns : goal.returns
-returns c = λ text program core fine p. calls_go_down text program core p

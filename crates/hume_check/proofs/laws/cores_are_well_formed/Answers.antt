@@ -1,5 +1,0 @@
-use Rattle.hume_check.proofs.WellFormed.{well_formed}
-use Rattle.hume_check.proofs.laws.cores_are_well_formed.Goals as goal
-
-pub returns : goal.returns
-returns c = λ text program core fine fit tokens p. well_formed text program core fine fit tokens p

@@ -1,5 +1,0 @@
-use Rattle.hume_check.proofs.SignaturesOnce.{the_signatures}
-use Rattle.hume_check.proofs.laws.signatures_are_unique.Goals as goal
-
-pub returns : goal.returns
-returns c = λ decls s t p q. the_signatures decls s t p q

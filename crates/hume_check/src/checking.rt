@@ -1,0 +1,100 @@
+//! The check of a program.
+ghost use Rattle.std.specs.Prelude.{◌≡◌, ◌≤◌, ◌<◌, ◌⊎◌, ◌^◌, length, Some, None, IfOk, IfErr, OnOk};
+ghost use Rattle.hume_base.specs.declared.limits.TheConstants.{MAX_SOURCE_BYTES};
+ghost use Rattle.hume_base.specs.declared.finding.Finding.{Finding as BrokenRule};
+ghost use Rattle.hume_base.specs.Least.{IsLeast};
+ghost use Rattle.hume_ast.specs.Fits.{IsFit};
+ghost use Rattle.check_names.specs.Misnamed.{BreaksNames};
+ghost use Rattle.check_rules.specs.SignaturesOf.{AreSignatures};
+ghost use Rattle.check_rules.specs.CheckRules.{BreaksCounts, BreaksCheck};
+ghost use Rattle.check_rules.specs.CoreOf.{IsCoreOf};
+ghost use Rattle.hume_check.specs.Refused.{IsUnchecked};
+
+use crate::assembly::core_of;
+use crate::counts::least_in_names_or_counts;
+use crate::limits::least_in_types_or_limits;
+use crate::refused::refusal;
+use check_signatures::{Ordered, signatures_of};
+use hume_ast::Program;
+use hume_base::lines::LineTable;
+use hume_base::{Finding, Refusal};
+use hume_model::Core;
+use std::alloc::{AllocError, Global};
+use thiserror::Error;
+
+/// Why a program has no core.
+#[derive(Debug, Drop, PartialEq, Eq, Error)]
+pub enum CheckError {
+    /// The least rule that it breaks.
+    #[error("the program breaks a rule")]
+    Refused(Refusal),
+    #[error("out of memory")]
+    NoMemory,
+}
+
+impl From<AllocError> for CheckError {
+    ghost use Rattle.hume_check.specs.declared.checking.CheckError.TheVariants.{NoMemory};
+
+    ghost from_gives = { λ _ error. error ≡ NoMemory };
+
+    fn from(_: AllocError) -> Self {
+        CheckError::NoMemory
+    }
+}
+
+/// The core of the program in the source of that text, if it breaks no rule of its names, counts, types and limits.
+pub fn check(alloc: Global, program: &Program, text: &[u8]) -> Result<Core, CheckError>
+    requires fit { IsFit program.now }
+    requires few { length program.now.decls < 2 ^ 32 }
+    requires short { length text.now ≤ MAX_SOURCE_BYTES }
+    ensures fine { OnOk result (IsLeast (BreaksCheck program.now.decls) None) }
+    ensures core { IfOk result (IsCoreOf text.now program.now) }
+    ensures error { IfErr result (IsUnchecked text.now program.now.decls) }
+{
+    let lines = LineTable::make(alloc, text)?;
+    match least_in_names_or_counts(alloc, program)? {
+        Some(finding) => Err(refused(&lines, program, finding)),
+        None => check_named(alloc, program, &lines),
+    }
+}
+
+fn refused(lines: &LineTable, program: &Program, finding: Finding) -> CheckError
+    requires { IsLeast (BreaksCheck program.now.decls) (Some finding) }
+    ensures { IsUnchecked lines.now program.now.decls result }
+{
+    CheckError::Refused(refusal(lines, program.decls.as_slice(), finding))
+}
+
+// Names and counts are fine, so that there are signatures.
+fn check_named(alloc: Global, program: &Program, lines: &LineTable) -> Result<Core, CheckError>
+    requires fit { IsFit program.now }
+    requires few { length program.now.decls < 2 ^ 32 }
+    requires named { IsLeast (λ (f : BrokenRule). BreaksNames program.now.decls f ⊎ BreaksCounts program.now.decls f) None }
+    ensures fine { OnOk result (IsLeast (BreaksCheck program.now.decls) None) }
+    ensures core { IfOk result (IsCoreOf lines.now program.now) }
+    ensures error { IfErr result (IsUnchecked lines.now program.now.decls) }
+{
+    match signatures_of(alloc, program.decls.as_slice())? {
+        Some(ordered) => check_ordered(alloc, program, lines, ordered),
+        None => unreachable!(),
+    }
+}
+
+fn check_ordered(
+    alloc: Global,
+    program: &Program,
+    lines: &LineTable,
+    ordered: Ordered,
+) -> Result<Core, CheckError>
+    requires few { length program.now.decls < 2 ^ 32 }
+    requires named { IsLeast (λ (f : BrokenRule). BreaksNames program.now.decls f ⊎ BreaksCounts program.now.decls f) None }
+    requires are { (are : AreSignatures program.now.decls ordered.signatures) × (are.funs.order ≡ ordered.functions) }
+    ensures fine { OnOk result (IsLeast (BreaksCheck program.now.decls) None) }
+    ensures core { IfOk result (IsCoreOf lines.now program.now) }
+    ensures error { IfErr result (IsUnchecked lines.now program.now.decls) }
+{
+    match least_in_types_or_limits(alloc, program, &ordered.signatures)? {
+        Some(finding) => Err(refused(lines, program, finding)),
+        None => Ok(core_of(alloc, lines, program, ordered)?),
+    }
+}

@@ -1,7 +1,0 @@
-use Rattle.std.proofs.Common.{◌≡◌, [], drop}
-use Rattle.name_table.specs.Names.{with_names}
-use Rattle.hume_counts.specs.Counted.{all_declared, functions_of}
-use Rattle.hume_counts.proofs.counts.function_counts.Given as goal
-
-abbrev pub invariant-loop-decl : goal.invariant-loop-decl
-invariant-loop-decl l = with_names l.table (all_declared functions_of (drop l.decl-index l.decls)) ≡ with_names [] (all_declared functions_of l.decls)

@@ -1,7 +1,0 @@
-use Rattle.std.proofs.Common.{IsTrue, ℕ, ◌<◌}
-use Rattle.hume_names.specs.Names.{OfDecl}
-use Rattle.hume_counts.specs.CountRules.{declaration_has_stray_star}
-use Rattle.hume_counts.proofs.first.first_star.Given as goal
-
-abbrev pub invariant-loop-i : goal.invariant-loop-i
-invariant-loop-i l = (j : ℕ) → j < l.i → OfDecl l.decls j (λ decl. IsTrue (declaration_has_stray_star decl)) → ⊥

@@ -1,9 +1,0 @@
-use Rattle.std.proofs.Common.{◌≡◌, map, drop}
-use Rattle.hume_names.specs.Twice.{any_true}
-use Rattle.hume_counts.specs.Miscounts.{pattern_miscounts}
-use Rattle.hume_counts.proofs.patterns.+pattern_miscounts.Given as goal
-
-abbrev pub invariant-a_pattern_miscounts-loop-pat : goal.invariant-a_pattern_miscounts-loop-pat
-invariant-a_pattern_miscounts-loop-pat l =
-    let test = pattern_miscounts l.counts in
-    any_true (map test (drop l.pat-index l.pats)) ≡ any_true (map test l.pats)

@@ -1,7 +1,0 @@
-use Rattle.std.proofs.Common.{◌≡◌, take, true}
-use Rattle.hume_typing.specs.inner.Walk.{arm_walks_open}
-use Rattle.elaboration_tasks.specs.Tasks.{arm_walks}
-use Rattle.hume_elaborate.proofs.open.first_closed_arm.Given as goal
-
-abbrev pub invariant-loop-place : goal.invariant-loop-place
-invariant-loop-place l = arm_walks_open (arm_walks l.at.0.2 (take l.place l.arms)) ≡ true

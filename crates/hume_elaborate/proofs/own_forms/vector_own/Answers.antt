@@ -1,8 +1,0 @@
-use Rattle.std.proofs.Common.{refl}
-use Rattle.elaboration_tasks.proofs.WholeLaws.{vector_own}
-use Rattle.hume_elaborate.proofs.Forms.{comes_to}
-use Rattle.hume_elaborate.proofs.PlanLists.{vector_own_plan}
-use Rattle.hume_elaborate.proofs.own_forms.vector_own.Goals as goal
-
-pub returns-clause-ok : goal.returns-clause-ok
-returns-clause-ok c = comes_to c.first.result c.first.new.tasks (vector_own_plan c.args.parts) c.args.tasks.now c.args.at.now _ (vector_own c.args.at.now c.args.parts _ refl) c.first.ensures.ok

@@ -1,6 +1,0 @@
-use Rattle.std.proofs.Common.{◌≡◌}
-use Rattle.elaboration_tasks.specs.Tasks.{run}
-use Rattle.hume_elaborate.proofs.walk.run_all.Given as goal
-
-abbrev pub invariant-loop : goal.invariant-loop
-invariant-loop l = run l.tasks l.at ≡ run l.fn.tasks l.fn.at

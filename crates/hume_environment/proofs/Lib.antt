@@ -1,4 +1,0 @@
-pub mod Keeping
-pub mod Places
-pub mod Pushed
-pub mod PushedTypes

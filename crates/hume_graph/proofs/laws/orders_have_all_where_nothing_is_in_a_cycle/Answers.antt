@@ -1,5 +1,0 @@
-use Rattle.hume_graph.proofs.LeftOut.{all_where_no_cycle}
-use Rattle.hume_graph.proofs.laws.orders_have_all_where_nothing_is_in_a_cycle.Goals as goal
-
-pub returns : goal.returns
-returns c = λ graph order is. all_where_no_cycle graph order is

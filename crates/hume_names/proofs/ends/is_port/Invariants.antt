@@ -1,6 +1,0 @@
-use Rattle.std.proofs.Common.{◌≡◌, map, drop, Some}
-use Rattle.hume_names.specs.Unknown.{is_end}
-use Rattle.hume_names.proofs.ends.is_port.Given as goal
-
-abbrev pub invariant-loop-port : goal.invariant-loop-port
-invariant-loop-port l = is_end l.end (map (λ port. (l.name, Some port.0)) (drop l.port-index l.ports)) ≡ is_end l.end (map (λ port. (l.name, Some port.0)) l.ports)

@@ -1,6 +1,0 @@
-use Rattle.std.proofs.Common.{take}
-use Rattle.hume_names.specs.inner.NameNodes.{AreNodes}
-use Rattle.hume_names.proofs.name_nodes.name_nodes.Given as goal
-
-abbrev pub invariant-loop-at : goal.invariant-loop-at
-invariant-loop-at l = AreNodes l.first (take l.at l.owners) l.nodes

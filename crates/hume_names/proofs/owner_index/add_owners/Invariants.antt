@@ -1,6 +1,0 @@
-use Rattle.std.proofs.Common.{IsTrue, take}
-use Rattle.hume_names.specs.inner.Indexed.{IsIndex}
-use Rattle.hume_names.proofs.owner_index.add_owners.Given as goal
-
-abbrev pub invariant-loop-at : goal.invariant-loop-at
-invariant-loop-at l = IsTrue l.distinct → IsIndex l.table (take l.at l.owners)

@@ -1,5 +1,0 @@
-use Rattle.std.proofs.Common.{sym}
-use Rattle.hume_names.proofs.repeated.first_repeated.Goals as goal
-
-pub first_repeated_in-requires-clause-few : goal.first_repeated_in-requires-clause-few
-first_repeated_in-requires-clause-few c = rw (sym c.as_slice.ensures) at c.requires

@@ -1,6 +1,0 @@
-use Rattle.std.proofs.Common.{ℕ, ◌<◌}
-use Rattle.hume_names.specs.Unknown.{HasUnknownName}
-use Rattle.hume_names.proofs.unknown.first_lacking.Given as goal
-
-abbrev pub invariant-loop-i : goal.invariant-loop-i
-invariant-loop-i l = (j : ℕ) → j < l.i → HasUnknownName l.decls j → ⊥

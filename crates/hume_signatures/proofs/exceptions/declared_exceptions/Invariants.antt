@@ -1,8 +1,0 @@
-use Rattle.std.proofs.Common.{◌≡◌, drop}
-use Rattle.hume_check.specs.Declared.{exception_of}
-use Rattle.hume_signatures.specs.inner.Named.{exception_by, exceptions_in}
-use Rattle.hume_signatures.proofs.Gathered.{with_rest}
-use Rattle.hume_signatures.proofs.exceptions.declared_exceptions.Given as goal
-
-abbrev pub invariant-loop-d : goal.invariant-loop-d
-invariant-loop-d l = with_rest exception_of (exception_by l.names) (drop l.d-index l.decls) l.exns ≡ exceptions_in l.names l.decls

@@ -1,9 +1,0 @@
-use Rattle.std.proofs.Common.{drop, sym, ap, ◌∙◌}
-use Rattle.hume_types.specs.Contexts.{shape_of}
-use Rattle.hume_types.proofs.Held.{top_level}
-use Rattle.hume_types.proofs.context.Context.shape.Goals as goal
-
-pub returns : goal.returns
-returns c =
-    let tys = c.self.inside.types in
-    c.shape_of_node-shape.ensures tys ∙ ap shape_of (sym (top_level tys c.self.inside.held (drop 1 c.self.inside.held) c.in-Some.number c.node.result.now c.args.self.now.1 (ap (λ k. k.1) c.self.view_is) c.in-Some.ensures c.node.ensures.is))

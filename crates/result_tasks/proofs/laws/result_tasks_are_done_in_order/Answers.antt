@@ -1,5 +1,0 @@
-use Rattle.result_tasks.proofs.ResultOrder.{run_append}
-use Rattle.result_tasks.proofs.laws.result_tasks_are_done_in_order.Goals as goal
-
-pub returns : goal.returns
-returns c = λ first rest state. run_append first rest state

@@ -1,9 +1,0 @@
-use Rattle.std.proofs.Common.{◌≡◌, drop}
-use Rattle.hume_base.specs.declared.types.SumDef.{SumDef}
-use Rattle.name_table.specs.Names.{with_names}
-use Rattle.signature_table.specs.inner.Tables.{numbered_from, table_of}
-use Rattle.signature_table.proofs.names.data_type_names.Given as goal
-
-abbrev pub invariant-loop-number : goal.invariant-loop-number
-invariant-loop-number l =
-    with_names l.table (numbered_from (λ (one : SumDef). one.name) l.number (drop l.number l.data_types)) ≡ table_of (λ (one : SumDef). one.name) l.data_types

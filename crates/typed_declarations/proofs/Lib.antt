@@ -1,3 +1,0 @@
-pub mod FirstLaws
-pub mod MistypedLaws
-pub mod VerdictLaws

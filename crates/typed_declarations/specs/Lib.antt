@@ -1,2 +1,0 @@
-pub mod Mistyped
-pub mod inner

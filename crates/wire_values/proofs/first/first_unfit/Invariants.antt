@@ -1,7 +1,0 @@
-use Rattle.std.proofs.Common.{IsTrue, ℕ, ◌<◌}
-use Rattle.hume_names.specs.Names.{OfDecl}
-use Rattle.wire_values.specs.inner.Unfit.{has_unfit_value}
-use Rattle.wire_values.proofs.first.first_unfit.Given as goal
-
-abbrev pub invariant-loop-i : goal.invariant-loop-i
-invariant-loop-i l = (j : ℕ) → j < l.i → OfDecl l.decls j (λ decl. IsTrue (has_unfit_value l.table l.types decl)) → ⊥
