@@ -1,0 +1,5 @@
+pub mod ActLists
+pub mod Making
+pub mod Failing
+pub mod Single
+pub mod Stopping
