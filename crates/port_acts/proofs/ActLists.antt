@@ -35,7 +35,8 @@ OnlyWanted-on ps qs ts us o p name out =
     let neither = among_neither name (wanted ps) (wanted qs) (wanted (ps ++ qs)) (flat_map-append wanted_by ps qs) out in
     bytes_for-append name ts us ∙ rw (o name neither.0, p name neither.1) refl
 
-pub is_out_after-append : (name : List ℕ) (before : Bool) (ps qs : List Act) → is_out_after name before (ps ++ qs) ≡ is_out_after name (is_out_after name before ps) qs
+pub is_out_after-append : (name : List ℕ) (before : Bool) (ps qs : List Act)
+    → is_out_after name before (ps ++ qs) ≡ is_out_after name (is_out_after name before ps) qs
 is_out_after-append name before [] qs = refl
 is_out_after-append name before (wants other count ∷ ps) qs = is_out_after-append name before ps qs
 is_out_after-append name before (writes other bytes ∷ ps) qs = is_out_after-append name (cond (bytes_eq name other) false before) ps qs
@@ -56,7 +57,8 @@ out_by name before (finishes other ∷ acts) out = elim (cases_Bool (bytes_eq na
 ]
 
 -- after a finish nothing is written
-pub all_before : (before later : List Act) (name : List ℕ) → FinishesLast (before ++ finishes name ∷ later) → written before ≡ written (before ++ finishes name ∷ later)
+pub all_before : (before later : List Act) (name : List ℕ) → FinishesLast (before ++ finishes name ∷ later)
+    → written before ≡ written (before ++ finishes name ∷ later)
 all_before [] later name last = sym last.0
 all_before (wants other count ∷ before) later name last = all_before before later name last
 all_before (writes other bytes ∷ before) later name last = ap (λ (pairs : Pairs). (other, bytes) ∷ pairs) (all_before before later name last)

@@ -13,7 +13,8 @@ use Rattle.port_acts.proofs.ActLists.{written-append, within_first, all_before}
 use Rattle.port_acts.proofs.Making.{Made-on, both_untouched}
 
 -- acts that were made come before the failed one
-pub Fails-on : (few : Few) (earlier ts : Pairs) (ps qs : List Act) (olds mids news : List PortView) → Made ps ts olds mids → Fails few (earlier ++ ts) qs mids news → Fails few earlier (ps ++ qs) olds news
+pub Fails-on : (few : Few) (earlier ts : Pairs) (ps qs : List Act) (olds mids news : List PortView) → Made ps ts olds mids
+    → Fails few (earlier ++ ts) qs mids news → Fails few earlier (ps ++ qs) olds news
 Fails-on few earlier ts ps qs olds mids news m f =
     let R : Pairs → Type 0 = λ pairs. Roomy olds pairs in
     let P : Pairs → Type 0 = λ pairs. IsFew few f.act (bytes_for (name_of f.act) pairs) in
@@ -36,7 +37,8 @@ Fails-on few earlier ts ps qs olds mids news m f =
     }
 
 -- acts after the failed one are not begun
-pub Fails-stop : (few : Few) (earlier : Pairs) (ps qs : List Act) (olds news : List PortView) → Fails few earlier ps olds news → Fails few earlier (ps ++ qs) olds news
+pub Fails-stop : (few : Few) (earlier : Pairs) (ps qs : List Act) (olds news : List PortView) → Fails few earlier ps olds news
+    → Fails few earlier (ps ++ qs) olds news
 Fails-stop few earlier ps qs olds news f =
     let R : Pairs → Type 0 = λ pairs. Roomy olds pairs in
     record {
@@ -137,7 +139,8 @@ pub untouched_since : (few : Few) (earlier : Pairs) (acts : List Act) (olds news
 untouched_since few earlier acts olds news f =
     both_untouched f.before (f.act ∷ []) olds f.mid news f.made.untouched f.made.progress.same_names f.alone
 
-pub Fails-untouched : (few : Few) (earlier : Pairs) (acts : List Act) (olds news : List PortView) → Fails few earlier acts olds news → Untouched (names_of acts) olds news
+pub Fails-untouched : (few : Few) (earlier : Pairs) (acts : List Act) (olds news : List PortView) → Fails few earlier acts olds news
+    → Untouched (names_of acts) olds news
 Fails-untouched few earlier acts olds news f =
     let P : List Act → Type 0 = λ all. Untouched (names_of all) olds news in
     let whole : (f.before ++ f.act ∷ []) ++ f.later ≡ acts = append_assoc f.before (f.act ∷ []) f.later ∙ sym f.in_order in
@@ -154,14 +157,16 @@ abbrev AtWant : Few → Act → Pairs → Pairs → Type 0
 AtWant few act taken given = (name : List ℕ) × (count : ℕ) × (act ≡ wants name count) × few name count (bytes_for name taken) × (given ≡ [])
 
 at_want : (few : Few) (act : Act) (taken given : Pairs) (olds news : List PortView) → IsPart act given → HasRisen act olds news
-    → NoneRose (λ port. port.write_faults) olds news → NoneRose (λ port. port.finish_faults) olds news → IsFew few act (bytes_for (name_of act) taken) → AtWant few act taken given
+    → NoneRose (λ port. port.write_faults) olds news → NoneRose (λ port. port.finish_faults) olds news
+    → IsFew few act (bytes_for (name_of act) taken) → AtWant few act taken given
 at_want few (wants name count) taken given olds news part rose no_write no_finish is = (name, count, refl, is, part)
 at_want few (writes name bytes) taken given olds news part rose no_write no_finish is = absurd (no_write name rose)
 at_want few (finishes name) taken given olds news part rose no_write no_finish is = absurd (no_finish name rose)
 
 pub read_tells : (few : Few) (earlier : Pairs) (acts : List Act) (olds news : List PortView) (f : Fails few earlier acts olds news)
     → NoneRose (λ port. port.write_faults) olds news → NoneRose (λ port. port.finish_faults) olds news
-    → (name : List ℕ) × (count : ℕ) × (f.act ≡ wants name count) × few name count (bytes_for name (earlier ++ (f.taken ++ f.read))) × Delivered olds news (written f.before)
+    → (name : List ℕ) × (count : ℕ) × (f.act ≡ wants name count)
+    × few name count (bytes_for name (earlier ++ (f.taken ++ f.read))) × Delivered olds news (written f.before)
 read_tells few earlier acts olds news f no_write no_finish =
     let since = failure_since few earlier acts olds news f in
     let want = at_want few f.act (earlier ++ (f.taken ++ f.read)) f.given olds news f.part since.rose no_write no_finish f.is_few in
@@ -170,7 +175,8 @@ read_tells few earlier acts olds news f no_write no_finish =
 
 -- where only write counts rose, some write wasn't made
 write_left : (act : Act) (before later : List Act) (olds news : List PortView) → HasRisen act olds news
-    → NoneRose (λ port. port.read_faults) olds news → NoneRose (λ port. port.finish_faults) olds news → length (written before) < length (written (before ++ act ∷ later))
+    → NoneRose (λ port. port.read_faults) olds news → NoneRose (λ port. port.finish_faults) olds news
+    → length (written before) < length (written (before ++ act ∷ later))
 write_left (wants name count) before later olds news rose no_read no_finish = absurd (no_read name rose)
 write_left (writes name bytes) before later olds news rose no_read no_finish =
     rw (written-append before (writes name bytes ∷ later), length-append (written before) ((name, bytes) ∷ written later)) (omega arith)
@@ -210,9 +216,11 @@ front_is_nothing [] qs e = (refl, e)
 front_is_nothing (pair ∷ ps) qs e = cc
 
 -- acts that write nothing, and fail, have given nothing
-pub Fails-nothing : (few : Few) (earlier : Pairs) (acts : List Act) (olds news : List PortView) → Fails few earlier acts olds news → written acts ≡ [] → Delivered olds news []
+pub Fails-nothing : (few : Few) (earlier : Pairs) (acts : List Act) (olds news : List PortView) → Fails few earlier acts olds news
+    → written acts ≡ [] → Delivered olds news []
 Fails-nothing few earlier acts olds news f none =
-    let both = front_is_nothing (written f.before) (written (f.act ∷ f.later)) (sym (written-append f.before (f.act ∷ f.later)) ∙ ap written (sym f.in_order) ∙ none) in
+    let all : written f.before ++ written (f.act ∷ f.later) ≡ [] = sym (written-append f.before (f.act ∷ f.later)) ∙ ap written (sym f.in_order) ∙ none in
+    let both = front_is_nothing (written f.before) (written (f.act ∷ f.later)) all in
     let part : f.given ≡ [] = no_part f.act f.given f.part (front_is_nothing (written_by f.act) (written f.later) both.1).0 in
     let P : Pairs → Type 0 = λ pairs. Delivered olds news pairs in
     subst P (rw (both.0, part) refl) (failure_since few earlier acts olds news f).delivered

@@ -3,3 +3,6 @@ pub mod Making
 pub mod Failing
 pub mod Single
 pub mod Stopping
+pub mod Each
+pub mod Wanting
+pub mod Finishing

@@ -28,7 +28,8 @@ both_untouched ps qs olds mids news u same v =
     (Untouched-more (names_of ps) (names_of (ps ++ qs)) olds mids (within_first ps qs) u) same
     (Untouched-more (names_of qs) (names_of (ps ++ qs)) mids news (within_last ps qs) v)
 
-pub Made-on : (ps qs : List Act) (ts us : Pairs) (olds mids news : List PortView) → Made ps ts olds mids → Made qs us mids news → Made (ps ++ qs) (ts ++ us) olds news
+pub Made-on : (ps qs : List Act) (ts us : Pairs) (olds mids news : List PortView) → Made ps ts olds mids → Made qs us mids news
+    → Made (ps ++ qs) (ts ++ us) olds news
 Made-on ps qs ts us olds mids news m n =
     let P : Pairs → Type 0 = λ pairs. Progress olds news (ts ++ us) pairs in
     record {

@@ -17,7 +17,8 @@ use Rattle.port_acts.proofs.Failing.{failure_since, Fails-untouched, Ends-on, Fa
 
 -- a want
 
-only_of : (name : List ℕ) (count : ℕ) (bytes : List ℕ) → OnlyWanted (wants name count ∷ []) ((name, bytes) ∷ [])
+-- of what was read only the want's name has bytes
+pub only_of : (name : List ℕ) (count : ℕ) (bytes : List ℕ) → OnlyWanted (wants name count ∷ []) ((name, bytes) ∷ [])
 only_of name count bytes other out = elim (cases_Bool (bytes_eq other name)) [
   | inl is ↦ absurd (true≢false (rw is at out))
   | inr isnt ↦ rw isnt refl
@@ -93,11 +94,12 @@ want_failed few earlier name count olds news f =
     let given : f.given ≡ [] = subst (λ (act : Act). IsPart act f.given) is.1 f.part in
     let all : written f.before ++ f.given ≡ [] = rw (is.0, given) refl in
     let P : Pairs → Type 0 = λ pairs. ReadFailure name olds news (f.taken ++ f.read) pairs in
+    let Q : Act → Type 0 = λ act. Failure (count_of act) (name_of act) olds news (f.taken ++ f.read) (written f.before ++ f.given) in
     let front : (other : List ℕ) → bytes_for other f.taken ≡ [] = λ other. f.made.only_wanted other (rw is.0 refl) in
     let part : OnlyWanted (wants name count ∷ []) f.read = subst (λ (act : Act). OnlyWanted (act ∷ []) f.read) is.1 f.only_wanted in
     record {
       read = f.taken ++ f.read;
-      failure = subst P all (subst (λ (act : Act). Failure (count_of act) (name_of act) olds news (f.taken ++ f.read) (written f.before ++ f.given)) is.1 since);
+      failure = subst P all (subst Q is.1 since);
       only_wanted = λ other out. bytes_for-append other f.taken f.read ∙ rw (front other, part other out) refl;
       is_few = subst (λ (act : Act). IsFew few act (bytes_for (name_of act) (earlier ++ (f.taken ++ f.read)))) is.1 f.is_few;
     }
@@ -119,13 +121,15 @@ pub read_is_few : (few : Few) (earlier : Pairs) (name : List ℕ) (count : ℕ) 
     → Fails nothing [] (wants name count ∷ []) olds news → Fails few earlier (wants name count ∷ []) olds news
 read_is_few few earlier name count olds news is f =
     let w = want_failed nothing [] name count olds news f in
-    let same : bytes_for name (earlier ++ w.read) ≡ bytes_for name earlier = bytes_for-append name earlier w.read ∙ rw w.is_few (append-nil (bytes_for name earlier)) in
+    let same : bytes_for name (earlier ++ w.read) ≡ bytes_for name earlier =
+    bytes_for-append name earlier w.read ∙ rw w.is_few (append-nil (bytes_for name earlier)) in
     want_fails few earlier name count w.read olds news w.failure w.only_wanted
     (subst (λ (bytes : List ℕ). few name count bytes) (sym same) is) f.no_room (Fails-untouched nothing [] (wants name count ∷ []) olds news f)
 
 -- a write
 
-pub write_made : (name bytes : List ℕ) (olds news : List PortView) → Progress olds news [] ((name, bytes) ∷ []) → Untouched (name ∷ []) olds news → Made (writes name bytes ∷ []) [] olds news
+pub write_made : (name bytes : List ℕ) (olds news : List PortView) → Progress olds news [] ((name, bytes) ∷ []) → Untouched (name ∷ []) olds news
+    → Made (writes name bytes ∷ []) [] olds news
 write_made name bytes olds news p u = record {
   progress = p;
   only_wanted = λ other out. refl;
@@ -136,7 +140,8 @@ write_made name bytes olds news p u = record {
   untouched = u;
 }
 
-pub write_fails : (few : Few) (earlier : Pairs) (name bytes : List ℕ) (count : ℕ) (olds news : List PortView) → WriteFailure name olds news [] ((name, take count bytes) ∷ [])
+pub write_fails : (few : Few) (earlier : Pairs) (name bytes : List ℕ) (count : ℕ) (olds news : List PortView)
+    → WriteFailure name olds news [] ((name, take count bytes) ∷ [])
     → (Roomy olds ((name, bytes) ∷ []) → ⊥) → Untouched (name ∷ []) olds news → Fails few earlier (writes name bytes ∷ []) olds news
 write_fails few earlier name bytes count olds news f no_room u = record {
   before = [];
@@ -158,7 +163,8 @@ write_fails few earlier name bytes count olds news f no_room u = record {
 
 -- a finish
 
-pub finish_made : (name : List ℕ) (olds news : List PortView) → Progress olds news [] [] → flushed_of name news ≡ true → Untouched (name ∷ []) olds news → Made (finishes name ∷ []) [] olds news
+pub finish_made : (name : List ℕ) (olds news : List PortView) → Progress olds news [] [] → flushed_of name news ≡ true
+    → Untouched (name ∷ []) olds news → Made (finishes name ∷ []) [] olds news
 finish_made name olds news p out u = record {
   progress = p;
   only_wanted = λ other none. refl;
@@ -223,7 +229,8 @@ pub finish_ends : (olds news : List PortView) (at : ℕ) (result : Result (Unit 
     → (Roomy olds [] → IsOk result) → ForNameAt at olds (λ name. Untouched (name ∷ []) olds news)
     → ForNameAt at olds (λ name. Ends never [] (finishes name ∷ []) [] olds news result)
 finish_ends olds news at (Ok done) quiet flushed failed roomy untouched name e = finish_made name olds news quiet (flushed name e) (untouched name e)
-finish_ends olds news at (Err f) quiet flushed failed roomy untouched name e = finish_fails never [] name olds news (failed name e) (λ room. absurd (true≢false (sym (roomy room)))) (untouched name e)
+finish_ends olds news at (Err f) quiet flushed failed roomy untouched name e =
+    finish_fails never [] name olds news (failed name e) (λ room. absurd (true≢false (sym (roomy room)))) (untouched name e)
 
 -- a write and a finish
 
@@ -232,7 +239,8 @@ pub line_stops : (olds news : List PortView) (at : ℕ) (bytes : List ℕ) → F
 line_stops olds news at bytes fails name e = Fails-stop never [] (writes name bytes ∷ []) (finishes name ∷ []) olds news (fails name e)
 
 pub line_ends : (olds mids news : List PortView) (at : ℕ) (bytes : List ℕ) (result : Result (Unit {0}) Failed) → names mids ≡ names olds
-    → ForNameAt at olds (λ name. Made (writes name bytes ∷ []) [] olds mids) → ForNameAt at mids (λ name. Ends never [] (finishes name ∷ []) [] mids news result)
+    → ForNameAt at olds (λ name. Made (writes name bytes ∷ []) [] olds mids)
+    → ForNameAt at mids (λ name. Ends never [] (finishes name ∷ []) [] mids news result)
     → ForNameAt at olds (λ name. Ends never [] (writes name bytes ∷ finishes name ∷ []) [] olds news result)
 line_ends olds mids news at bytes result same made ends name e =
     Ends-on never [] [] [] (writes name bytes ∷ []) (finishes name ∷ []) olds mids news result (made name e) (ends name (place-kept olds mids at name same e))

@@ -1,8 +1,9 @@
 -- What a call owes to its ports, act by act.
-use Rattle.std.specs.Prelude.{◌≡◌, ⊤, ℕ, Bool, true, false, List, [], ◌∷◌, map, if◌then◌else◌}
+use Rattle.std.specs.Prelude.{◌≡◌, ⊤, ℕ, Some, Bool, true, false, List, [], ◌∷◌, map, if◌then◌else◌}
 use Rattle.std.specs.List.{flat_map}
 use Rattle.std.specs.Str.{bytes_eq}
 use Rattle.hume_ports.specs.Port.{PortView}
+use Rattle.hume_ports.specs.Ports.{place_of}
 use Rattle.hume_ports.specs.Delivery.{Pairs}
 
 -- One thing that is done to the first port of a name.
@@ -49,6 +50,30 @@ wanted_by (finishes name) = []
 -- the names of the ports that the acts read
 abbrev pub wanted : List Act → List (List ℕ)
 wanted acts = flat_map wanted_by acts
+
+-- the act's name, if it is a finish
+abbrev pub finished_by : Act → List (List ℕ)
+finished_by (wants name count) = []
+finished_by (writes name bytes) = []
+finished_by (finishes name) = name ∷ []
+
+-- the names of the ports that the acts finish
+abbrev pub finished : List Act → List (List ℕ)
+finished acts = flat_map finished_by acts
+
+-- a write of its own for each pair
+abbrev pub write_each : Pairs → List Act
+write_each pairs = map (λ pair. writes pair.0 pair.1) pairs
+
+-- a finish for each name
+abbrev pub finish_each : List (List ℕ) → List Act
+finish_each names = map (λ name. finishes name) names
+
+-- At the places stand the ports that these names mean.
+abbrev pub AreNamed : List (List ℕ) → List ℕ → List (List ℕ) → Type 0
+AreNamed ports [] [] = ⊤
+AreNamed ports (at ∷ places) (name ∷ names) = (place_of name ports ≡ Some at) × AreNamed ports places names
+AreNamed ports places names = ⊥
 
 -- whether all bytes of the name are out after the acts, given whether they were before
 abbrev pub is_out_after : List ℕ → Bool → List Act → Bool

@@ -9,17 +9,17 @@ use Rattle.port_acts.specs.Ends.{Few, Made, Fails, Owed}
 abbrev pub Reads : Type 0
 Reads = List (List ℕ × ℕ)
 
--- the reads as acts; they come before those that the call owes
-abbrev pub reads_of : Reads → List Act
-reads_of reads = map (λ read. wants read.0 read.1) reads
+-- a want for each read
+abbrev pub read_each : Reads → List Act
+read_each reads = map (λ read. wants read.0 read.1) reads
 
 -- the names of the reads
 abbrev pub names_read : Reads → List (List ℕ)
 names_read reads = map (λ read. read.0) reads
 
--- what a call owes, with the reads by which it came to know it
+-- what a call owes, after the reads by which it came to know it
 abbrev pub after_reads : {Status : Type 0} → Reads → Owed Status → Owed Status
-after_reads reads owed = record { acts = reads_of reads ++ owed.acts; answer = owed.answer }
+after_reads reads owed = record { acts = read_each reads ++ owed.acts; answer = owed.answer }
 
 -- Memory ran out when some of the acts had been made, in order, and nothing had been written.
 pub record Stops (acts : List Act) (old new : List PortView) : Type 0 where
@@ -33,4 +33,4 @@ pub record Stops (acts : List Act) (old new : List PortView) : Type 0 where
 -- The call has only read ports of these names: memory ran out, or one of the reads failed.
 abbrev pub EndsEarly : {Status : Type 0} → Few → Reads → Status → Status → List PortView → List PortView → Status → Type 0
 EndsEarly few reads no_memory fault old new status =
-    ((status ≡ no_memory) × Stops (reads_of reads) old new) ⊎ ((status ≡ fault) × Fails few [] (reads_of reads) old new)
+    ((status ≡ no_memory) × Stops (read_each reads) old new) ⊎ ((status ≡ fault) × Fails few [] (read_each reads) old new)

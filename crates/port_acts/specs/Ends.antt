@@ -10,7 +10,7 @@ use Rattle.port_acts.specs.Acts.{Act, wants, writes, finishes, name_of, names_of
 abbrev pub OnlyWanted : List Act → Pairs → Type 0
 OnlyWanted acts taken = (name : List ℕ) → is_among name (wanted acts) ≡ false → bytes_for name taken ≡ []
 
--- All of the acts were done, the bytes of `taken` were read by them, and no call has failed.
+-- All of the acts were made: the bytes of `taken` were read by them, and no call has failed.
 pub record Made (acts : List Act) (taken : Pairs) (old new : List PortView) : Type 0 where
   -- each port has what it had, followed by what the acts write to it, and no count of any port has changed
   pub progress : Progress old new taken (written acts)
@@ -24,11 +24,11 @@ pub record Made (acts : List Act) (taken : Pairs) (old new : List PortView) : Ty
 abbrev pub Few : Type 1
 Few = List ℕ → ℕ → List ℕ → Type 0
 
--- no bytes are too few: of acts without wants
+-- Never: of acts without wants.
 abbrev pub never : Few
 never name count bytes = ⊥
 
--- none are: of a single read
+-- When no bytes have come: of a single read.
 abbrev pub nothing : Few
 nothing name count bytes = bytes ≡ []
 
@@ -44,7 +44,7 @@ IsPart (wants name count) given = given ≡ []
 IsPart (writes name bytes) given = (count : ℕ) × (given ≡ (name, take count bytes) ∷ [])
 IsPart (finishes name) given = given ≡ []
 
--- One of the acts failed, when all before it had been made. The bytes of `earlier` had been taken before the old ports.
+-- One of the acts failed, when all before it had been made. The call had taken the bytes of `earlier` before the old ports.
 pub record Fails (few : Few) (earlier : Pairs) (acts : List Act) (old new : List PortView) : Type 0 where
   pub before : List Act
   pub act : Act
@@ -80,7 +80,7 @@ abbrev pub EndsAs : {Status : Type 0} → Few → Owed Status → Status → Lis
 EndsAs few owed fault old new status =
     ((status ≡ owed.answer) × (taken : Pairs) × Made owed.acts taken old new) ⊎ ((status ≡ fault) × Fails few [] owed.acts old new)
 
--- of a failure
+-- what the laws speak of
 
 -- No such count of any port has risen.
 abbrev pub NoneRose : (PortView → ℕ) → List PortView → List PortView → Type 0

@@ -1,8 +1,8 @@
-ghost use Rattle.std.specs.Prelude.{◌≡◌, ◌<◌, ℕ, [], ◌∷◌, length, map, take, IfOk, OnErr};
+ghost use Rattle.std.specs.Prelude.{◌≡◌, ◌<◌, ℕ, List, [], ◌∷◌, length, map, take, All, IfOk, OnErr};
 ghost use Rattle.std.specs.Io.{ReadsAtMost};
 ghost use Rattle.std.specs.Io.KnownBytes.{IsAtEnd};
 ghost use Rattle.hume_ports.specs.Ports.{names, ForNameAt, left_of};
-ghost use Rattle.port_acts.specs.Acts.{wants, writes, finishes};
+ghost use Rattle.port_acts.specs.Acts.{wants, writes, finishes, finish_each, AreNamed};
 ghost use Rattle.port_acts.specs.Ends.{Made, Fails, Ends, never, nothing};
 
 use hume_ports::{Failed, Port, finish_at, read_at, write_at};
@@ -55,4 +55,20 @@ pub fn write_and_finish(ports: &mut [Box<dyn Port>], at: usize, bytes: &[u8]) ->
         Err(failed) => return Err(failed),
     }
     finish_act(ports, at)
+}
+
+/// Finishes the ports at these places, in turn.
+pub fn finish_acts(ports: &mut [Box<dyn Port>], places: &[usize]) -> Result<(), Failed>
+    requires { All (λ at. at < length (names (map view ports.old))) places.now }
+    ensures ends { (all : List (List ℕ)) → AreNamed (names (map view ports.old)) places.now all
+        → Ends never [] (finish_each all) [] (map view ports.old) (map view ports.new) result }
+    ensures same_names { names (map view ports.new) ≡ names (map view ports.old) }
+{
+    for at in places {
+        match finish_act(ports, *at) {
+            Ok(()) => {}
+            Err(failed) => return Err(failed),
+        }
+    }
+    Ok(())
 }

@@ -1,12 +1,13 @@
 //! Laws of the definitions, as contracts of functions that do nothing.
-ghost use Rattle.std.specs.Prelude.{◌≡◌, ◌<◌, ◌++◌, ◌∷◌, ℕ, List, [], Result, Some, length};
+ghost use Rattle.std.specs.Prelude.{◌≡◌, ◌<◌, ◌++◌, ◌∷◌, ℕ, List, [], Result, Some, length, true};
 ghost use Rattle.hume_ports.specs.declared.port.Failed.{Failed};
 ghost use Rattle.hume_ports.specs.Port.{PortView};
-ghost use Rattle.hume_ports.specs.Ports.{Untouched};
+ghost use Rattle.hume_ports.specs.Ports.{is_among, Untouched};
 ghost use Rattle.hume_ports.specs.Delivery.{Pairs, Failure, Roomy, Delivered, SameFaults, bytes_for};
-ghost use Rattle.port_acts.specs.Acts.{Act, wants, name_of, names_of, count_of, written, FinishesLast};
+ghost use Rattle.port_acts.specs.Acts.{Act, wants, name_of, names_of, count_of, written, wanted, finished, is_finished, write_each, finish_each, FinishesLast};
 ghost use Rattle.port_acts.specs.Ends.{Made, Fails, Ends, never, nothing, Owed, EndsAs, NoneRose, bytes_of};
-ghost use Rattle.port_acts.specs.Early.{Reads, reads_of, names_read, after_reads, Stops, EndsEarly};
+ghost use Rattle.port_acts.specs.Rounds.{round_acts, StandsInRound};
+ghost use Rattle.port_acts.specs.Early.{Reads, read_each, names_read, after_reads, Stops, EndsEarly};
 
 /// When a call that wants a number of values of a name has too few of them.
 pub trait Measure {
@@ -74,6 +75,27 @@ pub fn risen_counts_tell_the_act<M: Measure>()
         → Delivered old new (written acts) }
 {}
 
+/// In acts that go on by rounds, each of which reads first and then writes, a want is among the reads of one round, and before it
+/// exactly the earlier rounds have written.
+pub fn wants_stand_in_rounds()
+    ensures { (reading writing : ℕ → List Act) → ((round : ℕ) → written (reading round) ≡ []) → ((round : ℕ) → wanted (writing round) ≡ [])
+        → (rounds : List ℕ) (before later : List Act) (name : List ℕ) (count : ℕ)
+        → round_acts reading writing rounds ≡ before ++ wants name count ∷ later
+        → StandsInRound reading writing rounds before (wants name count) }
+{}
+
+/// A call that makes writes and then finishes writes what its pairs say, leaves each port flushed that it finishes, and has no write
+/// after a finish.
+pub fn finishes_come_last()
+    ensures writes { (pairs : Pairs) → written (write_each pairs) ≡ pairs }
+    ensures silent { (names : List (List ℕ)) → written (finish_each names) ≡ [] }
+    ensures flushed { (acts : List Act) (names : List (List ℕ)) (name : List ℕ) → is_among name names ≡ true
+        → is_finished name (acts ++ finish_each names) ≡ true }
+    ensures last { (acts : List Act) (names : List (List ℕ)) → finished acts ≡ [] → FinishesLast (acts ++ finish_each names) }
+    ensures writes_finish_nothing { (pairs : Pairs) → finished (write_each pairs) ≡ [] }
+    ensures reads_finish_nothing { (reads : Reads) → finished (read_each reads) ≡ [] }
+{}
+
 /// A call that ends early has written nothing and touched no port but those that it read. If it has no fault, no count has changed.
 pub fn early_ends_write_nothing<M: Measure, Status>()
     ensures delivered { (reads : Reads) (no_memory fault status : Status) (old new : List PortView)
@@ -89,18 +111,18 @@ pub fn early_reads_come_first<M: Measure>()
     ensures stops { (ts : Pairs) (ps qs : List Act) (old mid new : List PortView) → Made ps ts old mid → written ps ≡ []
         → Stops qs mid new → Stops (ps ++ qs) old new }
     ensures stop { (ps qs : List Act) (old new : List PortView) → Stops ps old new → Stops (ps ++ qs) old new }
-    ensures in_turn { (first second : Reads) → reads_of (first ++ second) ≡ reads_of first ++ reads_of second }
-    ensures silent { (reads : Reads) → written (reads_of reads) ≡ [] }
+    ensures in_turn { (first second : Reads) → read_each (first ++ second) ≡ read_each first ++ read_each second }
+    ensures silent { (reads : Reads) → written (read_each reads) ≡ [] }
 {}
 
 /// Reads and what is owed after them are one call. If a read fails, the call fails whatever is owed.
 pub fn calls_begin_with_their_reads<M: Measure, Status>()
     ensures made { (reads : Reads) (owed : Owed Status) (fault : Status) (ts us : Pairs) (old mid new : List PortView)
-        → Made (reads_of reads) ts old mid → Made owed.acts us mid new → EndsAs M.few (after_reads reads owed) fault old new owed.answer }
+        → Made (read_each reads) ts old mid → Made owed.acts us mid new → EndsAs M.few (after_reads reads owed) fault old new owed.answer }
     ensures failed { (reads : Reads) (owed : Owed Status) (fault : Status) (ts : Pairs) (old mid new : List PortView)
-        → Made (reads_of reads) ts old mid → Fails M.few ts owed.acts mid new → EndsAs M.few (after_reads reads owed) fault old new fault }
+        → Made (read_each reads) ts old mid → Fails M.few ts owed.acts mid new → EndsAs M.few (after_reads reads owed) fault old new fault }
     ensures early { (reads : Reads) (owed : Owed Status) (fault : Status) (old new : List PortView)
-        → Fails M.few [] (reads_of reads) old new → EndsAs M.few (after_reads reads owed) fault old new fault }
+        → Fails M.few [] (read_each reads) old new → EndsAs M.few (after_reads reads owed) fault old new fault }
 {}
 
 /// The same acts and the same answer are the same owed. Two calls that owe the same, and have no fault, give the same answer, and the
