@@ -1,0 +1,13 @@
+pub mod ChangedBox
+pub mod Clashes
+pub mod Exchanged
+pub mod FirstRules
+pub mod Frames
+pub mod Kept
+pub mod KeptRaising
+pub mod Runs
+pub mod SameNets
+pub mod Short
+pub mod SwappedCores
+pub mod Swaps
+pub mod Typed

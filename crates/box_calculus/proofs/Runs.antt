@@ -1,0 +1,60 @@
+-- Steps that aren't refused keep every run.
+use Rattle.std.proofs.Common.{◌≡◌, ℕ, Some, None, ap, sym, ◌∙◌, subst}
+use Rattle.std.specs.Option.{option_and_then}
+use Rattle.hume_model.specs.declared.core_tree.BoxC.{BoxC}
+use Rattle.hume_model.specs.declared.core_tree.Core.{Core}
+use Rattle.hume_base.specs.declared.finding.Finding.{Finding}
+use Rattle.hume_model.specs.HandlerRules.{BreaksHandlers}
+use Rattle.hume_model.specs.WellFormed.{IsWellFormed}
+use Rattle.hume_model.specs.WireRules.{BreaksWires}
+use Rattle.hume_net.specs.declared.state.State.{State}
+use Rattle.hume_net.specs.Lockstep.{lockstep}
+use Rattle.box_calculus.specs.declared.step.Step.{Step}
+use Rattle.box_calculus.specs.declared.step.Step.TheVariants.{Swap}
+use Rattle.box_calculus.specs.Boxes.{box_at}
+use Rattle.box_calculus.specs.Orders.{HasWrittenOrders}
+use Rattle.box_calculus.specs.Steps.{IsOnRule, box_refusal, node_of, refusal, rewritten, rewritten_at, rewritten_box}
+use Rattle.box_calculus.proofs.SameNets.{SameNets, lockstep_same}
+use Rattle.box_calculus.proofs.SwappedCores.{swapped_formed, swapped_handlers, swapped_wires}
+use Rattle.box_calculus.proofs.Swaps.{may_swap, swap_same}
+
+-- what a step makes of the core that has its box
+at_box : (P : Core → Type 0) (core : Core) (step : Step) (on : IsOnRule core step) → P (rewritten_box core step on.b) → P (rewritten core step)
+at_box P core step on holds = subst (λ o. P (rewritten_at core step o)) (sym on.there) holds
+
+box_allowed : (core : Core) (step : Step) (on : IsOnRule core step) → refusal core step ≡ None → box_refusal core step on.b ≡ None
+box_allowed core step on allowed = ap (option_and_then (box_refusal core step)) (sym on.there) ∙ allowed
+
+box_same : (core : Core) (step : Step) (b : BoxC) → box_at core (node_of step) ≡ Some b → box_refusal core step b ≡ None
+    → SameNets core (rewritten_box core step b)
+box_same core (Swap node rule) b there allowed = swap_same core node rule b (may_swap b rule allowed) there
+
+pub run_kept : (core : Core) (step : Step) → IsWellFormed core → IsOnRule core step → refusal core step ≡ None
+    → (state : State) → HasWrittenOrders core state → (k : ℕ) → lockstep (rewritten core step) state k ≡ lockstep core state k
+run_kept core step formed on allowed =
+    at_box (λ new. (state : State) → HasWrittenOrders core state → (k : ℕ) → lockstep new state k ≡ lockstep core state k) core step on
+    (lockstep_same core (rewritten_box core step on.b) (box_same core step on.b on.there (box_allowed core step on allowed)))
+
+box_formed : (core : Core) (step : Step) (b : BoxC) → IsWellFormed core → box_at core (node_of step) ≡ Some b → IsWellFormed (rewritten_box core step b)
+box_formed core (Swap node rule) b formed there = swapped_formed core node rule b there formed
+
+pub core_formed : (core : Core) (step : Step) → IsWellFormed core → IsOnRule core step → refusal core step ≡ None → IsWellFormed (rewritten core step)
+core_formed core step formed on allowed = at_box IsWellFormed core step on (box_formed core step on.b formed on.there)
+
+box_wires : (core : Core) (step : Step) (b : BoxC) → box_at core (node_of step) ≡ Some b
+    → (finding : Finding) → BreaksWires (rewritten_box core step b) finding → BreaksWires core finding
+box_wires core (Swap node rule) b there = swapped_wires core node rule b there
+
+pub wires_kept : (core : Core) (step : Step) → IsWellFormed core → IsOnRule core step → refusal core step ≡ None
+    → (finding : Finding) → BreaksWires (rewritten core step) finding → BreaksWires core finding
+wires_kept core step formed on allowed =
+    at_box (λ new. (finding : Finding) → BreaksWires new finding → BreaksWires core finding) core step on (box_wires core step on.b on.there)
+
+box_handlers : (core : Core) (step : Step) (b : BoxC) → box_at core (node_of step) ≡ Some b
+    → (finding : Finding) → BreaksHandlers (rewritten_box core step b) finding → BreaksHandlers core finding
+box_handlers core (Swap node rule) b there = swapped_handlers core node rule b there
+
+pub handlers_kept : (core : Core) (step : Step) → IsWellFormed core → IsOnRule core step → refusal core step ≡ None
+    → (finding : Finding) → BreaksHandlers (rewritten core step) finding → BreaksHandlers core finding
+handlers_kept core step formed on allowed =
+    at_box (λ new. (finding : Finding) → BreaksHandlers new finding → BreaksHandlers core finding) core step on (box_handlers core step on.b on.there)

@@ -1,0 +1,5 @@
+pub mod Apart
+pub mod Boxes
+pub mod Orders
+pub mod Steps
+pub mod Swapping

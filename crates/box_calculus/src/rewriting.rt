@@ -1,0 +1,51 @@
+//! The call that makes a step.
+ghost use Rattle.std.specs.Prelude.{◌≡◌, ◌⊎◌, ◌<◌, IfOk, IfErr, OnOk, None, Some, length};
+ghost use Rattle.box_calculus.specs.declared.step.CalcError.TheVariants.{NoMemory};
+ghost use Rattle.box_calculus.specs.Boxes.{box_at, with_box};
+ghost use Rattle.box_calculus.specs.Swapping.{swap_refusal, swapped_box};
+ghost use Rattle.box_calculus.specs.Steps.{IsOnRule, refusal, rewritten};
+
+use crate::step::{CalcError, Step};
+use crate::swap::swap_rules;
+use hume_base::List;
+use hume_model::{Core, NodeC};
+use std::alloc::Global;
+
+/// The core after the step, which moves its trees and copies none of what stays.
+pub fn rewrite(alloc: Global, core: Core, step: &Step) -> Result<Core, CalcError>
+    requires { IsOnRule core step.now }
+    ensures new { IfOk result (λ new. new ≡ rewritten core step.now) }
+    ensures allowed { OnOk result (refusal core step.now ≡ None) }
+    ensures refused { IfErr result (λ error. (error ≡ NoMemory) ⊎ (refusal core step.now ≡ Some error)) }
+{
+    match step {
+        Step::Swap { node, rule } => swap_in(alloc, core, *node, *rule),
+    }
+}
+
+fn swap_in(alloc: Global, core: Core, node: u32, rule: u32) -> Result<Core, CalcError>
+    requires { IsOnRule core (Step.Swap node rule) }
+    ensures new { IfOk result (λ new. new ≡ rewritten core (Step.Swap node rule)) }
+    ensures allowed { OnOk result (refusal core (Step.Swap node rule) ≡ None) }
+    ensures refused { IfErr result (λ error. refusal core (Step.Swap node rule) ≡ Some error) }
+{
+    let Core {
+        types,
+        exns,
+        funs,
+        nodes,
+        wires,
+    } = core;
+    let mut nodes = nodes.into_vec();
+    match &mut nodes[node as usize] {
+        NodeC::Rules(b) => swap_rules(alloc, b, rule)?,
+        _ => unreachable!(),
+    }
+    Ok(Core {
+        types,
+        exns,
+        funs,
+        nodes: List::from_vec(nodes),
+        wires,
+    })
+}
