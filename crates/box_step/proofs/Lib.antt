@@ -13,3 +13,4 @@ pub mod Making
 pub mod PendingValues
 pub mod AcceptedBoxes
 pub mod runs_lemmas
+pub mod nodes_lemmas

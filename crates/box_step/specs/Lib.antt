@@ -3,3 +3,4 @@ pub mod Steps
 pub mod Boxes
 pub mod inner
 pub mod runs
+pub mod nodes

@@ -1,2 +1,3 @@
 pub mod Buffers
 pub mod Firing
+pub mod HalfSteps

@@ -1,5 +1,7 @@
 //! Boxes of a net that run as code: their execute step, on cells, in exactly the printed heap and stack.
 //!
+//! `nodes` has the half steps of nodes of all kinds, each at its own time. It stands on what follows.
+//!
 //! A `CompiledBox` is a box with its program, the order of its rules, a heap and a stack of exactly the printed lengths, and
 //! its pending outputs. `CompiledBox::execute` makes its execute step over the cells of its inputs: it takes no memory, and
 //! gets only the bare forms of core and box, so it can make outputs by the code alone. `output` gives the words of a pending
@@ -17,11 +19,12 @@
 //! box that keeps the rules on costs takes little (`programs_of_boxes_take_little`); a box of a well-formed core is run by the
 //! bare forms that stand at its place (`boxes_run_by_their_bare_forms`).
 //!
-//! It knows rules, cells, programs and the machine. It doesn't know how code is made, times, or super steps.
+//! It knows rules, cells, programs, the machine, queues and logs. It doesn't know how code is made, or which node comes next.
 #![tactic(auto)]
 
 mod compiled;
 mod laws;
+pub mod nodes;
 pub mod runs;
 mod stepping;
 
