@@ -1,3 +1,4 @@
 pub mod Lifting
 pub mod Turning
 pub mod OneTurn
+pub mod SideRows

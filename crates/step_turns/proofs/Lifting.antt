@@ -23,7 +23,7 @@ pub last_get : {X : Type 0} (xs : List X) (y : X) → slice_get (xs ++ y ∷ [])
 last_get [] y = refl
 last_get (x ∷ xs) y = last_get xs y
 
-front_get : {X : Type 0} (xs ys : List X) (i : ℕ) → i < length xs → slice_get (xs ++ ys) i ≡ slice_get xs i
+pub front_get : {X : Type 0} (xs ys : List X) (i : ℕ) → i < length xs → slice_get (xs ++ ys) i ≡ slice_get xs i
 front_get [] ys i less = absurd (omega (arith, less))
 front_get (x ∷ xs) ys zero less = refl
 front_get (x ∷ xs) ys (suc i) less = front_get xs ys i (omega (arith, less))

@@ -33,7 +33,9 @@ use Rattle.step_turns.proofs.Lifting.{set_here, set_elsewhere}
 
 -- what stands at a place of a list doesn't depend on what is given where there is no such place
 pub any_default : {X : Type 0} (xs : List X) (i : ℕ) (d e : X) → i < length xs → get_or xs i d ≡ get_or xs i e
-any_default xs i d e inside = (let both : Some (get_or xs i d) ≡ Some (get_or xs i e) = sym (slice_get-get_or xs i d inside) ∙ slice_get-get_or xs i e inside in cc)
+any_default xs i d e inside =
+    let both : Some (get_or xs i d) ≡ Some (get_or xs i e) = sym (slice_get-get_or xs i d inside) ∙ slice_get-get_or xs i e inside in
+    cc
 
 -- the wires of a node's side are those that it moves
 pub is_of_side : (core : Core) (n time : ℕ) (side : List ℕ) → IsSideOf core n time side → (place w : ℕ) → slice_get side place ≡ Some w
@@ -158,7 +160,8 @@ module _ (core : Core) (planned : IsPlan (plan_of core)) (time n : ℕ) (nodes :
     pub next_right : (opening : Opening) → AllRight opening nodes home → AreRightThere opening new laid → AllRight opening (set nodes n new) laid
     next_right opening old made = record {
       each = λ m other found. elim (cases_eq n m) [
-        | inl same ↦ subst (λ (c : BoxCell). IsRightNode opening c.number c.time c.kind) (here_is other (ap (slice_get (set nodes n new)) same ∙ found)) made.kind
+        | inl same ↦ subst (λ (c : BoxCell). IsRightNode opening c.number c.time c.kind)
+            (here_is other (ap (slice_get (set nodes n new)) same ∙ found)) made.kind
         | inr apart ↦ old.each m other (there_is m other apart found)
       ];
       wires = made.wires;

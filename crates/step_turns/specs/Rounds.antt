@@ -10,7 +10,7 @@ use Rattle.wire_cells.specs.Cells.{CellView}
 use Rattle.box_step.specs.declared.nodes.cell.BoxCell.{BoxCell}
 use Rattle.box_step.specs.nodes.Openings.{Opening}
 use Rattle.box_step.specs.nodes.Right.{IsRightNode}
-use Rattle.step_turns.specs.declared.rounds.Sides.{Sides}
+use Rattle.step_turns.specs.declared.sides.Sides.{Sides}
 use Rattle.step_turns.specs.Homes.{AreRightHome, IsHome, IsSideOf}
 
 -- the numbers of all wires of a node's side at a time, and no more than there is room for

@@ -6,18 +6,12 @@ ghost use Rattle.box_step.specs.nodes.Openings.{Opening, IsOpeningOf};
 ghost use Rattle.step_turns.specs.Rounds.{AllRight, AreFrom, AreInPlace, AreSides, AreUntil, HaveSpan, IsWholeSide};
 ghost use Rattle.step_turns.specs.inner.Sweeps.{AreSwept, HasSpan};
 
+use crate::sides::Sides;
 use crate::turns::turn;
 use box_step::nodes::BoxCell;
 use hume_base::List;
 use hume_model::Core;
 use wire_cells::WireCell;
-
-/// The numbers of the wires of each node's inputs in order, and of its outputs.
-#[derive(Drop)]
-pub struct Sides {
-    pub inputs: List<List<u32>>,
-    pub outputs: List<List<u32>>,
-}
 
 /// Makes the half steps that are left of `steps` supersteps: all of them from times 0, and at any balanced times those by which each
 /// node comes to the end. It takes no memory.

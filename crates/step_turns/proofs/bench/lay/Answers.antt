@@ -8,7 +8,10 @@ use Rattle.step_turns.proofs.bench.lay.Goals as goal
 pub laying-init : goal.laying-init
 laying-init c = record {
   laid = record {
-    each = λ k w from there. absurd (let inside = slice_get_within c.args.side.now k w there in let long = c.requires.long in omega (arith, inside, long, from));
+    each = λ k w from there.
+        let inside = slice_get_within c.args.side.now k w there in
+        let long = c.requires.long in
+        absurd (omega (arith, inside, long, from));
     others = λ w out. refl;
     same = refl;
   };

@@ -18,7 +18,8 @@ turn-requires-clause-home c = λ place w found.
     let less : n < length core.nodes = (let count = c.requires.place.count in let inside = c.requires.inside in omega (arith, count, inside)) in
     let whole = c.side_of-side.ensures core room c.requires.sides less in
     subst (λ t. IsHome w t c.args.home.now) (sym due)
-    (side_home core c.requires.plan c.args.time n nodes c.args.home.now c.requires.place c.requires.swept cell there due room c.side_of-side.result.now whole place w found)
+    (side_home core c.requires.plan c.args.time n nodes c.args.home.now c.requires.place c.requires.swept cell there due room
+    c.side_of-side.result.now whole place w found)
 
 pub turn-requires-clause-right : goal.turn-requires-clause-right
 turn-requires-clause-right c =
