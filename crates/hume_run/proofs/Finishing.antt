@@ -12,7 +12,7 @@ use Rattle.hume_model.specs.declared.core_tree.StreamC.{StreamC}
 use Rattle.hume_model.specs.declared.core_tree.Core.{Core}
 use Rattle.hume_ports.specs.Ports.{other_names, place_of}
 use Rattle.hume_ports.proofs.Names.{bytes_eq-self, same_name}
-use Rattle.hume_streams.specs.writes.Places.{IsPlace, IsPlaceOf, name_at}
+use Rattle.port_acts.specs.Places.{IsPlace, IsPlaceOf, name_at}
 use Rattle.hume_run.specs.inner.Places.{names_at}
 use Rattle.run_rounds.specs.Streams.{ArePlacesOf, output_of, ports_of, std_out}
 use Rattle.hume_run.specs.Owed.{run_finishes}

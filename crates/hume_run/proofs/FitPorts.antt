@@ -3,7 +3,7 @@ use Rattle.std.proofs.Common.{◌≡◌, ℕ, zero, suc, Bool, true, false, cond
 use Rattle.std.specs.Str.{bytes_eq}
 use Rattle.hume_ports.specs.Ports.{place_of}
 use Rattle.hume_ports.proofs.Names.{same_name, place-zero, place-suc}
-use Rattle.hume_streams.specs.writes.Places.{IsPlaceOf, name_at}
+use Rattle.port_acts.specs.Places.{IsPlaceOf, name_at}
 
 found_within : (name : List ℕ) (names : List (List ℕ)) (at : ℕ) → place_of name names ≡ Some at → at < length names
 found_within name [] at found = cc

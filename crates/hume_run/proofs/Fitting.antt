@@ -13,7 +13,7 @@ use Rattle.hume_model.specs.declared.core_tree.NodeC.TheVariants.{Rules, From, T
 use Rattle.hume_model.specs.declared.core_tree.StreamC.{StreamC}
 use Rattle.hume_ports.specs.Ports.{is_among, place_of}
 use Rattle.hume_ports.proofs.Names.{bytes_eq-self, bytes_eq-swap, same_name}
-use Rattle.hume_streams.specs.writes.Places.{IsPlaceOf}
+use Rattle.port_acts.specs.Places.{IsPlaceOf}
 use Rattle.hume_model.specs.declared.core_tree.Core.{Core}
 use Rattle.run_rounds.specs.Streams.{ArePlacesOf, ArePortsApart, ports_of, stream_of}
 use Rattle.hume_run.specs.Streams.{is_unfit, unfit_line}

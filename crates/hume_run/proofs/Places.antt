@@ -4,7 +4,7 @@ use Rattle.std.specs.List.{All}
 use Rattle.std.proofs.lemmas.List.Elements.{All-get_or}
 use Rattle.hume_ports.specs.Port.{PortView}
 use Rattle.hume_ports.specs.Ports.{names, place_of, ForNameAt}
-use Rattle.hume_streams.specs.writes.Places.{IsPlace, name_at}
+use Rattle.port_acts.specs.Places.{IsPlace, name_at}
 
 pub place_place : (ns : List (List ℕ)) (places : List ℕ) (i at : ℕ) → i < length places → at ≡ get_or places i 0 → All (IsPlace ns) places → IsPlace ns at
 place_place ns places i at within is all = let P : ℕ → Type 0 = λ place. IsPlace ns place in subst P (sym is) (All-get_or P places i 0 within all)

@@ -8,14 +8,14 @@ use Rattle.hume_ports.specs.Delivery.{Pairs, Progress, Failure, Roomy}
 use Rattle.hume_ports.proofs.Progress.{Progress-on, Failure-on}
 use Rattle.hume_ports.proofs.Rooms.{Roomy-on}
 use Rattle.hume_ports.proofs.Untouched.{Untouched-on}
-use Rattle.hume_streams.specs.places.WritesInTurn.{FailsInTurn}
+use Rattle.trace_print.specs.writes.WritesInTurn.{FailsInTurn}
 use Rattle.hume_run.specs.declared.status.Status.TheVariants.{Fault}
 use Rattle.hume_run.specs.declared.report.Report.{Report}
 use Rattle.hume_run.specs.Owed.{Owed}
 use Rattle.hume_run.specs.Headline.{Ends, FailedWrite, FailedFinish}
-use Rattle.hume_streams.specs.writes.Places.{name_at}
+use Rattle.port_acts.specs.Places.{name_at}
 use Rattle.hume_run.specs.inner.Places.{names_at}
-use Rattle.hume_streams.specs.writes.Gathered.{pairs_of}
+use Rattle.trace_print.specs.writes.Gathered.{pairs_of}
 use Rattle.hume_run.specs.inner.Reports.{IsReport, all_writes}
 use Rattle.hume_run.proofs.Ending.{ends_failed, ends_answered, more_touched}
 

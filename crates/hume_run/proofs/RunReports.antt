@@ -14,8 +14,8 @@ use Rattle.hume_model.specs.declared.core_tree.Core.{Core}
 use Rattle.hume_ports.specs.Port.{PortView}
 use Rattle.hume_ports.specs.Ports.{names, is_among, other_names}
 use Rattle.hume_ports.proofs.Names.{bytes_eq-self, is_among-other_names, same_name}
-use Rattle.hume_streams.specs.writes.Gathered.{pairs_of, writes_of}
-use Rattle.hume_streams.specs.writes.Places.{IsPlace, IsPlaceOf, name_at}
+use Rattle.trace_print.specs.writes.Gathered.{pairs_of, writes_of}
+use Rattle.port_acts.specs.Places.{IsPlace, IsPlaceOf, name_at}
 use Rattle.hume_run.specs.inner.Places.{names_at}
 use Rattle.run_rounds.specs.declared.rounds.TheConstants.{SPAN}
 use Rattle.run_rounds.specs.declared.run.RunEnd.{RunEnd}
@@ -27,7 +27,7 @@ use Rattle.run_rounds.specs.Destinations.{GoToOutputsOr, IsOutputPlace}
 use Rattle.hume_run.specs.declared.report.Report.{Report}
 use Rattle.hume_run.specs.declared.status.Status.{Status}
 use Rattle.hume_run.specs.Statuses.{IsAnswer}
-use Rattle.hume_streams.specs.declared.writes.writes.Writes.{Writes}
+use Rattle.trace_print.specs.declared.writes.writes.Writes.{Writes}
 use Rattle.hume_run.specs.Owed.{run_finishes, run_status, table_writes}
 use Rattle.hume_run.specs.inner.CoreRuns.{end_status, owed_outputs}
 use Rattle.hume_run.specs.inner.Reports.{IsReport, all_writes}

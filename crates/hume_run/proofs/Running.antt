@@ -15,7 +15,7 @@ use Rattle.hume_ports.proofs.Rooms.{Roomy-nothing, Roomy-on}
 use Rattle.hume_ports.proofs.Untouched.{Within, Untouched-more, Untouched-start, Untouched-on, of_first-untouched}
 use Rattle.hume_front.specs.declared.acceptance.Accepted.{Accepted}
 use Rattle.hume_front.specs.Accepted.{IsAccepted, Breaks}
-use Rattle.hume_streams.specs.writes.Places.{IsPlaceOf}
+use Rattle.port_acts.specs.Places.{IsPlaceOf}
 use Rattle.run_rounds.specs.declared.rounds.TheConstants.{SPAN}
 use Rattle.run_rounds.specs.Inputs.{Inputs, AreInputs}
 use Rattle.run_rounds.specs.Runs.{FailsToRead, ReadsSome, RunsTo}

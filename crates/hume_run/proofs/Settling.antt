@@ -11,7 +11,7 @@ use Rattle.hume_ports.proofs.Names.{bytes_eq-self}
 use Rattle.hume_ports.proofs.Progress.{Progress-start, Progress-on, finish_failure-on}
 use Rattle.hume_ports.proofs.Rooms.{Roomy-on}
 use Rattle.hume_ports.proofs.Untouched.{Untouched-start, Untouched-on, Untouched-among}
-use Rattle.hume_streams.specs.writes.Places.{IsPlace, name_at}
+use Rattle.port_acts.specs.Places.{IsPlace, name_at}
 use Rattle.hume_run.specs.inner.Places.{names_at}
 use Rattle.hume_run.specs.Headline.{FailedFinish}
 use Rattle.hume_run.proofs.Places.{at_place}

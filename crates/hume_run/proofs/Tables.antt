@@ -7,9 +7,9 @@ use Rattle.hume_model.specs.declared.core_tree.Core.{Core}
 use Rattle.hume_ports.specs.Ports.{is_among}
 use Rattle.hume_ports.specs.Delivery.{Pairs}
 use Rattle.hume_ports.proofs.Names.{bytes_eq-self}
-use Rattle.hume_streams.specs.writes.Gathered.{pairs_of, writes_of}
-use Rattle.hume_streams.specs.declared.writes.writes.Writes.{Writes}
-use Rattle.hume_streams.specs.writes.Places.{IsPlace, IsPlaceOf, name_at}
+use Rattle.trace_print.specs.writes.Gathered.{pairs_of, writes_of}
+use Rattle.trace_print.specs.declared.writes.writes.Writes.{Writes}
+use Rattle.port_acts.specs.Places.{IsPlace, IsPlaceOf, name_at}
 use Rattle.run_rounds.specs.Streams.{std_out}
 use Rattle.trace_print.specs.table.Table.{space_table}
 use Rattle.hume_run.specs.declared.status.Status.TheVariants.{Done}

@@ -8,9 +8,9 @@ use Rattle.hume_ports.specs.Delivery.{Pairs, Progress, WriteFailure, Roomy}
 use Rattle.hume_ports.proofs.Progress.{Progress-on, write_failure-on}
 use Rattle.hume_ports.proofs.Rooms.{Roomy-on, Roomy-first}
 use Rattle.hume_ports.proofs.Untouched.{Untouched-on}
-use Rattle.hume_streams.specs.places.WritesInTurn.{FailsInTurn}
-use Rattle.hume_streams.specs.writes.Places.{IsPlace, name_at}
-use Rattle.hume_streams.specs.writes.Gathered.{pairs_of}
+use Rattle.trace_print.specs.writes.WritesInTurn.{FailsInTurn}
+use Rattle.port_acts.specs.Places.{IsPlace, name_at}
+use Rattle.trace_print.specs.writes.Gathered.{pairs_of}
 
 all_cons : {A : Type 0} (P : A → Type 0) (x : A) (xs : List A) → P x → All P xs → All P (x ∷ xs)
 all_cons P x xs here later = λ k d within. one k d within

@@ -4,7 +4,7 @@ ghost use Rattle.hume_run.specs.declared.order.Order.TheVariants.{Check};
 ghost use Rattle.hume_run.specs.Headline.{Ends, EndsEarly, Answers};
 ghost use Rattle.run_rounds.specs.Streams.{std_out};
 ghost use Rattle.hume_run.specs.Owed.{owed_accepted};
-ghost use Rattle.hume_streams.specs.writes.Places.{IsPlaceOf};
+ghost use Rattle.port_acts.specs.Places.{IsPlaceOf};
 ghost use Rattle.hume_run.specs.inner.Bounds.{KeepsBounds};
 ghost use Rattle.hume_run.specs.inner.Reports.{IsReport};
 
@@ -15,7 +15,7 @@ use crate::status::Status;
 use hume_front::accept;
 use hume_model::Core;
 use hume_ports::Port;
-use hume_streams::writes::Writes;
+use trace_print::writes::Writes;
 use space_costs::Costs;
 use std::alloc::{AllocError, Global};
 use trace_print::table::gather_table;

@@ -1,5 +1,5 @@
 ghost use Rattle.std.specs.Prelude.{◌≡◌, ◌++◌, ℕ, List, length, All, IfOk, OnOk};
-ghost use Rattle.hume_streams.specs.writes.Places.{IsPlace, IsPlaceOf};
+ghost use Rattle.port_acts.specs.Places.{IsPlace, IsPlaceOf};
 ghost use Rattle.hume_run.specs.inner.Places.{names_at};
 ghost use Rattle.run_rounds.specs.Streams.{ArePlacesOf, output_of, std_out};
 ghost use Rattle.hume_run.specs.Owed.{run_finishes};

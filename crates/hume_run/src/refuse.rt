@@ -5,7 +5,7 @@ ghost use Rattle.run_rounds.specs.Streams.{std_out};
 ghost use Rattle.hume_run.specs.Owed.{owed_refused};
 ghost use Rattle.hume_run.specs.declared.order.Order.{Order};
 ghost use Rattle.hume_run.specs.Headline.{Ends, EndsEarly, Answers};
-ghost use Rattle.hume_streams.specs.writes.Places.{IsPlaceOf};
+ghost use Rattle.port_acts.specs.Places.{IsPlaceOf};
 ghost use Rattle.hume_run.specs.inner.Reports.{IsReport};
 
 use crate::lines::refused_line;
@@ -15,7 +15,7 @@ use crate::status::Status;
 use hume_base::Refusal;
 use hume_front::FrontError;
 use hume_ports::Port;
-use hume_streams::writes::Writes;
+use trace_print::writes::Writes;
 use std::alloc::{AllocError, Global};
 
 /// Ends a call of a source that isn't accepted: a rule that it breaks is told, and want of memory ends it early.

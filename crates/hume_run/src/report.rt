@@ -1,8 +1,8 @@
 ghost use Rattle.std.specs.Prelude.{◌≡◌, ◌∷◌, [], IfOk};
-ghost use Rattle.hume_streams.specs.writes.Gathered.{writes_of};
+ghost use Rattle.trace_print.specs.writes.Gathered.{writes_of};
 
 use crate::status::Status;
-use hume_streams::writes::Writes;
+use trace_print::writes::Writes;
 use std::alloc::{AllocError, Global};
 
 /// What is left to do when nothing but a port can stop it: the writes in order, those of the table of bounds first, the places

@@ -1,7 +1,7 @@
 ghost use Rattle.std.specs.Prelude.{◌≡◌, ◌⊎◌, ℕ, List, map};
 ghost use Rattle.hume_base.specs.declared.rule.Rule.TheVariants.{C55};
 ghost use Rattle.hume_ports.specs.Ports.{names};
-ghost use Rattle.hume_streams.specs.writes.Places.{IsPlaceOf};
+ghost use Rattle.port_acts.specs.Places.{IsPlaceOf};
 ghost use Rattle.run_rounds.specs.engine.Runnable.{IsRunnable};
 ghost use Rattle.run_rounds.specs.Streams.{ArePlacesOf, ArePortsApart, std_out};
 ghost use Rattle.hume_run.specs.declared.order.Order.TheVariants.{Run};
@@ -19,7 +19,7 @@ use hume_base::{Refusal, Rule};
 use hume_front::accept;
 use hume_model::Core;
 use hume_ports::Port;
-use hume_streams::writes::Writes;
+use trace_print::writes::Writes;
 use run_depth::{SAFE_DEPTH, SAFE_VALUE_DEPTH, evaluation_depth, value_depth};
 use run_rounds::{RunEnd, RunError, each_run_has_inputs, run_core};
 use space_costs::Costs;

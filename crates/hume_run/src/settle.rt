@@ -1,10 +1,10 @@
 ghost use Rattle.std.specs.Prelude.{◌≡◌, ℕ, List, [], true, map, All, OnOk, OnErr, IsOk};
 ghost use Rattle.hume_ports.specs.Ports.{names, flushed_of, is_among, Untouched};
 ghost use Rattle.hume_ports.specs.Delivery.{Progress, Roomy};
-ghost use Rattle.hume_streams.specs.places.WritesInTurn.{WritesInTurn};
-ghost use Rattle.hume_streams.specs.writes.Gathered.{pairs_of};
+ghost use Rattle.trace_print.specs.writes.WritesInTurn.{WritesInTurn};
+ghost use Rattle.trace_print.specs.writes.Gathered.{pairs_of};
 ghost use Rattle.hume_run.specs.Owed.{Owed};
-ghost use Rattle.hume_streams.specs.writes.Places.{IsPlace, name_at};
+ghost use Rattle.port_acts.specs.Places.{IsPlace, name_at};
 ghost use Rattle.hume_run.specs.inner.Places.{names_at};
 ghost use Rattle.hume_run.specs.Headline.{Ends, FailedFinish};
 ghost use Rattle.hume_run.specs.inner.Reports.{IsReport, all_writes};
@@ -12,7 +12,7 @@ ghost use Rattle.hume_run.specs.inner.Reports.{IsReport, all_writes};
 use crate::report::Report;
 use crate::status::Status;
 use hume_ports::{Failed, Port, finish_at};
-use hume_streams::writes::write_all;
+use trace_print::writes::write_all;
 
 /// Makes the writes of a report and finishes its ports.
 pub fn settle(ports: &mut [Box<dyn Port>], report: &Report) -> Status

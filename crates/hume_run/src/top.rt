@@ -1,7 +1,7 @@
 ghost use Rattle.std.specs.Prelude.{◌≡◌, ◌↔◌, ◌⊎◌, map, string_bytes};
 ghost use Rattle.hume_ports.specs.Ports.{names};
 ghost use Rattle.hume_run.specs.Headline.{Headline, IsUsage, EndsEarly, Answers, AnswersFrom};
-ghost use Rattle.hume_streams.specs.writes.Places.{IsPlaceOf};
+ghost use Rattle.port_acts.specs.Places.{IsPlaceOf};
 ghost use Rattle.run_rounds.specs.Streams.{std_out};
 
 use crate::check::check_text;

@@ -12,4 +12,3 @@ pub mod GoodOnce
 pub mod GoodAlways
 pub mod FewLines
 pub mod places_lemmas
-pub mod writes_lemmas

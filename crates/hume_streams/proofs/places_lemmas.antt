@@ -1,3 +1,3 @@
 pub mod StepsAt
 pub mod FillsInLists
-pub mod DrainsInLists
+pub mod LinesInTurn

@@ -6,4 +6,3 @@ pub mod Fills
 pub mod Logs
 pub mod inner
 pub mod places
-pub mod writes

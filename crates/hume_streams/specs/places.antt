@@ -1,2 +1,2 @@
 pub mod FillsOfPorts
-pub mod WritesInTurn
+pub mod LineWrites

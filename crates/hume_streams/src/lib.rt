@@ -28,7 +28,6 @@ mod log_line;
 pub mod places;
 mod queue;
 mod rows;
-pub mod writes;
 
 pub use laws::{
     bad_lines_have_small_numbers, each_text_has_good_values, fills_follow_ports_that_tell,

@@ -32,7 +32,7 @@ pub fn write_line(
 }
 
 // Puts the line of the value with these words.
-fn print_line(types: &Types, ty: &Ty, words: &[u64], chunk: &mut Chunk)
+pub(crate) fn print_line(types: &Types, ty: &Ty, words: &[u64], chunk: &mut Chunk)
     requires sizes { HaveTheirSizes types.now }
     requires printable { IsPrintable types.now ty.now }
     requires clear { bytes_in chunk.old ≡ [] }

@@ -13,7 +13,7 @@ use Rattle.hume_ports.specs.Port.{PortView, last_count}
 use Rattle.hume_ports.specs.Ports.{names, place_of, ForNameAt, Untouched}
 use Rattle.hume_ports.specs.Delivery.{Pairs, Roomy}
 use Rattle.hume_ports.proofs.Untouched.{Untouched-on, Untouched-start}
-use Rattle.hume_streams.specs.writes.Places.{IsPlaceOf}
+use Rattle.port_acts.specs.Places.{IsPlaceOf}
 use Rattle.hume_streams.specs.Good.{IsGoodUntil}
 use Rattle.hume_streams.specs.Queues.{IsQueueOf}
 use Rattle.run_rounds.specs.engine.StreamTypes.{type_at}

@@ -11,9 +11,9 @@ use Rattle.hume_model.specs.declared.core_tree.Core.{Core}
 use Rattle.hume_net.specs.Nodes.{IsOutput, IsOutputStream}
 use Rattle.hume_ports.specs.Delivery.{Pairs}
 use Rattle.run_rounds.specs.engine.StreamTypes.{type_at}
-use Rattle.hume_streams.specs.places.WritesInTurn.{line_writes}
-use Rattle.hume_streams.specs.writes.Gathered.{pairs_of}
-use Rattle.hume_streams.specs.writes.Places.{name_at}
+use Rattle.hume_streams.specs.places.LineWrites.{line_writes}
+use Rattle.trace_print.specs.writes.Gathered.{pairs_of}
+use Rattle.port_acts.specs.Places.{name_at}
 use Rattle.run_rounds.specs.Streams.{ArePlacesOf}
 use Rattle.run_rounds.specs.Writes.{writes_of_node}
 use Rattle.run_rounds.specs.inner.Gatherings.{GoToOutputs, writes_to}

@@ -6,9 +6,9 @@ use Rattle.hume_base.specs.declared.types.Types.{Types}
 use Rattle.hume_base.specs.declared.types.Value.{Value}
 use Rattle.hume_model.specs.declared.core_tree.Core.{Core}
 use Rattle.hume_streams.specs.Logs.{line_of}
-use Rattle.hume_streams.specs.places.WritesInTurn.{line_writes}
-use Rattle.hume_streams.specs.writes.Gathered.{pairs_of}
-use Rattle.hume_streams.specs.writes.Places.{name_at}
+use Rattle.hume_streams.specs.places.LineWrites.{line_writes}
+use Rattle.trace_print.specs.writes.Gathered.{pairs_of}
+use Rattle.port_acts.specs.Places.{name_at}
 use Rattle.run_rounds.specs.Destinations.{IsOutputPlace}
 use Rattle.run_rounds.specs.inner.Gatherings.{GoToOutputs}
 

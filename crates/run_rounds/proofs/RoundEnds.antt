@@ -5,7 +5,7 @@ use Rattle.hume_ports.specs.Port.{PortView}
 use Rattle.hume_ports.specs.Ports.{names, Untouched}
 use Rattle.hume_ports.specs.Delivery.{Pairs}
 use Rattle.hume_ports.proofs.Untouched.{Untouched-on, Untouched-start}
-use Rattle.hume_streams.specs.writes.Gathered.{pairs_of}
+use Rattle.trace_print.specs.writes.Gathered.{pairs_of}
 use Rattle.run_rounds.specs.declared.engine.engine.Engine.{Engine}
 use Rattle.run_rounds.specs.engine.Engines.{core_of, span_of}
 use Rattle.hume_net.specs.rounds.Rounds.{IsRound, begins, length_of, rounds_of}

@@ -14,8 +14,8 @@ use Rattle.hume_ports.specs.Ports.{names}
 use Rattle.hume_ports.specs.Delivery.{Pairs}
 use Rattle.hume_ports.proofs.Progress.{Progress-start}
 use Rattle.hume_streams.specs.Queues.{QueueView, IsQueueOf, first_view}
-use Rattle.hume_streams.specs.writes.Gathered.{pairs_of}
-use Rattle.hume_streams.specs.writes.Places.{IsPlaceOf, name_at}
+use Rattle.trace_print.specs.writes.Gathered.{pairs_of}
+use Rattle.port_acts.specs.Places.{IsPlaceOf, name_at}
 use Rattle.run_rounds.specs.declared.engine.engine.Engine.{Engine}
 use Rattle.run_rounds.specs.engine.Engines.{core_of, queue_at, span_of, state_of, HasGivenAll}
 use Rattle.run_rounds.specs.engine.Runnable.{IsRunnable}

@@ -15,7 +15,7 @@ use Rattle.hume_streams.specs.Good.{IsGoodUntil}
 use Rattle.run_rounds.specs.engine.StreamTypes.{type_at}
 use Rattle.hume_net.specs.rounds.Rounds.{IsRound, begins, length_of}
 use Rattle.hume_net.specs.rounds.Streams.{asserted_between}
-use Rattle.hume_streams.specs.writes.Gathered.{pairs_of, writes_of}
+use Rattle.trace_print.specs.writes.Gathered.{pairs_of, writes_of}
 use Rattle.run_rounds.specs.declared.run.RunEnd.{RunEnd}
 use Rattle.run_rounds.specs.declared.run.RunError.{RunError}
 use Rattle.run_rounds.specs.declared.run.RunError.TheVariants.{Failed, NoMemory}

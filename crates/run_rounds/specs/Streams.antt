@@ -5,7 +5,7 @@ use Rattle.hume_model.specs.declared.core_tree.NodeC.{NodeC}
 use Rattle.hume_model.specs.declared.core_tree.NodeC.TheVariants.{Rules, From, To}
 use Rattle.hume_model.specs.declared.core_tree.StreamC.{StreamC}
 use Rattle.hume_model.specs.declared.core_tree.Core.{Core}
-use Rattle.hume_streams.specs.writes.Places.{IsPlaceOf}
+use Rattle.port_acts.specs.Places.{IsPlaceOf}
 
 -- the port of all that a call tells besides the values of streams
 abbrev pub std_out : List ℕ

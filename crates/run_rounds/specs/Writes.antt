@@ -13,7 +13,7 @@ use Rattle.run_rounds.specs.engine.StreamTypes.{type_at}
 use Rattle.hume_net.specs.rounds.Blocked.{blocking, first_blocked}
 use Rattle.hume_net.specs.rounds.Rounds.{begins, ends, rounds_of}
 use Rattle.hume_net.specs.rounds.Streams.{gained}
-use Rattle.hume_streams.specs.places.WritesInTurn.{line_writes}
+use Rattle.hume_streams.specs.places.LineWrites.{line_writes}
 use Rattle.run_rounds.specs.Streams.{std_out}
 use Rattle.run_rounds.specs.Inputs.{Inputs, is_bad}
 

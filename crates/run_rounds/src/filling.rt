@@ -4,7 +4,7 @@ ghost use Rattle.hume_model.specs.declared.core_tree.StreamC.{StreamC};
 ghost use Rattle.hume_ports.specs.Port.{PortView};
 ghost use Rattle.hume_ports.specs.Ports.{names, Untouched};
 ghost use Rattle.hume_ports.specs.Delivery.{Pairs};
-ghost use Rattle.hume_streams.specs.writes.Places.{IsPlaceOf};
+ghost use Rattle.port_acts.specs.Places.{IsPlaceOf};
 ghost use Rattle.run_rounds.specs.engine.Engines.{core_of, span_of};
 ghost use Rattle.run_rounds.specs.engine.Runnable.{IsRunnable};
 ghost use Rattle.run_rounds.specs.Streams.{ArePlacesOf, ArePortsApart, inputs, ports_of};

@@ -7,9 +7,9 @@ ghost use Rattle.hume_model.specs.declared.core_tree.Core.{Core};
 ghost use Rattle.hume_model.specs.Reading.{HaveReadableSizes};
 ghost use Rattle.hume_net.specs.Sides.{part_of};
 ghost use Rattle.hume_text.specs.Bounds.{IsPrintable};
-ghost use Rattle.hume_streams.specs.places.WritesInTurn.{line_writes};
-ghost use Rattle.hume_streams.specs.writes.Gathered.{pairs_of, writes_of};
-ghost use Rattle.hume_streams.specs.writes.Places.{name_at};
+ghost use Rattle.hume_streams.specs.places.LineWrites.{line_writes};
+ghost use Rattle.trace_print.specs.writes.Gathered.{pairs_of, writes_of};
+ghost use Rattle.port_acts.specs.Places.{name_at};
 ghost use Rattle.run_rounds.specs.engine.Engines.{core_of, state_of};
 ghost use Rattle.run_rounds.specs.engine.Runnable.{IsRunnable};
 ghost use Rattle.run_rounds.specs.Streams.{ArePlacesOf};
@@ -21,7 +21,7 @@ use crate::engine::{Engine, stream_type};
 use crate::line_printer::LinePrinter;
 use crate::nodes::is_output;
 use hume_base::{Ty, Types, Value, size};
-use hume_streams::writes::Writes;
+use trace_print::writes::Writes;
 use std::alloc::{AllocError, Global};
 
 /// Adds a write for each value that output streams have taken, in source order. The ports are given by their places, one for

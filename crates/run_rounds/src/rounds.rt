@@ -2,7 +2,7 @@ ghost use Rattle.std.specs.Prelude.{◌≡◌, ◌≤◌, ℕ, suc, List, length
 ghost use Rattle.hume_ports.specs.Port.{PortView};
 ghost use Rattle.hume_ports.specs.Ports.{names, Untouched};
 ghost use Rattle.hume_ports.specs.Delivery.{Pairs};
-ghost use Rattle.hume_streams.specs.writes.Gathered.{pairs_of, writes_of};
+ghost use Rattle.trace_print.specs.writes.Gathered.{pairs_of, writes_of};
 ghost use Rattle.run_rounds.specs.engine.Engines.{core_of, span_of};
 ghost use Rattle.run_rounds.specs.engine.Runnable.{IsRunnable};
 ghost use Rattle.hume_net.specs.rounds.Rounds.{IsRound, length_of};
@@ -18,7 +18,7 @@ use crate::gathering::gather_outputs;
 use crate::line_printer::LinePrinter;
 use crate::run::RunError;
 use hume_ports::Port;
-use hume_streams::writes::Writes;
+use trace_print::writes::Writes;
 use std::alloc::{AllocError, Global};
 
 /// How many supersteps a round has, but for the last.

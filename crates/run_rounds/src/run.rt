@@ -1,7 +1,7 @@
 ghost use Rattle.std.specs.Prelude.{◌≡◌, ◌++◌, [], ◌∷◌, true, map, IfOk, slice_get};
 ghost use Rattle.hume_ports.specs.Ports.{names, Untouched};
-ghost use Rattle.hume_streams.specs.writes.Gathered.{writes_of};
-ghost use Rattle.hume_streams.specs.writes.Places.{IsPlaceOf};
+ghost use Rattle.trace_print.specs.writes.Gathered.{writes_of};
+ghost use Rattle.port_acts.specs.Places.{IsPlaceOf};
 ghost use Rattle.run_rounds.specs.engine.Runnable.{IsRunnable};
 ghost use Rattle.run_rounds.specs.Streams.{ArePlacesOf, ArePortsApart, inputs, ports_of, std_out};
 ghost use Rattle.run_rounds.specs.Runs.{EndsRun};
@@ -14,7 +14,7 @@ use crate::line_printer::LinePrinter;
 use crate::rounds::{SPAN, make_rounds};
 use hume_model::{Core, NodeC};
 use hume_ports::Port;
-use hume_streams::writes::Writes;
+use trace_print::writes::Writes;
 use std::alloc::{AllocError, Global};
 use thiserror::Error;
 

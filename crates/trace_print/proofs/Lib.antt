@@ -1,2 +1,3 @@
 pub mod Lengths
-pub mod table_lemmas
+pub mod writes_lemmas
+mod table_lemmas

@@ -1,2 +1,3 @@
 pub mod SpaceLines
+pub mod writes
 pub mod table

@@ -12,6 +12,7 @@
 mod laws;
 mod space_lines;
 pub mod table;
+pub mod writes;
 
 pub use laws::lines_are_short;
 pub use space_lines::{LINE_BYTES, space_line, total_line};

@@ -1,52 +1,26 @@
-//! The cell of a wire: a queue of values as flat words.
-ghost use Rattle.std.specs.Prelude.{◌≡◌, ◌<◌, ◌≤◌, ◌+◌, ◌*◌, ◌^◌, ◌↔◌, ◌∷◌, ◌++◌, [], length, take, drop, Some, slice_get, IsTrue, IfOk, true};
-ghost use Rattle.hume_base.specs.declared.types.Value.{Value};
-ghost use Rattle.hume_base.specs.Sizes.{size_of, HaveTheirSizes};
-ghost use Rattle.hume_base.specs.Values.{is_value};
-ghost use Rattle.hume_base.specs.Flat.{flat};
-ghost use Rattle.std.specs.Option.{option_to_list};
+//! The cell of a wire. What it holds is behind a pointer, so a cell is small where it is moved.
+ghost use Rattle.std.specs.Prelude.{◌≡◌, ◌<◌, ◌≤◌, ◌+◌, ◌^◌, ◌↔◌, ◌∷◌, ◌++◌, [], length, drop, Some, slice_get, IsTrue, IfOk};
 ghost use Rattle.hume_model.specs.declared.core_tree.WireC.{WireC};
-ghost use Rattle.hume_model.specs.Reading.{HaveReadableSizes};
 ghost use Rattle.hume_model.specs.WellFormed.{HasSoundFrame};
 ghost use Rattle.wire_cells.specs.Cells.{first_cell};
-ghost use Rattle.wire_cells.specs.inner.Rings.{wrapped};
 
-use crate::flat_words::flatten;
-use hume_base::{Ty, Types, Value, size};
-use hume_model::{Core, WireC};
+use crate::ring::Ring;
+use hume_model::Core;
 use std::alloc::{AllocError, Global};
 use std::marker::Model;
 
-/// The values on a wire as flat words, in a ring of as many rows as the wire may hold values.
+/// The values on a wire, the oldest first, with the number of the wire and its time.
 #[derive(Drop)]
 pub struct WireCell {
-    number: u32,
-    time: u64,
-    words: Vec<u64>,
-    size: usize,
-    depth: usize,
-    first: usize,
-    count: usize,
+    ring: Box<Ring>,
 }
 
 impl Model for WireCell {
-    ghost use Rattle.std.specs.Prelude.{◌≡◌, ◌<◌, ◌≤◌, ◌*◌, length, take};
-    ghost use Rattle.hume_base.specs.declared.limits.TheConstants.{MAX_TYPE_WORDS, MAX_WIRE_DEPTH};
     ghost use Rattle.wire_cells.specs.Cells.{CellView};
-    ghost use Rattle.wire_cells.specs.inner.Rings.{rows, from_first};
 
     ghost Value = { CellView };
 
-    ghost view = { λ cell. record {
-      number = cell.number;
-      time = cell.time;
-      values = take cell.count (from_first cell.first (rows cell.depth cell.size cell.words.items));
-      size = cell.size;
-      depth = cell.depth;
-    } };
-
-    ghost invariant = { λ cell. (cell.first < cell.depth) × (cell.count ≤ cell.depth) × (length cell.words.items ≡ cell.depth * cell.size)
-        × (cell.depth ≤ MAX_WIRE_DEPTH) × (cell.size ≤ MAX_TYPE_WORDS) };
+    ghost view = { λ cell. cell.ring.value };
 }
 
 impl WireCell {
@@ -56,38 +30,16 @@ impl WireCell {
         requires number { number < length core.now.wires }
         ensures { IfOk result (λ cell. (wire : WireC) → slice_get core.now.wires number ≡ Some wire → cell ≡ first_cell core.now number wire) }
     {
-        WireCell::of_wire(alloc, core, number, &core.wires.as_slice()[number as usize])
-    }
-
-    fn of_wire(
-        alloc: Global,
-        core: &Core,
-        number: u32,
-        wire: &WireC,
-    ) -> Result<WireCell, AllocError>
-        requires core { HasSoundFrame core.now }
-        requires wire { slice_get core.now.wires number ≡ Some wire.now }
-        ensures { IfOk result (λ cell. cell ≡ first_cell core.now number wire.now) }
-    {
-        let size = size(&core.types, &wire.ty) as usize;
-        let depth = wire.depth as usize;
-        let mut words = Vec::from_elem(alloc, 0u64, depth * size)?;
-        let count = write_first(&core.types, &wire.ty, &wire.initial, size, &mut words);
+        let ring = Ring::make(alloc, core, number)?;
         Ok(WireCell {
-            number,
-            time: 0,
-            words,
-            size,
-            depth,
-            first: 0,
-            count,
+            ring: Box::new(alloc, ring)?,
         })
     }
 
     pub fn number(&self) -> u32
         ensures { result ≡ self.now.number }
     {
-        self.number
+        self.ring.number()
     }
 
     /// How many half steps of the nodes at the ends of its wire it has gone through.
@@ -95,7 +47,7 @@ impl WireCell {
     pub fn time(&self) -> u64
         ensures { result ≡ self.now.time }
     {
-        self.time
+        self.ring.time()
     }
 
     /// Goes on by one half step.
@@ -104,14 +56,14 @@ impl WireCell {
         requires { self.old.time < 2 ^ 40 }
         ensures { self.new ≡ record self.old { time = self.old.time + 1 } }
     {
-        self.time += 1;
+        self.ring.tick();
     }
 
     /// Goes back to time 0, and keeps all else.
     pub fn begin(&mut self)
         ensures { self.new ≡ record self.old { time = 0 } }
     {
-        self.time = 0;
+        self.ring.begin();
     }
 
     /// Whether it holds a value.
@@ -119,7 +71,7 @@ impl WireCell {
     pub fn full(&self) -> bool
         ensures { IsTrue result ↔ (1 ≤ length self.now.values) }
     {
-        self.count > 0
+        self.ring.full()
     }
 
     /// The oldest value.
@@ -128,16 +80,16 @@ impl WireCell {
         requires { 1 ≤ length self.now.values }
         ensures { slice_get self.now.values 0 ≡ Some result.now }
     {
-        self.nth(0)
+        self.ring.nth(0)
     }
 
     /// Drops the oldest value.
+    #[inline(always)]
     pub fn take(&mut self)
         requires { 1 ≤ length self.old.values }
         ensures { self.new ≡ record self.old { values = drop 1 self.old.values } }
     {
-        self.first = wrapped(self.first + 1, self.depth);
-        self.count -= 1;
+        self.ring.take();
     }
 
     /// Whether it holds fewer values than it may.
@@ -145,25 +97,24 @@ impl WireCell {
     pub fn room(&self) -> bool
         ensures { IsTrue result ↔ (length self.now.values < self.now.depth) }
     {
-        self.count < self.depth
+        self.ring.room()
     }
 
     /// Puts a value behind the others.
+    #[inline(always)]
     pub fn assert_value(&mut self, words: &[u64])
         requires room { length self.old.values < self.old.depth }
         requires whole { length words.now ≡ self.old.size }
         ensures { self.new ≡ record self.old { values = self.old.values ++ words.now ∷ [] } }
     {
-        let start = wrapped(self.first + self.count, self.depth) * self.size;
-        write_row(words, &mut self.words, start);
-        self.count += 1;
+        self.ring.assert_value(words);
     }
 
     /// How many values it holds.
     pub fn count(&self) -> u32
         ensures { result ≡ length self.now.values }
     {
-        self.count as u32
+        self.ring.count()
     }
 
     /// The value at a place, the oldest at 0.
@@ -172,60 +123,6 @@ impl WireCell {
         requires { i < length self.now.values }
         ensures { slice_get self.now.values i ≡ Some result.now }
     {
-        let start = wrapped(self.first + i as usize, self.depth) * self.size;
-        row_at(&self.words, start, self.size)
-    }
-}
-
-// A place in a ring, once round it or not.
-#[inline(always)]
-fn wrapped(place: usize, depth: usize) -> usize
-    ensures { result ≡ wrapped place depth }
-{
-    if place < depth { place } else { place - depth }
-}
-
-// The words of a row.
-#[inline(always)]
-fn row_at(words: &[u64], start: usize, size: usize) -> &[u64]
-    requires { start + size ≤ length words.now }
-    ensures { result.now ≡ take size (drop start words.now) }
-{
-    &words[start..start + size]
-}
-
-// Writes the words of a row.
-#[inline(always)]
-fn write_row(row: &[u64], into: &mut [u64], start: usize)
-    requires { start + length row.now ≤ length into.old }
-    ensures room { length into.new ≡ length into.old }
-    ensures words { into.new ≡ take start into.old ++ row.now ++ drop (start + length row.now) into.old }
-{
-    into[start..start + row.len()].copy_from_slice(row);
-}
-
-// Writes the words of the value at the front, if there is one, and answers how many there are.
-fn write_first(
-    types: &Types,
-    ty: &Ty,
-    initial: &Option<Value>,
-    size: usize,
-    into: &mut [u64],
-) -> usize
-    requires sizes { HaveTheirSizes types.now }
-    requires readable { HaveReadableSizes types.now }
-    requires typed { (value : Value) → initial.now ≡ Some value → is_value types.now ty.now value ≡ true }
-    requires size { size ≡ size_of types.now ty.now }
-    requires room { size ≤ length into.old }
-    ensures count { result ≡ length (option_to_list initial.now) }
-    ensures room { length into.new ≡ length into.old }
-    ensures words { (value : Value) → initial.now ≡ Some value → take size into.new ≡ flat types.now ty.now value }
-{
-    match initial {
-        None => 0,
-        Some(value) => {
-            flatten(types, ty, value, &mut into[..size]);
-            1
-        }
+        self.ring.nth(i)
     }
 }

@@ -16,6 +16,7 @@
 mod cell;
 mod flat_words;
 mod laws;
+mod ring;
 
 pub use cell::WireCell;
 pub use flat_words::flatten;

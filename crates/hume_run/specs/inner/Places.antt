@@ -1,6 +1,6 @@
 -- The place of the source's name among the words, and the names at places.
 use Rattle.std.specs.Prelude.{ℕ, List, map}
-use Rattle.hume_streams.specs.writes.Places.{name_at}
+use Rattle.port_acts.specs.Places.{name_at}
 use Rattle.hume_run.specs.declared.order.Order.{Order}
 use Rattle.hume_run.specs.declared.order.Order.TheVariants.{Run, Check}
 

@@ -1,9 +1,9 @@
 -- A report over ports that are named by their places, and what it says of ports that are named.
 use Rattle.std.specs.Prelude.{◌≡◌, ℕ, true, List, ◌++◌, All}
 use Rattle.hume_ports.specs.Ports.{is_among}
-use Rattle.hume_streams.specs.writes.Places.{IsPlace, name_at}
+use Rattle.port_acts.specs.Places.{IsPlace, name_at}
 use Rattle.hume_run.specs.inner.Places.{names_at}
-use Rattle.hume_streams.specs.writes.Gathered.{pairs_of, writes_of}
+use Rattle.trace_print.specs.writes.Gathered.{pairs_of, writes_of}
 use Rattle.hume_run.specs.declared.report.Report.{Report}
 use Rattle.hume_run.specs.Statuses.{IsAnswer}
 use Rattle.hume_run.specs.Owed.{Owed}

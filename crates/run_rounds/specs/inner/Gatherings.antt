@@ -11,7 +11,7 @@ use Rattle.hume_net.specs.declared.state.State.{State}
 use Rattle.hume_net.specs.Sides.{part_of}
 use Rattle.hume_ports.specs.Delivery.{Pairs}
 use Rattle.run_rounds.specs.engine.StreamTypes.{type_at}
-use Rattle.hume_streams.specs.places.WritesInTurn.{line_writes}
+use Rattle.hume_streams.specs.places.LineWrites.{line_writes}
 use Rattle.run_rounds.specs.Destinations.{IsOutputPlace}
 
 -- Output streams have taken values of their types.

@@ -13,8 +13,8 @@ use Rattle.box_costs.specs.CostRules.{node_bound}
 use Rattle.space_costs.specs.NodeCosts.{AreCosts}
 use Rattle.hume_text.specs.Chunks.{room_of}
 use Rattle.hume_text.specs.declared.chunk.Chunk.{Chunk}
-use Rattle.hume_streams.specs.writes.Gathered.{writes_of}
-use Rattle.hume_streams.specs.declared.writes.writes.Writes.{Writes}
+use Rattle.trace_print.specs.writes.Gathered.{writes_of}
+use Rattle.trace_print.specs.declared.writes.writes.Writes.{Writes}
 use Rattle.trace_print.specs.SpaceLines.{space_line, total_line}
 use Rattle.trace_print.specs.declared.space_lines.TheConstants.{LINE_BYTES}
 use Rattle.trace_print.specs.table.Table.{box_line, space_table, total_heap, total_stack}

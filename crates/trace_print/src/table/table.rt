@@ -8,14 +8,14 @@ ghost use Rattle.hume_text.specs.Chunks.{room_of};
 ghost use Rattle.box_costs.specs.CostRules.{BreaksCosts};
 ghost use Rattle.space_costs.specs.NodeCosts.{AreCosts};
 ghost use Rattle.trace_print.specs.declared.space_lines.TheConstants.{LINE_BYTES as ROOM};
-ghost use Rattle.hume_streams.specs.writes.Gathered.{writes_of};
+ghost use Rattle.trace_print.specs.writes.Gathered.{writes_of};
 ghost use Rattle.trace_print.specs.table.Table.{box_line, space_table};
 
 use crate::table::totals::{total_heap, total_stack};
 use crate::{LINE_BYTES, lines_are_short, space_line, total_line};
 use box_costs::Cost;
 use hume_model::{Core, NodeC};
-use hume_streams::writes::Writes;
+use trace_print::writes::Writes;
 use hume_text::Chunk;
 use space_costs::Costs;
 use std::alloc::{AllocError, Global};

@@ -1,4 +1,4 @@
-use Rattle.hume_streams.specs.writes.Gathered.{writes_of}
+use Rattle.trace_print.specs.writes.Gathered.{writes_of}
 use Rattle.hume_run.proofs.TwoWrites.{first_untouched, all_last_named, first_failed, first_roomy, both_made, last_failed, last_roomy, both_untouched}
 use Rattle.hume_run.proofs.settle.make_writes.Goals as goal
 

@@ -1,5 +1,5 @@
 use Rattle.hume_net.specs.Sides.{part_of}
-use Rattle.hume_streams.specs.writes.Gathered.{writes_of}
+use Rattle.trace_print.specs.writes.Gathered.{writes_of}
 use Rattle.run_rounds.specs.engine.Engines.{core_of, state_of}
 use Rattle.run_rounds.proofs.GatheredNodes.{GatheredNodes}
 use Rattle.run_rounds.proofs.gathering.gather_outputs.Given as goal

@@ -1,4 +1,4 @@
-use Rattle.hume_streams.specs.writes.Gathered.{writes_of}
+use Rattle.trace_print.specs.writes.Gathered.{writes_of}
 use Rattle.run_rounds.proofs.GatheredValues.{GatheredTo}
 use Rattle.run_rounds.proofs.gathering.gather_values.Given as goal
 

@@ -1,6 +1,6 @@
 use Rattle.std.proofs.Common.{◌∙◌, ap, sym, subst, Ok}
 use Rattle.hume_ports.specs.Ports.{names}
-use Rattle.hume_streams.specs.writes.Gathered.{pairs_of, writes_of}
+use Rattle.trace_print.specs.writes.Gathered.{pairs_of, writes_of}
 use Rattle.run_rounds.specs.engine.Engines.{core_of}
 use Rattle.run_rounds.specs.Streams.{ArePlacesOf}
 use Rattle.run_rounds.proofs.RoundEnds.{fills_as, filled_of, stands_as, round_error, round_blocked, round_without_memory}

@@ -1,5 +1,5 @@
 use Rattle.std.proofs.Common.{◌<◌, ◌∙◌, ap, arith, Ok}
-use Rattle.hume_streams.specs.writes.Gathered.{writes_of}
+use Rattle.trace_print.specs.writes.Gathered.{writes_of}
 use Rattle.hume_net.specs.rounds.Rounds.{rounds_of}
 use Rattle.run_rounds.proofs.RoundEnds.{rounding_none, rounding_next, rounds_halted, rounds_ended, touched_too, stands_own, next_round, next_length, round_as}
 use Rattle.run_rounds.proofs.rounds.make_rounds.Goals as goal

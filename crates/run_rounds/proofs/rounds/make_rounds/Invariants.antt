@@ -1,5 +1,5 @@
 use Rattle.std.proofs.Common.{map}
-use Rattle.hume_streams.specs.writes.Gathered.{writes_of}
+use Rattle.trace_print.specs.writes.Gathered.{writes_of}
 use Rattle.run_rounds.proofs.RoundEnds.{Rounding}
 use Rattle.run_rounds.proofs.rounds.make_rounds.Given as goal
 

@@ -1,7 +1,7 @@
 use Rattle.std.proofs.Common.{◌∙◌, ap, [], Ok}
 use Rattle.hume_ports.proofs.Progress.{Progress-start}
 use Rattle.hume_ports.proofs.Untouched.{Untouched-start}
-use Rattle.hume_streams.specs.writes.Gathered.{writes_of}
+use Rattle.trace_print.specs.writes.Gathered.{writes_of}
 use Rattle.run_rounds.specs.engine.Engines.{core_of}
 use Rattle.run_rounds.proofs.RunStarts.{stands_with, rounds_as, over_as, halted_as, goes_none, goes_or, goes_and_out}
 use Rattle.run_rounds.proofs.run.run_core.Goals as goal

@@ -1,24 +1,20 @@
-use Rattle.hume_ports.proofs.Steps.{step_at}
-use Rattle.hume_streams.proofs.places_lemmas.DrainsInLists.{drain_given, drain_roomy, drain_names, drain_untouched}
+use Rattle.std.proofs.Common.{refl, ◌∙◌, arith}
+use Rattle.hume_streams.proofs.places_lemmas.LinesInTurn.{none_drained, one_drained, one_undrained, all_drained}
 use Rattle.hume_streams.proofs.places.draining.drain_at.Goals as goal
 
-pub returns-clause-step : goal.returns-clause-step
-returns-clause-step g c = step_at _ _ _ _ _ _ c.requires.place c.drain.ensures.lines
+pub loop-place-init : goal.loop-place-init
+loop-place-init g c = (none_drained _ _ _ _ _, c.requires.clear, refl)
 
-pub returns-clause-bytes : goal.returns-clause-bytes
-returns-clause-bytes g c = λ values are. step_at _ _ _ _ _ _ c.requires.place (c.drain.ensures.bytes values are)
+pub returns-in-Err-clause-ends : goal.returns-in-Err-clause-ends
+returns-in-Err-clause-ends g c =
+    one_undrained _ _ _ _ _ _ _ _ _ _ c.at.ensures c.in-Err.ensures.ends.1 c.loop-place.invariant.0 c.in-Err.ensures.ends.2
 
-pub returns-clause-count : goal.returns-clause-count
-returns-clause-count g c = step_at _ _ _ _ _ _ c.requires.place c.drain.ensures.count
+pub loop-place-preserved : goal.loop-place-preserved
+loop-place-preserved g c = (
+  one_drained _ _ _ _ _ _ _ _ _ _ c.at.ensures c.in-Ok.ensures.ends.1 c.loop-place.invariant.0 c.in-Ok.ensures.ends.2 c.in-Ok.ensures.same_names,
+  c.in-Ok.ensures.clear,
+  c.in-Ok.ensures.room ∙ c.loop-place.invariant.2,
+)
 
-pub returns-clause-given : goal.returns-clause-given
-returns-clause-given g c = drain_given _ _ _ _ _ _ _ (returns-clause-step g c)
-
-pub returns-clause-roomy : goal.returns-clause-roomy
-returns-clause-roomy g c = drain_roomy _ _ _ _ _ _ _ (returns-clause-step g c)
-
-pub returns-clause-same_names : goal.returns-clause-same_names
-returns-clause-same_names g c = drain_names _ _ _ _ _ _ _ (returns-clause-step g c)
-
-pub returns-clause-untouched : goal.returns-clause-untouched
-returns-clause-untouched g c = drain_untouched _ _ _ _ _ _ _ (returns-clause-step g c)
+pub returns-clause-ends : goal.returns-clause-ends
+returns-clause-ends g c = all_drained _ _ _ _ _ _ _ (omega (arith, c.loop-place-test.false, c.count-place-end.ensures)) c.loop-place.invariant.0

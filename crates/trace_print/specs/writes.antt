@@ -1,0 +1,3 @@
+pub mod WritesInTurn
+pub mod Gathered
+pub mod inner

@@ -1,0 +1,10 @@
+use Rattle.std.proofs.Common.{length, ap, sym, ◌∙◌}
+use Rattle.wire_cells.specs.Cells.{CellView}
+use Rattle.wire_cells.proofs.Rings.{held_count}
+use Rattle.wire_cells.proofs.ring.Ring.count.Goals as goal
+
+pub returns : goal.returns
+returns c =
+    let cell = c.self.inside in
+    sym (held_count cell.first cell.count cell.depth cell.size cell.words.items c.self.invariant.0 c.self.invariant.1)
+    ∙ ap (λ (v : CellView). length v.values) c.self.view_is
