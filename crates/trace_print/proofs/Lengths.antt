@@ -4,6 +4,7 @@ use Rattle.std.proofs.lemmas.Fmt.{length-decimal-le}
 use Rattle.hume_base.specs.declared.limits.TheConstants.{MAX_NAME_BYTES}
 use Rattle.box_costs.specs.declared.cost.Cost.{Cost}
 use Rattle.trace_print.specs.SpaceLines.{counted, space_line, total_line, AreNumbers}
+use Rattle.trace_print.specs.TraceLines.{peak_line, step_line}
 use Rattle.trace_print.specs.declared.space_lines.TheConstants.{LINE_BYTES}
 
 -- a number of 32 bits takes ten digits at most
@@ -53,3 +54,30 @@ total_short heap stack small few =
   where
     within : (front later all : ℕ) → front ≤ 0 + 21 → later ≤ front + 17 → all ≡ later + 1 → all ≤ LINE_BYTES
     within front later all a b c = omega arith
+
+module _ (name : List ℕ) (heap stack : ℕ) where
+  abbrev peaked : List ℕ
+  peaked = codes "peak " ++ name
+
+  abbrev peak_heap : List ℕ
+  peak_heap = peaked ++ counted (codes " heap ") heap
+
+  abbrev peak_stack : List ℕ
+  peak_stack = peak_heap ++ counted (codes " stack ") stack
+
+  pub peak_short : length name ≤ MAX_NAME_BYTES → heap < 2 ^ 32 → stack < 2 ^ 32 → length (peak_line name heap stack) ≤ LINE_BYTES
+  peak_short short small few =
+      let a : length peak_heap ≤ length peaked + 16 = counted_length peaked (codes " heap ") heap 16 (omega arith) small in
+      let b : length peak_stack ≤ length peak_heap + 17 = counted_length peak_heap (codes " stack ") stack 17 (omega arith) few in
+      let all : length (peak_line name heap stack) ≡ length peak_stack + 1 = length-append peak_stack (10 ∷ []) in
+      let first : length peaked ≡ 5 + length name = length-append (codes "peak ") name in
+      within (length name) (length peaked) (length peak_heap) (length peak_stack) (length (peak_line name heap stack)) short first a b all
+    where
+      within : (name named heap stack all : ℕ) → name ≤ MAX_NAME_BYTES → named ≡ 5 + name → heap ≤ named + 16 → stack ≤ heap + 17 → all ≡ stack + 1 → all ≤ LINE_BYTES
+      within name named heap stack all a b c d e = omega arith
+
+pub step_short : (step : ℕ) → step < 2 ^ 32 → length (step_line step) ≤ LINE_BYTES
+step_short step small =
+    let front : length (counted (codes "step ") step) ≤ 0 + 15 = counted_length [] (codes "step ") step 15 (omega arith) small in
+    let all : length (step_line step) ≡ length (counted (codes "step ") step) + 1 = length-append (counted (codes "step ") step) (10 ∷ []) in
+    omega (arith, front, all)

@@ -1,3 +1,6 @@
 pub mod Lengths
-pub mod writes_lemmas
+pub mod LinesInTurn
+pub mod Greatest
+pub mod ValuesPut
+pub mod WireNames
 mod table_lemmas

@@ -1,3 +1,6 @@
 pub mod SpaceLines
-pub mod writes
+pub mod TraceLines
+pub mod Rooms
+pub mod InTurn
+pub mod inner
 pub mod table

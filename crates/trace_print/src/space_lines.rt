@@ -34,7 +34,7 @@ pub fn total_line(heap: u32, stack: u32, chunk: &mut Chunk)
     chunk.put(b"\n");
 }
 
-fn put_counted(label: &[u8], count: u32, chunk: &mut Chunk)
+pub(crate) fn put_counted(label: &[u8], count: u32, chunk: &mut Chunk)
     requires { length (bytes_in chunk.old) + length (counted label.now count) ≤ room_of chunk.old }
     ensures line { bytes_in chunk.new ≡ bytes_in chunk.old ++ counted label.now count }
     ensures room { room_of chunk.new ≡ room_of chunk.old }

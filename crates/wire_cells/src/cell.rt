@@ -110,9 +110,10 @@ impl WireCell {
         self.ring.assert_value(words);
     }
 
-    /// How many values it holds.
+    /// How many values it holds, which are no more than its depth.
     pub fn count(&self) -> u32
-        ensures { result ≡ length self.now.values }
+        ensures count { result ≡ length self.now.values }
+        ensures within { length self.now.values ≤ self.now.depth }
     {
         self.ring.count()
     }

@@ -147,7 +147,8 @@ impl Ring {
 
     /// How many values it holds.
     pub(crate) fn count(&self) -> u32
-        ensures { result ≡ length self.now.values }
+        ensures count { result ≡ length self.now.values }
+        ensures within { length self.now.values ≤ self.now.depth }
     {
         self.count as u32
     }

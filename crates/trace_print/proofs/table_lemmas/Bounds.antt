@@ -13,10 +13,10 @@ use Rattle.trace_print.proofs.table_lemmas.Sums.{sum_step}
 not_past : (a b : ℕ) → (b < a → ⊥) → a ≤ b
 not_past a b never = elim (cases_lt b a) [ inl past ↦ absurd (never past) | inr within ↦ within ]
 
-pub node_at : (nodes : List NodeC) (n : ℕ) → n < length nodes → (node : NodeC) × (slice_get nodes n ≡ Some node)
-node_at [] n less = absurd (omega (arith, less))
-node_at (node ∷ nodes) zero less = (node, refl)
-node_at (node ∷ nodes) (suc n) less = node_at nodes n (omega (arith, less))
+pub item_at : {A : Type 0} (items : List A) (n : ℕ) → n < length items → (item : A) × (slice_get items n ≡ Some item)
+item_at [] n less = absurd (omega (arith, less))
+item_at (item ∷ items) zero less = (item, refl)
+item_at (item ∷ items) (suc n) less = item_at items n (omega (arith, less))
 
 module _ (core : Core) (fine : IsLeast (BreaksCosts core) None) where
   abbrev of_node : (P : Core → ℕ → NodeC → Type 0) (n : ℕ) (node : NodeC) → slice_get core.nodes n ≡ Some node → P core n node → OfNode core P (declaration_of node)
@@ -39,4 +39,4 @@ module _ (core : Core) (fine : IsLeast (BreaksCosts core) None) where
 
   pub space_within : (n : ℕ) → n ≤ length core.nodes → space_before core n ≤ MAX_SPACE_WORDS
   space_within zero within = omega arith
-  space_within (suc n) within = let found = node_at core.nodes n (omega (arith, within)) in one_more n found.0 found.1 (space_within n (omega (arith, within)))
+  space_within (suc n) within = let found = item_at core.nodes n (omega (arith, within)) in one_more n found.0 found.1 (space_within n (omega (arith, within)))

@@ -9,7 +9,7 @@ use Rattle.box_costs.specs.declared.cost.Cost.{Cost}
 use Rattle.box_costs.specs.CostRules.{node_bound, space_of, BreaksCosts}
 use Rattle.space_costs.specs.NodeCosts.{AreCosts}
 use Rattle.trace_print.proofs.table_lemmas.Sums.{sum_step, sum_below, sum_all}
-use Rattle.trace_print.proofs.table_lemmas.Bounds.{node_at, space_within}
+use Rattle.trace_print.proofs.table_lemmas.Bounds.{item_at, space_within}
 
 -- the same of a list and of a list that it maps to
 mapped_get : {A B : Type 0} (f : A → B) (xs : List A) (n : ℕ) (x : A) → slice_get xs n ≡ Some x → slice_get (map f xs) n ≡ Some (f x)
@@ -51,7 +51,7 @@ module _ (part : Cost → ℕ) (core : Core) where
   pub part_more : (costs : List Cost) → AreCosts core costs → (n told total : ℕ) → n < length core.nodes → option_map part (slice_get costs n) ≡ Some told → total ≡ part_before n
       → total + told ≡ part_before (n + 1)
   part_more costs are n told total less read is =
-      let node = node_at core.nodes n less in
+      let node = item_at core.nodes n less in
       let here = part_read costs are n told node.0 node.1 read in
       let step = part_step n (n + 1) node.0 node.1 refl in
       omega (arith, is, here, step)

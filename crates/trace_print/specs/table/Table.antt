@@ -22,6 +22,10 @@ total_heap core = sum (map (λ node. (node_bound core node).heap) core.nodes)
 abbrev pub total_stack : Core → ℕ
 total_stack core = sum (map (λ node. (node_bound core node).stack) core.nodes)
 
+-- the line of all boxes together
+abbrev pub total_line_of : Core → List ℕ
+total_line_of core = total_line (total_heap core) (total_stack core)
+
 -- a line for each box in source order, and one for all of them
 abbrev pub space_table : Core → List (List ℕ)
-space_table core = filter_map (box_line core) core.nodes ++ total_line (total_heap core) (total_stack core) ∷ []
+space_table core = filter_map (box_line core) core.nodes ++ total_line_of core ∷ []

@@ -1,3 +1,0 @@
-pub mod WritesInTurn
-pub mod Gathered
-pub mod inner
