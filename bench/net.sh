@@ -1,0 +1,75 @@
+#!/usr/bin/env bash
+# net.sh [TOOL [PLAIN]]: times a superstep of a generated net of 200 boxes, 10 streams and 400 wires by `TOOL run` (by default the
+# program of dist/) beside the same net in C (net.c, gcc -O2) and, if it is given, beside a second tool, such as one of an earlier
+# commit that runs the plain net. All are timed in turn, least of five runs, and the time of few supersteps is taken off. What the
+# streams bring out has to be what the C program says.
+set -eu
+here=$(dirname -- "$(readlink -f -- "${BASH_SOURCE[0]}")")
+tool=$(readlink -f -- "${1:-$here/../dist/hume-x86_64-linux}")
+plain=${2:+$(readlink -f -- "$2")}
+room=$(mktemp -d)
+trap 'rm -rf -- "$room"' EXIT
+cd -- "$room"
+gcc -O2 -o net "$here/net.c"
+
+# source NUMBER: the net, chain after chain
+source_of() {
+    echo 'data Pair = P int 64 int 64 ;'
+    echo 'less :: int 64 -> int 64 -> int 64 ;'
+    echo 'less a b = a - b ;'
+    local k j previous expression step
+    for k in {0..9}; do
+        echo "box h$k in (n :: int 64) out (m :: int 64, y :: int 64) match (n) -> (n + 1, n) ;"
+        echo "wire h$k.m to h$k.n initial 0 ;"
+        previous=h$k
+        for j in {1..19}; do
+            case $((j % 4)) in
+            0) expression='x + s' step=1 ;;
+            1) expression='less x s' step=2 ;;
+            2) expression='case P s x of P a b -> a + b end' step=1 ;;
+            3) expression='x - <<s, 0>> @ 1' step=2 ;;
+            esac
+            echo "box b${k}_$j in (x :: int 64, s :: int 64) out (y :: int 64, r :: int 64) match (x, s) -> ($expression, s + $step) ;"
+            echo "wire $previous.y to b${k}_$j.x ;"
+            echo "wire b${k}_$j.r to b${k}_$j.s initial $(($1 + 31 * k + 17 * j)) ;"
+            previous=b${k}_$j
+        done
+        echo "stream c$k to \"c$k\" ;"
+        echo "wire $previous.y to c$k ;"
+    done
+}
+
+# seconds WORD..: the least time of five runs
+seconds() {
+    local least= took _
+    for _ in 1 2 3 4 5; do
+        local begun=$EPOCHREALTIME
+        "$@" >/dev/null || { echo "$* ended with $?" >&2 && return 1; }
+        took=$((${EPOCHREALTIME/./} - ${begun/./}))
+        [ -n "$least" ] && [ "$took" -ge "$least" ] || least=$took
+    done
+    echo "$least"
+}
+
+# row NAME FEW MANY WORD..: nanoseconds a superstep, where `@` in the words stands for the number of supersteps
+row() {
+    local name=$1 few=$2 many=$3 short long
+    shift 3
+    short=$(seconds "${@/@/$few}")
+    long=$(seconds "${@/@/$many}")
+    awk -v name="$name" -v few="$few" -v many="$many" -v short="$short" -v long="$long" \
+        'BEGIN { printf "| %s | %d | %.0f |\n", name, many, (long - short) * 1000 / (many - few) }'
+}
+
+source_of 7 >net.hume
+"$tool" run 1000 1 net.hume c{0..9} >report
+for k in {0..9}; do
+    awk -v k="$k" '{ n++; sum += $1 } END { printf "chain %d count %d sum %d\n", k, n, sum }' "c$k"
+done >found
+./net 7 1000 >wanted
+diff wanted found
+echo '| program | supersteps | ns a superstep |'
+echo '|---|---|---|'
+row 'C, two loops' 1000 201000 ./net 7 @
+row hume 100 20100 "$tool" run @ 1 net.hume c{0..9}
+[ -z "$plain" ] || row 'plain net' 100 600 "$plain" run @ 1 net.hume c{0..9}
