@@ -1,5 +1,5 @@
-//! The program: `hume check SOURCE` or `hume run STEPS WORKERS SOURCE PORT..`, where the words from SOURCE on name the files
-//! that are ports.
+//! The program: `hume check SOURCE`, `hume run STEPS WORKERS SOURCE PORT..`, or `hume trace` with the words of a run, where the
+//! words from SOURCE on name the files that are ports.
 //!
 //! The ports `std_in` and `std_out` are always there.
 //!

@@ -33,7 +33,10 @@ const INPUT: &str = "i read\ni read\n";
 // The table of bounds, with a line for the box and one for all.
 const TABLE: &str = "std_out write\nstd_out write\n";
 
-const TABLE_AND_VALUES: &str = "std_out write\nstd_out write\no write\no write\n";
+const INPUT_AND_VALUES: &str = "i read\ni read\no write\no write\n";
+
+// The peak of the box, and all finishes.
+const PEAK_AND_FINISHES: &str = "std_out write\no finish\nstd_out finish\n";
 
 const ALL_FINISHED: &str = "o finish\nstd_out finish\n";
 
@@ -92,19 +95,31 @@ fn a_call_reads_then_writes_line_by_line_then_finishes_each_port_once(
     let two = b"1\n2\n";
     let mut no_steps = run(two, none);
     no_steps.words = "run 0 1 p i o";
-    let bad = "i read\nstd_out write\nstd_out write\nstd_out write\n";
+    let mut traced = run(two, none);
+    traced.words = "trace 1 1 p i o";
+    let superstep = "i read\nstd_out write\nstd_out write\nstd_out write\n";
+    let bad = "i read\nstd_out write\n";
     let report = "std_out write\nstd_out finish\n";
     let rows = [
         Row(
             run(two, none),
             Status::Done,
-            [SOURCE, INPUT, TABLE_AND_VALUES, ALL_FINISHED],
+            [SOURCE, TABLE, INPUT_AND_VALUES, PEAK_AND_FINISHES],
         ),
-        Row(no_steps, Status::Done, [SOURCE, TABLE, ALL_FINISHED, ""]),
+        Row(
+            no_steps,
+            Status::Done,
+            [SOURCE, TABLE, PEAK_AND_FINISHES, ""],
+        ),
+        Row(
+            traced,
+            Status::Done,
+            [SOURCE, TABLE, superstep, PEAK_AND_FINISHES],
+        ),
         Row(
             run(b"x\n", none),
             Status::BadValue,
-            [SOURCE, bad, ALL_FINISHED, ""],
+            [SOURCE, TABLE, bad, ALL_FINISHED],
         ),
         Row(
             refused("run 4 1 p i o", none),
@@ -135,7 +150,7 @@ fn no_call_is_made_after_a_failing_read(rt: HostRuntime) -> Result<(), Stop> {
         Row(
             run(two, ("i", 2)),
             Status::Fault,
-            [SOURCE, "i read\ni read fails\n", "", ""],
+            [SOURCE, TABLE, "i read\ni read fails\n", ""],
         ),
     ];
     all_are_noted(&rt, rt.alloc(), &rows)
@@ -145,36 +160,41 @@ fn no_call_is_made_after_a_failing_read(rt: HostRuntime) -> Result<(), Stop> {
 fn no_call_is_made_after_a_failing_write_or_finish(rt: HostRuntime) -> Result<(), Stop> {
     let two = b"1\n2\n";
     let second = "o write\no write fails\n";
-    let output = "o finish fails\n";
-    let report = "o finish\nstd_out finish fails\n";
-    let bad = "i read\nstd_out write\nstd_out write\nstd_out write fails\n";
+    let output = "std_out write\no finish fails\n";
+    let report = "std_out write\no finish\nstd_out finish fails\n";
+    let bad = "i read\nstd_out write fails\n";
     let refusal = "std_out write fails\n";
     let finish = "std_out write\nstd_out finish fails\n";
     let rows = [
         Row(
             run(two, ("o", 2)),
             Status::Fault,
-            [SOURCE, INPUT, TABLE, second],
+            [SOURCE, TABLE, INPUT, second],
         ),
         Row(
             run(two, ("o", 3)),
             Status::Fault,
-            [SOURCE, INPUT, TABLE_AND_VALUES, output],
+            [SOURCE, TABLE, INPUT_AND_VALUES, output],
         ),
         Row(
             run(two, ("std_out", 1)),
             Status::Fault,
-            [SOURCE, INPUT, refusal, ""],
+            [SOURCE, refusal, "", ""],
         ),
         Row(
             run(two, ("std_out", 3)),
             Status::Fault,
-            [SOURCE, INPUT, TABLE_AND_VALUES, report],
+            [SOURCE, TABLE, INPUT_AND_VALUES, refusal],
+        ),
+        Row(
+            run(two, ("std_out", 4)),
+            Status::Fault,
+            [SOURCE, TABLE, INPUT_AND_VALUES, report],
         ),
         Row(
             run(b"x\n", ("std_out", 3)),
             Status::Fault,
-            [SOURCE, bad, "", ""],
+            [SOURCE, TABLE, bad, ""],
         ),
         Row(
             refused("run 4 1 p i o", ("std_out", 1)),
