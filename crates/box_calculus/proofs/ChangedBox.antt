@@ -9,12 +9,12 @@ use Rattle.hume_model.specs.declared.core_tree.NodeC.TheVariants.{Rules, From, T
 use Rattle.hume_model.specs.declared.core_tree.Core.{Core}
 use Rattle.box_calculus.specs.Boxes.{as_box, box_at}
 
--- nothing at both places, or two nodes that are related
-abbrev pub BothAt : (NodeC → NodeC → Type 0) → Option NodeC → Option NodeC → Type 0
+-- nothing at both places, or two that are related
+abbrev pub BothAt : {X : Type 0} → (X → X → Type 0) → Option X → Option X → Type 0
 BothAt R None None = ⊤
-BothAt R None (Some node) = ⊥
-BothAt R (Some node) None = ⊥
-BothAt R (Some node) (Some other) = R node other
+BothAt R None (Some y) = ⊥
+BothAt R (Some x) None = ⊥
+BothAt R (Some x) (Some y) = R x y
 
 -- the box at a place stands there among the nodes
 pub box_there : (core : Core) (n : ℕ) (b : BoxC) → box_at core n ≡ Some b → slice_get core.nodes n ≡ Some (Rules b)
@@ -26,32 +26,31 @@ box_there core n b at = by (slice_get core.nodes n) at
     by (Some (From stream)) at = cc
     by (Some (To stream)) at = cc
 
-pub length-set_node : (nodes : List NodeC) (n : ℕ) (node : NodeC) → length (slice_set nodes n node) ≡ length nodes
+pub length-set_node : {X : Type 0} (nodes : List X) (n : ℕ) (node : X) → length (slice_set nodes n node) ≡ length nodes
 length-set_node [] n node = refl
 length-set_node (x ∷ nodes) zero node = refl
 length-set_node (x ∷ nodes) (suc n) node = ap suc (length-set_node nodes n node)
 
-self_at : (R : NodeC → NodeC → Type 0) → ((node : NodeC) → R node node) → (o : Option NodeC) → BothAt R o o
-self_at R self None = tt
-self_at R self (Some node) = self node
+pub self_at : {X : Type 0} (R : X → X → Type 0) (o : Option X) → ((x : X) → o ≡ Some x → R x x) → BothAt R o o
+self_at R None self = tt
+self_at R (Some x) self = self x refl
 
--- a relation that holds of each node and itself, and of the old box and the new one, holds at each place
-pub related_at : (R : NodeC → NodeC → Type 0) → ((node : NodeC) → R node node) → (nodes : List NodeC) (n : ℕ) (old node : NodeC)
-    → slice_get nodes n ≡ Some old → R old node → (m : ℕ) → BothAt R (slice_get nodes m) (slice_get (slice_set nodes n node) m)
-related_at R self [] n old node at related m = tt
-related_at R self (x ∷ nodes) zero old node at related zero = (let same : old ≡ x = cc in subst (λ y. R y node) same related)
-related_at R self (x ∷ nodes) zero old node at related (suc m) = self_at R self (slice_get nodes m)
-related_at R self (x ∷ nodes) (suc n) old node at related zero = self x
-related_at R self (x ∷ nodes) (suc n) old node at related (suc m) = related_at R self nodes n old node at related m
+-- a relation that holds of each element and itself, and of the old one at a place and the new one, holds at each place
+pub related_at : {X : Type 0} (R : X → X → Type 0) (xs : List X) → ((m : ℕ) (x : X) → slice_get xs m ≡ Some x → R x x) → (n : ℕ) (old new : X)
+    → slice_get xs n ≡ Some old → R old new → (m : ℕ) → BothAt R (slice_get xs m) (slice_get (slice_set xs n new) m)
+related_at R [] self n old new at related m = tt
+related_at R (x ∷ xs) self zero old new at related zero = (let same : old ≡ x = cc in subst (λ y. R y new) same related)
+related_at R (x ∷ xs) self zero old new at related (suc m) = self_at R (slice_get xs m) (λ y is. self (suc m) y is)
+related_at R (x ∷ xs) self (suc n) old new at related zero = self zero x refl
+related_at R (x ∷ xs) self (suc n) old new at related (suc m) = related_at R xs (λ k y is. self (suc k) y is) n old new at related m
 
--- a node of the list with another one in a place is that one, or stood there before
-pub in_set : (nodes : List NodeC) (n : ℕ) (node : NodeC) (m : ℕ) (other : NodeC) → slice_get (slice_set nodes n node) m ≡ Some other
-    → (other ≡ node) ⊎ (slice_get nodes m ≡ Some other)
-in_set [] n node m other found = inr found
-in_set (x ∷ nodes) zero node zero other found = inl (let same : other ≡ node = cc in same)
-in_set (x ∷ nodes) zero node (suc m) other found = inr found
-in_set (x ∷ nodes) (suc n) node zero other found = inr found
-in_set (x ∷ nodes) (suc n) node (suc m) other found = in_set nodes n node m other found
+-- an element of the list with another one in a place is that one, or stood there before
+pub in_set : {X : Type 0} (xs : List X) (n : ℕ) (new : X) (m : ℕ) (x : X) → slice_get (slice_set xs n new) m ≡ Some x → (x ≡ new) ⊎ (slice_get xs m ≡ Some x)
+in_set [] n new m x found = inr found
+in_set (y ∷ xs) zero new zero x found = inl (let same : x ≡ new = cc in same)
+in_set (y ∷ xs) zero new (suc m) x found = inr found
+in_set (y ∷ xs) (suc n) new zero x found = inr found
+in_set (y ∷ xs) (suc n) new (suc m) x found = in_set xs n new m x found
 
 -- what holds of each node holds of one that is there
 pub node_small : (P : NodeC → Type 0) (nodes : List NodeC) (n : ℕ) (node : NodeC) → slice_get nodes n ≡ Some node → All P nodes → P node

@@ -75,7 +75,7 @@ module _ (core : Core) (n rule : ℕ) (b : BoxC) (there : box_at core n ≡ Some
   at = box_there core n b there
 
   ports : (m : ℕ) → BothAt SamePorts (slice_get core.nodes m) (slice_get nodes m)
-  ports = related_at SamePorts same_ports core.nodes n (Rules b) (Rules other) at (swapped_ports rule b)
+  ports = related_at SamePorts core.nodes (λ m node is. same_ports node) n (Rules b) (Rules other) at (swapped_ports rule b)
 
   module _ (formed : IsWellFormed core) where
     box_formed : (m : ℕ) (c : BoxC) → (Rules c ≡ Rules other) ⊎ (slice_get core.nodes m ≡ Some (Rules c)) → BoxHasFrame core c × BoxIsTyped core c

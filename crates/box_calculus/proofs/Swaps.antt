@@ -118,5 +118,5 @@ module _ (core : Core) (n rule : ℕ) (b : BoxC) (may : MaySwap b rule) where
   swap_same there = record {
     wires = refl;
     count = length-set_node core.nodes n (Rules other);
-    nodes = related_at (SameNodes core new) same_node core.nodes n (Rules b) (Rules other) (box_there core n b there) same_boxes;
+    nodes = related_at (SameNodes core new) core.nodes (λ m node is. same_node node) n (Rules b) (Rules other) (box_there core n b there) same_boxes;
   }
