@@ -10,7 +10,7 @@ use Rattle.hume_model.specs.declared.core_tree.PortC.{PortC}
 use Rattle.hume_model.specs.declared.core_tree.InPat.{InPat}
 use Rattle.hume_model.specs.declared.core_tree.InPat.TheVariants.{Star}
 use Rattle.hume_model.specs.BoxTyping.{port_types}
-use Rattle.box_calculus.specs.VariableTypes.{parts_bind, pattern_binds, rule_binds}
+use Rattle.calculus_laws.specs.VariableTypes.{parts_bind, pattern_binds, rule_binds}
 
 pub parts_bind-short : (types : Types) (parts : List PatC) (tys : List Ty) (i : ℕ) → i < length parts → length tys ≤ i
     → parts_bind (map (pattern_binds types) (drop i parts)) (drop i tys) ≡ []

@@ -1,32 +1,20 @@
 //! Rewrites of a core that keep every run: the box calculus.
 //!
-//! Main call: `rewrite` makes one step. `Steps.antt` says what a step makes of a core and why it is refused, `Swapping.antt` what
-//! a swap of two rules is, and `Apart.antt` when no inputs fit two rules. `Naming.antt` says what becomes of an output that is made a
-//! function, and `Names.antt` which names are free. `Orders.antt` says of which states the runs are kept.
+//! Main call: `rewrite` makes one step. What a step makes of a core, why it is refused and why runs are kept is said in
+//! `calculus_laws`.
 //!
 //! Proved: `rewrite` gives exactly the core that is defined, and refuses a step exactly for its cause (`refusal`), if memory
-//! doesn't run out. Laws: a step that isn't refused changes no run, state by state (`rewrites_keep_runs`); the new core is well
-//! formed (`rewrites_keep_cores_well_formed`) and breaks no rule on wires and exceptions that the old one keeps
-//! (`rewrites_break_no_rules`). A net starts with its boxes in the written order, and unfair ones keep it
-//! (`unfair_boxes_keep_the_written_order`). There are two kinds of steps, the swap of two rules and the naming of an output, and no command makes
-//! them yet.
+//! doesn't run out. No command makes a step yet.
 //!
-//! It knows cores and what their nets do. It doesn't know sources, scripts of steps, or who asks for a step.
+//! It knows cores and steps. It doesn't know sources, scripts of steps, or who asks for a step.
 #![tactic(auto)]
 
 mod apart;
-mod laws;
 mod names;
 mod naming;
 mod output;
 mod rewriting;
-mod step;
 mod swap;
 mod variables;
 
-pub use laws::{
-    rewrites_break_no_rules, rewrites_keep_cores_well_formed, rewrites_keep_runs,
-    unfair_boxes_keep_the_written_order,
-};
 pub use rewriting::rewrite;
-pub use step::{CalcError, Step};

@@ -1,7 +1,7 @@
 //! Names that a function may have.
 ghost use Rattle.std.specs.Prelude.{◌≡◌};
 ghost use Rattle.std.specs.List.{list_all};
-ghost use Rattle.box_calculus.specs.Names.{has_form, is_function_name, is_name_byte, is_small, is_taken};
+ghost use Rattle.calculus_laws.specs.Names.{has_form, is_function_name, is_name_byte, is_small, is_taken};
 
 use hume_base::Keyword;
 use hume_base::limits::MAX_NAME_BYTES;

@@ -4,13 +4,13 @@ ghost use Rattle.std.specs.List.{range_with_len};
 ghost use Rattle.hume_model.specs.declared.core_tree.Expr.TheVariants.{Call, Var as VarExpr};
 ghost use Rattle.hume_model.specs.declared.core_tree.PatC.TheVariants.{Var as VarPattern};
 ghost use Rattle.hume_model.specs.declared.core_tree.Res.{out-Res};
-ghost use Rattle.box_calculus.specs.declared.step.CalcError.TheVariants.{NoMemory as OutOfMemory};
-ghost use Rattle.box_calculus.specs.Naming.{body_of, calling_box, may_be_named, named_function, only_output, output_at, output_refusal, variables};
+ghost use Rattle.calculus_laws.specs.declared.step.CalcError.TheVariants.{NoMemory as OutOfMemory};
+ghost use Rattle.calculus_laws.specs.Naming.{body_of, calling_box, may_be_named, named_function, only_output, output_at, output_refusal, variables};
 
 use crate::names::{is_function_name, is_taken};
 use crate::output::{exchange_result, first_type};
-use crate::step::CalcError;
 use crate::variables::rule_variables;
+use calculus_laws::CalcError;
 use hume_base::limits::{MAX_FUNCTIONS, MAX_PARAMETERS};
 use hume_base::{List, Text, Ty, Types};
 use hume_model::{BoxC, EqC, Expr, FunC, PatC, PortC, Res, RuleC};

@@ -2,7 +2,7 @@
 ghost use Rattle.std.specs.Prelude.{◌≡◌, ◌<◌, IfOk, IfSome, Some, [], ◌∷◌, length, slice_get, slice_set};
 ghost use Rattle.hume_model.specs.declared.core_tree.Res.{out-Res};
 ghost use Rattle.hume_model.specs.BoxTyping.{port_types};
-ghost use Rattle.box_calculus.specs.Naming.{body_of, only_body};
+ghost use Rattle.calculus_laws.specs.Naming.{body_of, only_body};
 
 use hume_base::{List, Ty, copy_ty};
 use hume_model::{BoxC, Expr, PortC, Res};

@@ -1,14 +1,14 @@
 //! The call that makes a step.
 ghost use Rattle.std.specs.Prelude.{◌≡◌, ◌⊎◌, ◌<◌, IfOk, IfErr, OnOk, None, Some, length};
-ghost use Rattle.box_calculus.specs.declared.step.CalcError.TheVariants.{NoMemory};
-ghost use Rattle.box_calculus.specs.Boxes.{box_at, with_box};
-ghost use Rattle.box_calculus.specs.Naming.{calling_box, named_function, named_output, output_at, output_refusal};
-ghost use Rattle.box_calculus.specs.Swapping.{swap_refusal, swapped_box};
-ghost use Rattle.box_calculus.specs.Steps.{IsOnRule, refusal, rewritten};
+ghost use Rattle.calculus_laws.specs.declared.step.CalcError.TheVariants.{NoMemory};
+ghost use Rattle.calculus_laws.specs.Boxes.{box_at, with_box};
+ghost use Rattle.calculus_laws.specs.Naming.{calling_box, named_function, named_output, output_at, output_refusal};
+ghost use Rattle.calculus_laws.specs.Swapping.{swap_refusal, swapped_box};
+ghost use Rattle.calculus_laws.specs.Steps.{IsOnRule, refusal, rewritten};
 
 use crate::naming::name_output;
-use crate::step::{CalcError, Step};
 use crate::swap::swap_rules;
+use calculus_laws::{CalcError, Step};
 use hume_base::{List, Text};
 use hume_model::{Core, NodeC};
 use std::alloc::Global;

@@ -2,7 +2,7 @@
 ghost use Rattle.std.specs.Prelude.{◌≡◌, IfOk, map};
 ghost use Rattle.hume_base.specs.declared.types.Ty.{out-Ty};
 ghost use Rattle.hume_model.specs.BoxTyping.{port_types};
-ghost use Rattle.box_calculus.specs.VariableTypes.{con_binds, parts_bind, pattern_binds, position_binds, rule_binds, tuple_binds};
+ghost use Rattle.calculus_laws.specs.VariableTypes.{con_binds, parts_bind, pattern_binds, position_binds, rule_binds, tuple_binds};
 
 use hume_base::{List, Ty, Types, copy_ty};
 use hume_model::{InPat, PatC, PortC};

@@ -1,5 +1,5 @@
 use Rattle.std.proofs.Common.{◌≡◌, ◌++◌, drop, map}
-use Rattle.box_calculus.specs.VariableTypes.{parts_bind, pattern_binds}
+use Rattle.calculus_laws.specs.VariableTypes.{parts_bind, pattern_binds}
 use Rattle.box_calculus.proofs.variables.+pattern_variables.Given as goal
 
 abbrev pub invariant-all_variables-loop-i : goal.invariant-all_variables-loop-i

@@ -1,6 +1,6 @@
 use Rattle.std.proofs.Common.{◌≡◌, ◌++◌, drop}
 use Rattle.hume_model.specs.BoxTyping.{port_types}
-use Rattle.box_calculus.specs.VariableTypes.{rule_binds}
+use Rattle.calculus_laws.specs.VariableTypes.{rule_binds}
 use Rattle.box_calculus.proofs.variables.rule_variables.Given as goal
 
 abbrev pub invariant-loop-i : goal.invariant-loop-i
