@@ -1,3 +1,5 @@
 pub mod Counted
+pub mod Cuts
+pub mod Digits
 pub mod Short
 pub mod ShortTypes
