@@ -23,7 +23,7 @@ module _ (core new : Core) (same : new.funs ≡ core.funs) where
   calls_kept (suc bound) = λ i function args.
       if function == bound then call_of (eval_with (calls_kept bound i)) (slice_get (same i) bound) args else calls_kept bound i function args
 
-  meaning_kept : meaning_in new ≡ meaning_in core
+  pub meaning_kept : meaning_in new ≡ meaning_in core
   meaning_kept = λ i. λ (e : Expr) env. eval_with ((ap (λ funs. call_below new (length funs)) same ∙ calls_kept (length core.funs)) i) e env
 
   pub result_kept : (env : List Value) (res : Res) → result_of new env res ≡ result_of core env res

@@ -13,6 +13,8 @@ pub mod NamedCores
 pub mod NamedRaising
 pub mod NamedRuns
 pub mod NamedTypes
+pub mod PatternCounts
+pub mod Renumbered
 pub mod Runs
 pub mod SameNets
 pub mod SameRules
@@ -20,4 +22,10 @@ pub mod SwappedCores
 pub mod Swaps
 pub mod Typed
 pub mod TypedNets
+pub mod UnfoldedCalls
+pub mod UnfoldedMeaning
+pub mod UnfoldedResultMeaning
+pub mod UnfoldedResults
+pub mod UnfoldedRuns
+pub mod Unfolds
 pub mod WrittenTypes

@@ -5,4 +5,5 @@ pub mod Naming
 pub mod Orders
 pub mod Steps
 pub mod Swapping
+pub mod Unfolding
 pub mod VariableTypes

@@ -1,8 +1,10 @@
 //! Laws of the definitions, as contracts of functions that do nothing.
-ghost use Rattle.std.specs.Prelude.{◌≡◌, ℕ, List, None};
+ghost use Rattle.std.specs.Prelude.{◌≡◌, ℕ, List, None, Some};
 ghost use Rattle.hume_base.specs.declared.finding.Finding.{Finding};
 ghost use Rattle.hume_base.specs.declared.types.Value.{Value};
+ghost use Rattle.hume_model.specs.declared.core_tree.BoxC.{BoxC};
 ghost use Rattle.hume_model.specs.declared.core_tree.Core.{Core};
+ghost use Rattle.hume_model.specs.declared.core_tree.RuleC.{RuleC};
 ghost use Rattle.hume_model.specs.HandlerRules.{BreaksHandlers};
 ghost use Rattle.hume_model.specs.WellFormed.{IsWellFormed};
 ghost use Rattle.hume_model.specs.WireRules.{BreaksWires};
@@ -10,8 +12,10 @@ ghost use Rattle.hume_net.specs.declared.state.State.{State};
 ghost use Rattle.hume_net.specs.Lockstep.{lockstep};
 ghost use Rattle.hume_net.specs.Start.{start};
 ghost use Rattle.calculus_laws.specs.declared.step.Step.{Step};
+ghost use Rattle.calculus_laws.specs.Boxes.{box_at, with_box};
 ghost use Rattle.calculus_laws.specs.Orders.{HasWrittenOrders};
 ghost use Rattle.calculus_laws.specs.Steps.{IsOnRule, refusal, rewritten};
+ghost use Rattle.calculus_laws.specs.Unfolding.{unfolded_at, with_rule};
 
 /// A step that isn't refused changes no run: after any number of supersteps the whole state is the same, from each state
 /// whose unfair boxes have the written order.
@@ -37,4 +41,10 @@ pub fn rewrites_break_no_rules()
 pub fn unfair_boxes_keep_the_written_order()
     ensures starts { (core : Core) (coming : List (List Value)) → HasWrittenOrders core (start core coming) }
     ensures supersteps { (core : Core) (state : State) → HasWrittenOrders core state → (k : ℕ) → HasWrittenOrders core (lockstep core state k) }
+{}
+
+/// A rule in which a call is unfolded changes no run.
+pub fn unfolded_rules_keep_runs()
+    ensures { (core : Core) → IsWellFormed core → (n rule : ℕ) (b : BoxC) (new : RuleC) → box_at core n ≡ Some b → unfolded_at core b rule ≡ Some new
+        → (state : State) → HasWrittenOrders core state → (k : ℕ) → lockstep (with_box core n (with_rule rule new b)) state k ≡ lockstep core state k }
 {}
