@@ -15,11 +15,13 @@ pub mod NamedRuns
 pub mod NamedTypes
 pub mod PatternCounts
 pub mod Renumbered
+pub mod RenumberedTypes
 pub mod Runs
 pub mod SameNets
 pub mod SameRules
 pub mod SwappedCores
 pub mod Swaps
+pub mod TypeForms
 pub mod Typed
 pub mod TypedNets
 pub mod UnfoldedCalls
@@ -27,5 +29,6 @@ pub mod UnfoldedMeaning
 pub mod UnfoldedResultMeaning
 pub mod UnfoldedResults
 pub mod UnfoldedRuns
+pub mod UnfoldedTypes
 pub mod Unfolds
 pub mod WrittenTypes

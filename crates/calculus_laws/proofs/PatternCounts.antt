@@ -9,7 +9,7 @@ use Rattle.hume_model.specs.declared.core_tree.PatC.TheOpen.{PatC-F}
 use Rattle.hume_model.specs.Patterns.{Match, all_match, both_match, match_con, match_step, match_tuple, match_word, matches}
 use Rattle.calculus_laws.specs.Unfolding.{variables_in, variables_step}
 
-sum_more : (n : ℕ) (ns : List ℕ) → sum (n ∷ ns) ≡ n + sum ns
+pub sum_more : (n : ℕ) (ns : List ℕ) → sum (n ∷ ns) ≡ n + sum ns
 sum_more n ns = sum_by-cons (λ x. x) n ns
 
 abbrev Counts : PatC → Type 0

@@ -12,7 +12,7 @@ use Rattle.hume_model.specs.inner.Arms.{arm_with}
 use Rattle.calculus_laws.specs.Unfolding.{renumber_layer, renumbered}
 
 -- each variable has its value at its new number, and those that will be bound follow one another
-pub record Carries (numbers : ℕ → ℕ) (env other : List Value) : Type 0 where
+pub record Carries {X : Type 0} (numbers : ℕ → ℕ) (env other : List X) : Type 0 where
   pub same : (i : ℕ) → slice_get other (numbers i) ≡ slice_get env i
   pub beyond : (k : ℕ) → numbers (length env + k) ≡ length other + k
 
@@ -30,8 +30,8 @@ past [] i none = (i, omega arith)
 past (x ∷ xs) zero none = cc
 past (x ∷ xs) (suc i) none = let rest = past xs i none in (rest.0, (let at = rest.1 in omega (arith, at)))
 
-module _ (numbers : ℕ → ℕ) where
-  longer_same : (env other more : List Value) → Carries numbers env other → (i : ℕ) (o : Option Value) → slice_get env i ≡ o
+module _ {X : Type 0} (numbers : ℕ → ℕ) where
+  longer_same : (env other more : List X) → Carries numbers env other → (i : ℕ) (o : Option X) → slice_get env i ≡ o
       → slice_get (other ++ more) (numbers i) ≡ slice_get (env ++ more) i
   longer_same env other more carries i (Some v) found =
       get_left other more (numbers i) v (carries.same i ∙ found) ∙ sym (get_left env more i v found)
@@ -41,7 +41,7 @@ module _ (numbers : ℕ → ℕ) where
       ∙ sym (get_right env more at.0) ∙ ap (slice_get (env ++ more)) (sym at.1)
 
   -- so it is with further variables
-  pub longer : (env other more : List Value) → Carries numbers env other → Carries numbers (env ++ more) (other ++ more)
+  pub longer : (env other more : List X) → Carries numbers env other → Carries numbers (env ++ more) (other ++ more)
   longer env other more carries = record {
     same = λ i. longer_same env other more carries i (slice_get env i) refl;
     beyond = λ k.

@@ -38,7 +38,7 @@ within_left (x ∷ xs) ys zero below = refl
 within_left (x ∷ xs) ys (suc i) below = within_left xs ys i (omega arith)
 
 -- an argument below further variables
-moves : (env us : List Value) → Carries (moved_on (length env) (length us)) env (env ++ us)
+pub moves : {X : Type 0} (env us : List X) → Carries (moved_on (length env) (length us)) env (env ++ us)
 moves env us = record {
   same = λ i. by i (nat_lt i (length env)) refl;
   beyond = λ k. follows k (nat_lt (length env + k) (length env)) refl;
@@ -85,11 +85,11 @@ module _ (call : Calls) where
           ∙ (λ i. with_all (in_order (map (eval_with call) args) env) (λ vs. eval_with call body (env ++ append_assoc us (v ∷ []) vs i)))
 
 -- the values that such patterns bind
-abbrev bound_one : PatC-F PatC → Value → List Value → List Value
+abbrev pub bound_one : {X : Type 0} → PatC-F PatC → X → List X → List X
 bound_one PatC-F.Var v vs = v ∷ vs
 bound_one _ v vs = vs
 
-abbrev bound_values : List PatC → List Value → List Value
+abbrev pub bound_values : {X : Type 0} → List PatC → List X → List X
 bound_values [] vs = []
 bound_values (pat ∷ pats) [] = []
 bound_values (pat ∷ pats) (v ∷ vs) = bound_one (out-PatC pat) v (bound_values pats vs)
@@ -104,7 +104,7 @@ one_match (PatC-F.Word w) pat v vs others is any same = cc
 one_match (PatC-F.Con c ps) pat v vs others is any same = cc
 one_match (PatC-F.Tuple ps) pat v vs others is any same = cc
 
-abbrev AllTake : List PatC → Type 0
+abbrev pub AllTake : List PatC → Type 0
 AllTake pats = list_all (λ pat. takes_any (out-PatC pat)) pats ≡ true
 
 all_match : (pats : List PatC) (vs : List Value) → AllTake pats → length vs ≡ length pats → matches_all pats vs ≡ Some (bound_values pats vs)
@@ -114,7 +114,7 @@ all_match (pat ∷ pats) (v ∷ vs) all count =
     let both = and_parts _ _ all in
     one_match (out-PatC pat) pat v (bound_values pats vs) (matches_all pats vs) (roll-out-PatC pat) both.0 (all_match pats vs both.1 (omega (arith, count)))
 
-numbers_count : (pats : List PatC) (vs : List Value) (n : ℕ) → length vs ≡ length pats → length (pattern_numbers n pats) ≡ length (bound_values pats vs)
+numbers_count : {X : Type 0} (pats : List PatC) (vs : List X) (n : ℕ) → length vs ≡ length pats → length (pattern_numbers n pats) ≡ length (bound_values pats vs)
 numbers_count [] vs n count = refl
 numbers_count (pat ∷ pats) [] n count = absurd (omega (arith, count))
 numbers_count (pat ∷ pats) (v ∷ vs) n count = by (numbers_count pats vs (n + 1) (omega (arith, count))) (out-PatC pat)
@@ -127,7 +127,7 @@ numbers_count (pat ∷ pats) (v ∷ vs) n count = by (numbers_count pats vs (n +
     by rest (PatC-F.Tuple ps) = rest
 
 -- each variable of the patterns has its value at its number
-found_at : (pats : List PatC) (us vs : List Value) (i : ℕ) → length vs ≡ length pats → i < length (bound_values pats vs)
+found_at : {X : Type 0} (pats : List PatC) (us vs : List X) (i : ℕ) → length vs ≡ length pats → i < length (bound_values pats vs)
     → slice_get (us ++ vs) (slice_index_or (pattern_numbers (length us) pats) i 0) ≡ slice_get (bound_values pats vs) i
 found_at [] us vs i count below = absurd (omega arith)
 found_at (pat ∷ pats) us [] i count below = absurd (omega (arith, count))
@@ -157,7 +157,7 @@ found_at (pat ∷ pats) us (v ∷ vs) i count below =
     by each (PatC-F.Tuple ps) j small = each j small
 
 -- the variables of an equation, below its arguments
-takes : (env vs : List Value) (pats : List PatC) → length vs ≡ length pats
+pub takes : {X : Type 0} (env vs : List X) (pats : List PatC) → length vs ≡ length pats
     → Carries (numbers_from (pattern_numbers (length env) pats) (length env + length pats)) (bound_values pats vs) (env ++ vs)
 takes env vs pats count = record {
   same = λ i. by i (nat_lt i (length (pattern_numbers (length env) pats))) refl;
@@ -183,7 +183,7 @@ takes env vs pats count = record {
     follows k true below = (let less = ltb-true _ _ below in absurd (omega (arith, less, many)))
     follows k false past = omega (arith, many, all, count)
 
-abbrev equation_numbers : ℕ → List PatC → ℕ → ℕ
+abbrev pub equation_numbers : ℕ → List PatC → ℕ → ℕ
 equation_numbers scope pats = numbers_from (pattern_numbers scope pats) (scope + length pats)
 
 in_order_count : (meanings : List Meaning) (env : List Value) (vs : List Value) → in_order meanings env ≡ All vs → length vs ≡ length meanings
