@@ -15,6 +15,7 @@ pub mod NamedRuns
 pub mod NamedTypes
 pub mod PatternCounts
 pub mod Renumbered
+pub mod RenumberedFolds
 pub mod RenumberedTypes
 pub mod Runs
 pub mod SameNets
@@ -25,10 +26,13 @@ pub mod TypeForms
 pub mod Typed
 pub mod TypedNets
 pub mod UnfoldedCalls
+pub mod UnfoldedCores
 pub mod UnfoldedMeaning
 pub mod UnfoldedResultMeaning
+pub mod UnfoldedResultTypes
 pub mod UnfoldedResults
 pub mod UnfoldedRuns
 pub mod UnfoldedTypes
+pub mod UnfoldedWritten
 pub mod Unfolds
 pub mod WrittenTypes

@@ -49,12 +49,12 @@ use Rattle.calculus_laws.proofs.NamedTypes.{calls_go_down, functions_typed, only
 use Rattle.calculus_laws.proofs.Typed.{box_frame, box_typed}
 use Rattle.calculus_laws.proofs.WrittenTypes.{rule_written}
 
-list_all_at : {X : Type 0} (test : X → Bool) (xs : List X) (n : ℕ) (x : X) → list_all test xs ≡ true → slice_get xs n ≡ Some x → test x ≡ true
+pub list_all_at : {X : Type 0} (test : X → Bool) (xs : List X) (n : ℕ) (x : X) → list_all test xs ≡ true → slice_get xs n ≡ Some x → test x ≡ true
 list_all_at test [] n x all at = cc
 list_all_at test (y ∷ xs) zero x all at = (let same : y ≡ x = cc in ap test (sym same) ∙ (and_parts _ _ all).0)
 list_all_at test (y ∷ xs) (suc n) x all at = list_all_at test xs n x (and_parts _ _ all).1 at
 
-list_all_set : {X : Type 0} (test : X → Bool) (xs : List X) (n : ℕ) (x : X) → list_all test xs ≡ true → test x ≡ true → list_all test (slice_set xs n x) ≡ true
+pub list_all_set : {X : Type 0} (test : X → Bool) (xs : List X) (n : ℕ) (x : X) → list_all test xs ≡ true → test x ≡ true → list_all test (slice_set xs n x) ≡ true
 list_all_set test [] n x all is = all
 list_all_set test (y ∷ xs) zero x all is = both _ _ is (and_parts _ _ all).1
 list_all_set test (y ∷ xs) (suc n) x all is = both _ _ (and_parts _ _ all).0 (list_all_set test xs n x (and_parts _ _ all).1 is)

@@ -1,5 +1,5 @@
 -- An expression with other numbers for its variables has its type where these have the same types.
-use Rattle.std.proofs.Common.{◌≡◌, ℕ, List, [], ◌∷◌, ◌++◌, map, Option, Some, None, slice_get, refl, ap, sym, ◌∙◌, subst}
+use Rattle.std.proofs.Common.{◌≡◌, ℕ, List, [], ◌∷◌, ◌++◌, map, Some, None, ap, sym, ◌∙◌, subst}
 use Rattle.hume_base.specs.declared.types.Ty.{Ty}
 use Rattle.hume_model.specs.declared.core_tree.Op.TheVariants.{Neg, Not, Convert}
 use Rattle.hume_base.specs.declared.types.Ty.TheVariants as shape

@@ -1,10 +1,9 @@
 -- What the parts of a typed expression have, by its form, and that others with the same types may stand in their places.
-use Rattle.std.proofs.Common.{◌≡◌, ℕ, List, [], ◌∷◌, ◌++◌, Option, Some, None, slice_get, refl, ap, sym, ◌∙◌, subst}
+use Rattle.std.proofs.Common.{◌≡◌, ℕ, List, [], ◌∷◌, ◌++◌, Some, None, slice_get, refl, ap, sym, ◌∙◌, subst}
 use Rattle.std.specs.Bool.{⊤}
 use Rattle.hume_base.specs.declared.types.Ty.{Ty}
 use Rattle.hume_base.specs.declared.types.Ty.TheVariants as shape
 use Rattle.hume_model.specs.declared.core_tree.Op.TheVariants.{Neg, Not, Convert}
-use Rattle.hume_model.specs.declared.core_tree.PatC.{PatC}
 use Rattle.hume_model.specs.declared.core_tree.Expr.{Expr, out-Expr, out-roll-Expr, roll-Expr}
 use Rattle.hume_model.specs.declared.core_tree.Expr.TheOpen.{Expr-F}
 use Rattle.hume_model.specs.declared.core_tree.Expr.TheVariants as expr
@@ -99,14 +98,18 @@ module _ (core : Core) where
   typed_as {vars} {e} {ty} (HasType.update count places item {vector = v} {place = k} {new_item = d} is vec place new_item) =
       as_out vars ty _ _ (expr.rolls-Update count v k d)
       (record {
-        first = _; second = _; third = _;
+        first = _;
+        second = _;
+        third = _;
         have = HaveTypes.one vec (HaveTypes.one place (HaveTypes.one new_item HaveTypes.none));
         again = λ a b c p q r. HasType.update count places item is p q r;
       })
   typed_as {vars} {e} {ty} (HasType.choice {test = t} {when_true = a} {when_false = b} test when_true when_false) =
       as_out vars ty _ _ (expr.rolls-If t a b)
       (record {
-        first = _; second = _; third = _;
+        first = _;
+        second = _;
+        third = _;
         have = HaveTypes.one test (HaveTypes.one when_true (HaveTypes.one when_false HaveTypes.none));
         again = λ a b c p q r. HasType.choice p q r;
       })

@@ -1,7 +1,7 @@
 -- An expression with an unfolded call has the type that it had.
-use Rattle.std.proofs.Common.{◌≡◌, ℕ, zero, suc, ◌+◌, ◌==◌, Bool, true, false, List, [], ◌∷◌, ◌++◌, map, length, sum, Option, Some, None, slice_get, refl, ap, sym, ◌∙◌, subst, arith, append_assoc, if◌then◌else◌}
+use Rattle.std.proofs.Common.{◌≡◌, ℕ, suc, ◌+◌, Bool, true, false, List, [], ◌∷◌, ◌++◌, map, length, sum, Option, Some, None, slice_get, refl, ap, sym, ◌∙◌, subst, arith, append_assoc, if◌then◌else◌}
 use Rattle.std.specs.Option.{option_and_then}
-use Rattle.std.proofs.lemmas.Bool.{and_parts, eqb-true}
+use Rattle.std.proofs.lemmas.Bool.{and_parts}
 use Rattle.std.proofs.lemmas.List.{append-nil, length-append}
 use Rattle.hume_base.specs.declared.types.Ty.{Ty}
 use Rattle.hume_base.specs.declared.types.Types.{Types}
@@ -25,7 +25,7 @@ use Rattle.calculus_laws.proofs.Unfolds.{ArmChanged, Becomes, IsKept, OneChanged
 -- a pattern has as many variables as types for them
 
 mutual
-  pattern_count : {types : Types} {t : Ty} {p : PatC} {vars : List Ty} → IsPattern types t p vars → length vars ≡ variables_in p
+  pub pattern_count : {types : Types} {t : Ty} {p : PatC} {vars : List Ty} → IsPattern types t p vars → length vars ≡ variables_in p
   pattern_count IsPattern.variable = sym (ap variables_in (sym pat.rolls-Var) ∙ fold-roll-PatC ℕ variables_step PatC-F.Var)
   pattern_count IsPattern.anything = sym (ap variables_in (sym pat.rolls-Any) ∙ fold-roll-PatC ℕ variables_step PatC-F.Any)
   pattern_count (IsPattern.word w ok) = sym (ap variables_in (sym (pat.rolls-Word w)) ∙ fold-roll-PatC ℕ variables_step (PatC-F.Word w))
