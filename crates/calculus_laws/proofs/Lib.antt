@@ -14,6 +14,7 @@ pub mod NamedRaising
 pub mod NamedRuns
 pub mod NamedTypes
 pub mod PatternCounts
+pub mod RaisingAt
 pub mod Renumbered
 pub mod RenumberedFolds
 pub mod RenumberedTypes
@@ -28,6 +29,7 @@ pub mod TypedNets
 pub mod UnfoldedCalls
 pub mod UnfoldedCores
 pub mod UnfoldedMeaning
+pub mod UnfoldedRaising
 pub mod UnfoldedResultMeaning
 pub mod UnfoldedResultTypes
 pub mod UnfoldedResults

@@ -1,4 +1,4 @@
--- The core with an unfolded rule is well formed, and its wires break no rule.
+-- The core with an unfolded rule is well formed, and its wires and handlers break no rule.
 use Rattle.std.proofs.Common.{◌≡◌, ◌⊎◌, inl, inr, ℕ, true, List, length, Some, slice_get, slice_set, refl, ap, sym, ◌∙◌, subst, arith}
 use Rattle.std.specs.List.{list_all}
 use Rattle.std.proofs.lemmas.Bool.{and_parts}
@@ -13,6 +13,8 @@ use Rattle.hume_model.specs.declared.core_tree.NodeC.{NodeC}
 use Rattle.hume_model.specs.declared.core_tree.NodeC.TheVariants.{Rules}
 use Rattle.hume_model.specs.declared.core_tree.Core.{Core}
 use Rattle.hume_model.specs.BoxTyping.{BoxHasFrame, BoxIsTyped, PositionsAreTyped, PositionsHave, RuleIsTyped, port_types}
+use Rattle.hume_model.specs.HandlerRules.{BreaksHandlers, LeavesUnhandled, OfBox, RaisesAgain}
+use Rattle.hume_model.specs.Raising.{result_may_raise}
 use Rattle.hume_model.specs.Limits.{IsSmallBox, IsSmallFunction, IsSmallNode}
 use Rattle.hume_model.specs.PartLimits.{is_written_equation, is_written_rule}
 use Rattle.hume_model.specs.ResultTyping.{GivesOutputs}
@@ -25,8 +27,10 @@ use Rattle.calculus_laws.proofs.Bindings.{rule_types}
 use Rattle.calculus_laws.proofs.CallsKnown.{both}
 use Rattle.calculus_laws.proofs.ChangedBox.{BothAt, box_there, in_set, length-set_node, node_small, related_at}
 use Rattle.calculus_laws.proofs.Frames.{SamePorts, formed_kept, same_ports, wires_kept}
+use Rattle.calculus_laws.proofs.KeptRaising.{again_kept, unhandled_kept}
 use Rattle.calculus_laws.proofs.NamedCores.{list_all_at, list_all_set}
 use Rattle.calculus_laws.proofs.Typed.{box_frame, box_typed, equations_typed}
+use Rattle.calculus_laws.proofs.UnfoldedRaising.{unfolded_raises}
 use Rattle.calculus_laws.proofs.UnfoldedResultTypes.{GivesTypes, unfolded_typed}
 use Rattle.calculus_laws.proofs.UnfoldedRuns.{IsUnfolded, becomes_some}
 use Rattle.calculus_laws.proofs.UnfoldedWritten.{ResultStays, unfolded_written}
@@ -159,3 +163,64 @@ module _ (core : Core) (formed : IsWellFormed core) (n number : ℕ) (b : BoxC) 
 
   pub unfolded_wires : (finding : Finding) → BreaksWires new finding → BreaksWires core finding
   unfolded_wires = wires_kept core core.funs nodes (length-set_node core.nodes n (Rules other)) ports
+
+  -- rules on handlers
+
+  raised_before : (exn : ℕ) → result_may_raise core exn new_rule.result ≡ true → result_may_raise core exn is.rule.result ≡ true
+  raised_before exn raises =
+      becomes_some (λ r. result_may_raise core exn r ≡ true → result_may_raise core exn is.rule.result ≡ true) (result_unfolded core (length vars) is.rule.result) is.result is.unfolded
+      (unfolded_raises core formed.calls exn is.rule.result (length vars)) (ap (λ (r : RuleC). result_may_raise core exn r.result) (sym is.is) ∙ raises)
+
+  unhandled_by : (leaves : LeavesUnhandled core other) → (leaves.rule ≡ new_rule) ⊎ (slice_get b.rules leaves.number ≡ Some leaves.rule) → LeavesUnhandled core b
+  unhandled_by leaves (inl same) = record {
+    number = number;
+    rule = is.rule;
+    there = is.there;
+    exn = leaves.exn;
+    known = leaves.known;
+    raises = raised_before leaves.exn (ap (λ (r : RuleC). result_may_raise core leaves.exn r.result) (sym same) ∙ leaves.raises);
+    unhandled = leaves.unhandled;
+  }
+  unhandled_by leaves (inr was) = record {
+    number = leaves.number;
+    rule = leaves.rule;
+    there = was;
+    exn = leaves.exn;
+    known = leaves.known;
+    raises = leaves.raises;
+    unhandled = leaves.unhandled;
+  }
+
+  unhandled_before : LeavesUnhandled core other → LeavesUnhandled core b
+  unhandled_before leaves = unhandled_by leaves (in_set b.rules number new_rule leaves.number leaves.rule leaves.there)
+
+  again_before : RaisesAgain core other → RaisesAgain core b
+  again_before again = record {
+    number = again.number;
+    handler = again.handler;
+    there = again.there;
+    exn = again.exn;
+    known = again.known;
+    raises = again.raises;
+  }
+
+  module _ (P : Core → BoxC → Type 0) (before : P core other → P core b) (kept : (c : BoxC) → P new c → P core c) (declaration : ℕ) where
+    box_was : (m : ℕ) (c : BoxC) → (Rules c ≡ Rules other) ⊎ (slice_get core.nodes m ≡ Some (Rules c)) → c.declaration ≡ declaration → P core c
+        → OfBox core P declaration
+    box_was m c (inl found) declared holds =
+        let same : c ≡ other = cc in
+        record {
+          n = n;
+          b = b;
+          there = at;
+          declared = ap (λ (d : BoxC). d.declaration) (sym same) ∙ declared;
+          holds = before (subst (P core) same holds);
+        }
+    box_was m c (inr was) declared holds = record { n = m; b = c; there = was; declared = declared; holds = holds }
+
+    of_box : OfBox new P declaration → OfBox core P declaration
+    of_box of = box_was of.n of.b (in_set core.nodes n (Rules other) of.n (Rules of.b) of.there) of.declared (kept of.b of.holds)
+
+  pub unfolded_handlers : (finding : Finding) → BreaksHandlers new finding → BreaksHandlers core finding
+  unfolded_handlers finding (inl (broken, of)) = inl (broken, of_box LeavesUnhandled unhandled_before (unhandled_kept core nodes) finding.declaration of)
+  unfolded_handlers finding (inr (broken, of)) = inr (broken, of_box RaisesAgain again_before (again_kept core nodes) finding.declaration of)

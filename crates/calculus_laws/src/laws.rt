@@ -43,8 +43,8 @@ pub fn unfair_boxes_keep_the_written_order()
     ensures supersteps { (core : Core) (state : State) → HasWrittenOrders core state → (k : ℕ) → HasWrittenOrders core (lockstep core state k) }
 {}
 
-/// A rule in which a call is unfolded changes no run. The new core is well formed, and its wires break no rule that those of
-/// the old one keep.
+/// A rule in which a call is unfolded changes no run. The new core is well formed, and its wires and handlers break no
+/// rule that those of the old one keep.
 pub fn unfolded_rules_keep_runs()
     ensures runs { (core : Core) → IsWellFormed core → (n rule : ℕ) (b : BoxC) (new : RuleC) → box_at core n ≡ Some b
         → unfolded_at core b rule ≡ Some new
@@ -54,4 +54,7 @@ pub fn unfolded_rules_keep_runs()
     ensures wires { (core : Core) → IsWellFormed core → (n rule : ℕ) (b : BoxC) (new : RuleC) → box_at core n ≡ Some b
         → unfolded_at core b rule ≡ Some new
         → (finding : Finding) → BreaksWires (with_box core n (with_rule rule new b)) finding → BreaksWires core finding }
+    ensures handlers { (core : Core) → IsWellFormed core → (n rule : ℕ) (b : BoxC) (new : RuleC) → box_at core n ≡ Some b
+        → unfolded_at core b rule ≡ Some new
+        → (finding : Finding) → BreaksHandlers (with_box core n (with_rule rule new b)) finding → BreaksHandlers core finding }
 {}

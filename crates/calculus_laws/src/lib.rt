@@ -8,8 +8,8 @@
 //! (`rewrites_keep_cores_well_formed`) and breaks no rule on wires and exceptions that the old one keeps
 //! (`rewrites_break_no_rules`). A net starts with its boxes in the written order, and unfair ones keep it
 //! (`unfair_boxes_keep_the_written_order`). There are two kinds of steps, the swap of two rules and the naming of an output. A
-//! third one, the unfolding of a call (`Unfolding.antt`), is no step yet: proved of it is that it changes no run
-//! (`unfolded_rules_keep_runs`).
+//! third one, the unfolding of a call (`Unfolding.antt`), is no step yet: the same laws are proved of it
+//! (`unfolded_rules_keep_runs`), but no call makes it.
 //!
 //! It knows cores and what their nets do. It doesn't know how a step is made, nor lines of scripts.
 #![tactic(auto)]

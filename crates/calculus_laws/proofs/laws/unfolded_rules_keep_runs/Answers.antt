@@ -1,5 +1,5 @@
 use Rattle.calculus_laws.proofs.SameNets.{lockstep_same}
-use Rattle.calculus_laws.proofs.UnfoldedCores.{unfolded_formed, unfolded_wires}
+use Rattle.calculus_laws.proofs.UnfoldedCores.{unfolded_formed, unfolded_handlers, unfolded_wires}
 use Rattle.calculus_laws.proofs.UnfoldedRuns.{is_unfolded, unfolded_same}
 use Rattle.calculus_laws.proofs.laws.unfolded_rules_keep_runs.Goals as goal
 
@@ -12,3 +12,7 @@ returns-clause-formed c = λ core formed n rule b new there unfolded. unfolded_f
 
 pub returns-clause-wires : goal.returns-clause-wires
 returns-clause-wires c = λ core formed n rule b new there unfolded. unfolded_wires core formed n rule b there new (is_unfolded core b rule new unfolded)
+
+pub returns-clause-handlers : goal.returns-clause-handlers
+returns-clause-handlers c = λ core formed n rule b new there unfolded.
+    unfolded_handlers core formed n rule b there new (is_unfolded core b rule new unfolded)
