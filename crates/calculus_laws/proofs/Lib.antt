@@ -6,6 +6,7 @@ pub mod Clashes
 pub mod Exchanged
 pub mod FirstRules
 pub mod Frames
+pub mod FunctionNames
 pub mod Kept
 pub mod KeptRaising
 pub mod NamedCalls

@@ -1,5 +1,8 @@
 //! Laws of the definitions, as contracts of functions that do nothing.
-ghost use Rattle.std.specs.Prelude.{◌≡◌, ℕ, List, None, Some};
+ghost use Rattle.std.specs.Prelude.{◌≡◌, ◌≤◌, ℕ, true, List, None, Some, length};
+ghost use Rattle.hume_base.specs.declared.limits.TheConstants.{MAX_NAME_BYTES};
+ghost use Rattle.hume_base.specs.declared.token.Kind.TheVariants.{Lower};
+ghost use Rattle.hume_lex.specs.Spelling.{Spells};
 ghost use Rattle.hume_base.specs.declared.finding.Finding.{Finding};
 ghost use Rattle.hume_base.specs.declared.types.Value.{Value};
 ghost use Rattle.hume_model.specs.declared.core_tree.BoxC.{BoxC};
@@ -13,6 +16,7 @@ ghost use Rattle.hume_net.specs.Lockstep.{lockstep};
 ghost use Rattle.hume_net.specs.Start.{start};
 ghost use Rattle.calculus_laws.specs.declared.step.Step.{Step};
 ghost use Rattle.calculus_laws.specs.Boxes.{box_at, with_box};
+ghost use Rattle.calculus_laws.specs.Names.{is_function_name};
 ghost use Rattle.calculus_laws.specs.Orders.{HasWrittenOrders};
 ghost use Rattle.calculus_laws.specs.Steps.{IsOnRule, refusal, rewritten};
 ghost use Rattle.calculus_laws.specs.Unfolding.{unfolded_at, with_rule};
@@ -57,4 +61,10 @@ pub fn unfolded_rules_keep_runs()
     ensures handlers { (core : Core) → IsWellFormed core → (n rule : ℕ) (b : BoxC) (new : RuleC) → box_at core n ≡ Some b
         → unfolded_at core b rule ≡ Some new
         → (finding : Finding) → BreaksHandlers (with_box core n (with_rule rule new b)) finding → BreaksHandlers core finding }
+{}
+
+/// A name that a step may give to a function is a lowercase name of a source, of at most 32 bytes, and each such name is one.
+pub fn function_names_are_those_of_sources()
+    ensures spelled { (name : List ℕ) → is_function_name name ≡ true → Spells (Lower name) name × (length name ≤ MAX_NAME_BYTES) }
+    ensures each { (name : List ℕ) → Spells (Lower name) name → length name ≤ MAX_NAME_BYTES → is_function_name name ≡ true }
 {}

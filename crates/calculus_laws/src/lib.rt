@@ -9,7 +9,8 @@
 //! (`rewrites_break_no_rules`). A net starts with its boxes in the written order, and unfair ones keep it
 //! (`unfair_boxes_keep_the_written_order`). There are two kinds of steps, the swap of two rules and the naming of an output. A
 //! third one, the unfolding of a call (`Unfolding.antt`), is no step yet: the same laws are proved of it
-//! (`unfolded_rules_keep_runs`), but no call makes it.
+//! (`unfolded_rules_keep_runs`), but no call makes it. The names that a step may give are those that the lexer reads
+//! (`function_names_are_those_of_sources`).
 //!
 //! It knows cores and what their nets do. It doesn't know how a step is made, nor lines of scripts.
 #![tactic(auto)]
@@ -18,7 +19,7 @@ mod laws;
 mod step;
 
 pub use laws::{
-    rewrites_break_no_rules, rewrites_keep_cores_well_formed, rewrites_keep_runs,
-    unfair_boxes_keep_the_written_order, unfolded_rules_keep_runs,
+    function_names_are_those_of_sources, rewrites_break_no_rules, rewrites_keep_cores_well_formed,
+    rewrites_keep_runs, unfair_boxes_keep_the_written_order, unfolded_rules_keep_runs,
 };
 pub use step::{CalcError, Step};
