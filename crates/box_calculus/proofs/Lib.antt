@@ -1,13 +1,5 @@
-pub mod ChangedBox
-pub mod Clashes
-pub mod Exchanged
-pub mod FirstRules
-pub mod Frames
-pub mod Kept
-pub mod KeptRaising
-pub mod Runs
-pub mod SameNets
+pub mod Counted
+pub mod Cuts
+pub mod Digits
 pub mod Short
-pub mod SwappedCores
-pub mod Swaps
-pub mod Typed
+pub mod ShortTypes

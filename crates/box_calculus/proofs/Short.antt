@@ -6,7 +6,7 @@ use Rattle.hume_model.specs.declared.core_tree.PatC.{PatC}
 use Rattle.hume_model.specs.declared.core_tree.PatC.TheVariants as pat
 use Rattle.hume_model.specs.declared.core_tree.InPat.{InPat}
 use Rattle.hume_model.specs.declared.core_tree.InPat.TheVariants.{Star}
-use Rattle.box_calculus.specs.Apart.{apart, some_apart, some_apart_at}
+use Rattle.calculus_laws.specs.Apart.{apart, some_apart, some_apart_at}
 
 pub some_apart-short : (parts others : List PatC) (i : ℕ) → i < length parts → length others ≤ i
     → some_apart (map apart (drop i parts)) (drop i others) ≡ false

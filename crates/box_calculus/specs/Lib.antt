@@ -1,5 +1,1 @@
-pub mod Apart
-pub mod Boxes
-pub mod Orders
-pub mod Steps
-pub mod Swapping
+pub mod Lines

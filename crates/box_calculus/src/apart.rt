@@ -1,6 +1,6 @@
 //! Rules that no values fit both, as their patterns show.
 ghost use Rattle.std.specs.Prelude.{◌≡◌};
-ghost use Rattle.box_calculus.specs.Apart.{apart, some_apart, apart_at, some_apart_at, word_apart, con_apart, tuple_apart};
+ghost use Rattle.calculus_laws.specs.Apart.{apart, some_apart, apart_at, some_apart_at, word_apart, con_apart, tuple_apart};
 ghost use Rattle.hume_model.specs.declared.core_tree.PatC.{out-PatC};
 ghost use Rattle.std.specs.Prelude.{map};
 

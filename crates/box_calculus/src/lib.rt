@@ -1,26 +1,25 @@
 //! Rewrites of a core that keep every run: the box calculus.
 //!
-//! Main call: `rewrite` makes one step. `Steps.antt` says what a step makes of a core and why it is refused, `Swapping.antt` what
-//! a swap of two rules is, and `Apart.antt` when no inputs fit two rules. `Orders.antt` says of which states the runs are kept.
+//! Main calls: `read_step` reads a step from the line of a script, and `rewrite` makes it. `Lines.antt` says which lines ask for
+//! which steps. What a step makes of a core, why it is refused and why runs are kept is said in
+//! `calculus_laws`.
 //!
 //! Proved: `rewrite` gives exactly the core that is defined, and refuses a step exactly for its cause (`refusal`), if memory
-//! doesn't run out. Laws: a step that isn't refused changes no run, state by state (`rewrites_keep_runs`); the new core is well
-//! formed (`rewrites_keep_cores_well_formed`) and breaks no rule on wires and exceptions that the old one keeps
-//! (`rewrites_break_no_rules`). A net starts with its boxes in the written order, and unfair ones keep it
-//! (`unfair_boxes_keep_the_written_order`). There is one kind of step, the swap of two rules, and no command makes it yet.
+//! doesn't run out. `read_step` gives exactly the step that the line asks for, and answers `Bad` exactly where it asks for
+//! none. No command makes a step yet.
 //!
-//! It knows cores and what their nets do. It doesn't know sources, scripts of steps, or who asks for a step.
+//! It knows cores, steps and their lines. It doesn't know sources, where a line comes from, or who asks for a step.
 #![tactic(auto)]
 
 mod apart;
-mod laws;
+mod lines;
+mod names;
+mod naming;
+mod numbers;
+mod output;
 mod rewriting;
-mod step;
 mod swap;
+mod variables;
 
-pub use laws::{
-    rewrites_break_no_rules, rewrites_keep_cores_well_formed, rewrites_keep_runs,
-    unfair_boxes_keep_the_written_order,
-};
+pub use lines::{RulePlace, StepError, read_step};
 pub use rewriting::rewrite;
-pub use step::{CalcError, Step};

@@ -1,13 +1,15 @@
 //! The call that makes a step.
 ghost use Rattle.std.specs.Prelude.{◌≡◌, ◌⊎◌, ◌<◌, IfOk, IfErr, OnOk, None, Some, length};
-ghost use Rattle.box_calculus.specs.declared.step.CalcError.TheVariants.{NoMemory};
-ghost use Rattle.box_calculus.specs.Boxes.{box_at, with_box};
-ghost use Rattle.box_calculus.specs.Swapping.{swap_refusal, swapped_box};
-ghost use Rattle.box_calculus.specs.Steps.{IsOnRule, refusal, rewritten};
+ghost use Rattle.calculus_laws.specs.declared.step.CalcError.TheVariants.{NoMemory};
+ghost use Rattle.calculus_laws.specs.Boxes.{box_at, with_box};
+ghost use Rattle.calculus_laws.specs.Naming.{calling_box, named_function, named_output, output_at, output_refusal};
+ghost use Rattle.calculus_laws.specs.Swapping.{swap_refusal, swapped_box};
+ghost use Rattle.calculus_laws.specs.Steps.{IsOnRule, refusal, rewritten};
 
-use crate::step::{CalcError, Step};
+use crate::naming::name_output;
 use crate::swap::swap_rules;
-use hume_base::List;
+use calculus_laws::{CalcError, Step};
+use hume_base::{List, Text};
 use hume_model::{Core, NodeC};
 use std::alloc::Global;
 
@@ -20,6 +22,7 @@ pub fn rewrite(alloc: Global, core: Core, step: &Step) -> Result<Core, CalcError
 {
     match step {
         Step::Swap { node, rule } => swap_in(alloc, core, *node, *rule),
+        Step::Name { node, rule, name } => name_in(alloc, core, *node, *rule, name),
     }
 }
 
@@ -41,6 +44,35 @@ fn swap_in(alloc: Global, core: Core, node: u32, rule: u32) -> Result<Core, Calc
         NodeC::Rules(b) => swap_rules(alloc, b, rule)?,
         _ => unreachable!(),
     }
+    Ok(Core {
+        types,
+        exns,
+        funs,
+        nodes: List::from_vec(nodes),
+        wires,
+    })
+}
+
+fn name_in(alloc: Global, core: Core, node: u32, rule: u32, name: &Text) -> Result<Core, CalcError>
+    requires { IsOnRule core (Step.Name node rule name.now) }
+    ensures new { IfOk result (λ new. new ≡ rewritten core (Step.Name node rule name.now)) }
+    ensures allowed { OnOk result (refusal core (Step.Name node rule name.now) ≡ None) }
+    ensures refused { IfErr result (λ error.
+        (error ≡ NoMemory) ⊎ (refusal core (Step.Name node rule name.now) ≡ Some error)) }
+{
+    let Core {
+        types,
+        exns,
+        mut funs,
+        nodes,
+        wires,
+    } = core;
+    let mut nodes = nodes.into_vec();
+    let function = match &mut nodes[node as usize] {
+        NodeC::Rules(b) => name_output(alloc, &types, funs.as_slice(), b, rule, name)?,
+        _ => unreachable!(),
+    };
+    funs.push(function)?;
     Ok(Core {
         types,
         exns,

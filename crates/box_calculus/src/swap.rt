@@ -1,16 +1,16 @@
 //! Swaps of two rules of a box.
 ghost use Rattle.std.specs.Prelude.{◌≡◌, ◌<◌, ◌+◌, IfErr, OnOk, None, Some, length};
-ghost use Rattle.box_calculus.specs.Swapping.{swap_refusal, swapped_box};
+ghost use Rattle.calculus_laws.specs.Swapping.{swap_refusal, swapped_box};
 
 use crate::apart::are_apart;
-use crate::step::CalcError;
+use calculus_laws::CalcError;
 use hume_base::List;
 use hume_model::BoxC;
 use std::alloc::Global;
 use std::mem;
 
 /// Exchanges the rule and the next one.
-#[tactic(auto, using(crate::proofs::Exchanged::swap_next))]
+#[tactic(auto, using(calculus_laws::proofs::Exchanged::swap_next))]
 pub(crate) fn swap_rules(alloc: Global, b: &mut BoxC, rule: u32) -> Result<(), CalcError>
     requires { rule < length b.old.rules }
     ensures allowed { OnOk result (swap_refusal b.old rule ≡ None) }

@@ -1,5 +1,5 @@
 use Rattle.std.proofs.Common.{◌≡◌, drop, map}
-use Rattle.box_calculus.specs.Apart.{apart, some_apart}
+use Rattle.calculus_laws.specs.Apart.{apart, some_apart}
 use Rattle.box_calculus.proofs.apart.+apart_patterns.Given as goal
 
 abbrev pub invariant-some_parts_apart-loop-i : goal.invariant-some_parts_apart-loop-i

@@ -1,5 +1,5 @@
 use Rattle.std.proofs.Common.{◌≡◌, drop}
-use Rattle.box_calculus.specs.Apart.{some_apart_at}
+use Rattle.calculus_laws.specs.Apart.{some_apart_at}
 use Rattle.box_calculus.proofs.apart.are_apart.Given as goal
 
 abbrev pub invariant-loop-i : goal.invariant-loop-i

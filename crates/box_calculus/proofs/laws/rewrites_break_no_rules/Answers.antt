@@ -1,8 +1,0 @@
-use Rattle.box_calculus.proofs.Runs.{handlers_kept, wires_kept}
-use Rattle.box_calculus.proofs.laws.rewrites_break_no_rules.Goals as goal
-
-pub returns-clause-wires : goal.returns-clause-wires
-returns-clause-wires c = wires_kept
-
-pub returns-clause-handlers : goal.returns-clause-handlers
-returns-clause-handlers c = handlers_kept

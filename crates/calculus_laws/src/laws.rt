@@ -1,0 +1,70 @@
+//! Laws of the definitions, as contracts of functions that do nothing.
+ghost use Rattle.std.specs.Prelude.{◌≡◌, ◌≤◌, ℕ, true, List, None, Some, length};
+ghost use Rattle.hume_base.specs.declared.limits.TheConstants.{MAX_NAME_BYTES};
+ghost use Rattle.hume_base.specs.declared.token.Kind.TheVariants.{Lower};
+ghost use Rattle.hume_lex.specs.Spelling.{Spells};
+ghost use Rattle.hume_base.specs.declared.finding.Finding.{Finding};
+ghost use Rattle.hume_base.specs.declared.types.Value.{Value};
+ghost use Rattle.hume_model.specs.declared.core_tree.BoxC.{BoxC};
+ghost use Rattle.hume_model.specs.declared.core_tree.Core.{Core};
+ghost use Rattle.hume_model.specs.declared.core_tree.RuleC.{RuleC};
+ghost use Rattle.hume_model.specs.HandlerRules.{BreaksHandlers};
+ghost use Rattle.hume_model.specs.WellFormed.{IsWellFormed};
+ghost use Rattle.hume_model.specs.WireRules.{BreaksWires};
+ghost use Rattle.hume_net.specs.declared.state.State.{State};
+ghost use Rattle.hume_net.specs.Lockstep.{lockstep};
+ghost use Rattle.hume_net.specs.Start.{start};
+ghost use Rattle.calculus_laws.specs.declared.step.Step.{Step};
+ghost use Rattle.calculus_laws.specs.Boxes.{box_at, with_box};
+ghost use Rattle.calculus_laws.specs.Names.{is_function_name};
+ghost use Rattle.calculus_laws.specs.Orders.{HasWrittenOrders};
+ghost use Rattle.calculus_laws.specs.Steps.{IsOnRule, refusal, rewritten};
+ghost use Rattle.calculus_laws.specs.Unfolding.{unfolded_at, with_rule};
+
+/// A step that isn't refused changes no run: after any number of supersteps the whole state is the same, from each state
+/// whose unfair boxes have the written order.
+pub fn rewrites_keep_runs()
+    ensures { (core : Core) (step : Step) → IsWellFormed core → IsOnRule core step → refusal core step ≡ None
+        → (state : State) → HasWrittenOrders core state → (k : ℕ) → lockstep (rewritten core step) state k ≡ lockstep core state k }
+{}
+
+/// A step that isn't refused keeps a core well formed.
+pub fn rewrites_keep_cores_well_formed()
+    ensures { (core : Core) (step : Step) → IsWellFormed core → IsOnRule core step → refusal core step ≡ None → IsWellFormed (rewritten core step) }
+{}
+
+/// A step that isn't refused breaks no rule on wires and handlers: what the new core breaks, the old one broke at the same place.
+pub fn rewrites_break_no_rules()
+    ensures wires { (core : Core) (step : Step) → IsWellFormed core → IsOnRule core step → refusal core step ≡ None
+        → (finding : Finding) → BreaksWires (rewritten core step) finding → BreaksWires core finding }
+    ensures handlers { (core : Core) (step : Step) → IsWellFormed core → IsOnRule core step → refusal core step ≡ None
+        → (finding : Finding) → BreaksHandlers (rewritten core step) finding → BreaksHandlers core finding }
+{}
+
+/// A net starts with its boxes in the written order, and no superstep changes the order of a box that isn't fair.
+pub fn unfair_boxes_keep_the_written_order()
+    ensures starts { (core : Core) (coming : List (List Value)) → HasWrittenOrders core (start core coming) }
+    ensures supersteps { (core : Core) (state : State) → HasWrittenOrders core state → (k : ℕ) → HasWrittenOrders core (lockstep core state k) }
+{}
+
+/// A rule in which a call is unfolded changes no run. The new core is well formed, and its wires and handlers break no
+/// rule that those of the old one keep.
+pub fn unfolded_rules_keep_runs()
+    ensures runs { (core : Core) → IsWellFormed core → (n rule : ℕ) (b : BoxC) (new : RuleC) → box_at core n ≡ Some b
+        → unfolded_at core b rule ≡ Some new
+        → (state : State) → HasWrittenOrders core state → (k : ℕ) → lockstep (with_box core n (with_rule rule new b)) state k ≡ lockstep core state k }
+    ensures formed { (core : Core) → IsWellFormed core → (n rule : ℕ) (b : BoxC) (new : RuleC) → box_at core n ≡ Some b
+        → unfolded_at core b rule ≡ Some new → IsWellFormed (with_box core n (with_rule rule new b)) }
+    ensures wires { (core : Core) → IsWellFormed core → (n rule : ℕ) (b : BoxC) (new : RuleC) → box_at core n ≡ Some b
+        → unfolded_at core b rule ≡ Some new
+        → (finding : Finding) → BreaksWires (with_box core n (with_rule rule new b)) finding → BreaksWires core finding }
+    ensures handlers { (core : Core) → IsWellFormed core → (n rule : ℕ) (b : BoxC) (new : RuleC) → box_at core n ≡ Some b
+        → unfolded_at core b rule ≡ Some new
+        → (finding : Finding) → BreaksHandlers (with_box core n (with_rule rule new b)) finding → BreaksHandlers core finding }
+{}
+
+/// A name that a step may give to a function is a lowercase name of a source, of at most 32 bytes, and each such name is one.
+pub fn function_names_are_those_of_sources()
+    ensures spelled { (name : List ℕ) → is_function_name name ≡ true → Spells (Lower name) name × (length name ≤ MAX_NAME_BYTES) }
+    ensures each { (name : List ℕ) → Spells (Lower name) name → length name ≤ MAX_NAME_BYTES → is_function_name name ≡ true }
+{}

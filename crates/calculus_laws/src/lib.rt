@@ -1,0 +1,25 @@
+//! Steps that rewrite a core, and the laws that they keep every run: the box calculus by its definitions.
+//!
+//! `Steps.antt` says what a step makes of a core and why it is refused, `Swapping.antt` what a swap of two rules is, and `Apart.antt`
+//! when no inputs fit two rules. `Naming.antt` says what becomes of an output that is made a function, and `Names.antt` which
+//! names are free. `Orders.antt` says of which states the runs are kept.
+//!
+//! Proved: a step that isn't refused changes no run, state by state (`rewrites_keep_runs`); the new core is well formed
+//! (`rewrites_keep_cores_well_formed`) and breaks no rule on wires and exceptions that the old one keeps
+//! (`rewrites_break_no_rules`). A net starts with its boxes in the written order, and unfair ones keep it
+//! (`unfair_boxes_keep_the_written_order`). There are two kinds of steps, the swap of two rules and the naming of an output. A
+//! third one, the unfolding of a call (`Unfolding.antt`), is no step yet: the same laws are proved of it
+//! (`unfolded_rules_keep_runs`), but no call makes it. The names that a step may give are those that the lexer reads
+//! (`function_names_are_those_of_sources`).
+//!
+//! It knows cores and what their nets do. It doesn't know how a step is made, nor lines of scripts.
+#![tactic(auto)]
+
+mod laws;
+mod step;
+
+pub use laws::{
+    function_names_are_those_of_sources, rewrites_break_no_rules, rewrites_keep_cores_well_formed,
+    rewrites_keep_runs, unfair_boxes_keep_the_written_order, unfolded_rules_keep_runs,
+};
+pub use step::{CalcError, Step};
