@@ -1,0 +1,7 @@
+mod Walks
+mod Wires
+mod Joined
+mod Indexes
+mod MappedSoFar
+mod CellsSeen
+mod Rounding
