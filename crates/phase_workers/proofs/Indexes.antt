@@ -1,6 +1,7 @@
 -- Lists by their indexes.
-use Rattle.std.proofs.Common.{◌≡◌, ◌<◌, ◌≤◌, ℕ, zero, suc, List, [], ◌∷◌, map, length, Option, None, Some, slice_get, slice_set, slice_index_or, refl, ap, sym, ◌∙◌, arith}
-use Rattle.std.specs.Option.{option_map, unwrap_or}
+use Rattle.std.proofs.Common.{◌≡◌, ◌<◌, ◌≤◌, ◌++◌, ℕ, zero, suc, List, [], ◌∷◌, map, length, take, drop, append-nil, Option, None, Some, slice_get, slice_set, slice_index_or, refl, ap, sym, ◌∙◌, arith}
+use Rattle.std.specs.Option.{unwrap_or}
+use Rattle.std.proofs.lemmas.List.{take_all, drop_all}
 
 pub index_found : {X : Type 0} (xs : List X) (n : ℕ) (d : X) → slice_index_or xs n d ≡ unwrap_or (slice_get xs n) d
 index_found [] n d = refl
@@ -44,3 +45,9 @@ pub length_set : {X : Type 0} (xs : List X) (at : ℕ) (x : X) → length (slice
 length_set [] at x = refl
 length_set (y ∷ ys) zero x = refl
 length_set (y ∷ ys) (suc at) x = ap suc (length_set ys at x)
+
+-- a vector whose items were written over all at once
+pub all_items : {X : Type 0} (len : ℕ) (xs ys : List X) → len ≡ length ys → length xs ≡ length ys → take len (xs ++ drop (length xs) ys) ≡ xs
+all_items len xs ys own same =
+    ap (λ zs. take len (xs ++ zs)) (drop_all (length xs) ys (omega (arith, same))) ∙ ap (take len) (append-nil xs)
+    ∙ take_all len xs (omega (arith, own, same))

@@ -362,3 +362,12 @@ module _ (core bare : Core) (sides : Sides) (span : ℕ) (state : State) (nodes 
       logs = λ n stream at. ap (λ (l : LogView). l.span) (log_same n (slice_get_within core.nodes n (To stream) at)) ∙ whole.logs n stream at;
       fits = lockstep_state core state whole.fits steps;
     }
+
+    pub whole_after : (s : State) (ns : List BoxCell) (hs : List (Option CellView)) (k r : ℕ) → s ≡ next → ns ≡ cells → hs ≡ wires → k ≡ count → r ≡ room
+        → IsWhole core bare sides span s ns hs k r
+    whole_after s ns hs k r same_state same_nodes same_home same_count same_room =
+        subst (λ x. IsWhole core bare sides span x ns hs k r) (sym same_state)
+        (subst (λ x. IsWhole core bare sides span next x hs k r) (sym same_nodes)
+        (subst (λ x. IsWhole core bare sides span next cells x k r) (sym same_home)
+        (subst (λ x. IsWhole core bare sides span next cells wires x r) (sym same_count)
+        (subst (λ x. IsWhole core bare sides span next cells wires count x) (sym same_room) next_whole))))
