@@ -51,3 +51,7 @@ pub all_items : {X : Type 0} (len : ℕ) (xs ys : List X) → len ≡ length ys 
 all_items len xs ys own same =
     ap (λ zs. take len (xs ++ zs)) (drop_all (length xs) ys (omega (arith, same))) ∙ ap (take len) (append-nil xs)
     ∙ take_all len xs (omega (arith, own, same))
+
+-- what an index found is what stands there
+pub index_at : {X : Type 0} (xs : List X) (n : ℕ) (x found : X) → slice_get xs n ≡ Some x → found ≡ slice_index_or xs n found → found ≡ x
+index_at xs n x found at is = is ∙ index_found xs n found ∙ ap (λ o. unwrap_or o found) at

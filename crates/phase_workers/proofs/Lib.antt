@@ -5,3 +5,6 @@ mod Indexes
 mod MappedSoFar
 mod CellsSeen
 mod Rounding
+mod AtRest
+mod OneCell
+mod LogCells
