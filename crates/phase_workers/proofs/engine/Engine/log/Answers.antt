@@ -19,6 +19,6 @@ returns c =
     let its = log_there _ _ _ _ _ _ _ _ _ c.self.invariant c.args.node is in
     let cell = index_at inside.nodes.items c.args.node its.0 c.index.result.now its.1 c.index.ensures in
     let logs : c.in-Some.log.now ≡ its.2 =
-    (let both : Some c.in-Some.log.now ≡ Some its.2 = sym (c.in-Some.ensures tt) ∙ ap (λ (k : BoxCell). log_in k.kind) cell ∙ its.3 in cc) in
+    (let both : Some c.in-Some.log.now ≡ Some its.2 = sym c.in-Some.ensures ∙ ap (λ (k : BoxCell). log_in k.kind) cell ∙ its.3 in cc) in
     ap (λ (l : OutLog). (log_view l).values) logs ∙ its.4
     ∙ ap (λ (v : EngineView). map (flat (core_of v).types (type_at (core_of v) c.args.node)) (part_of (state_of v) c.args.node).taken) c.self.view_is
