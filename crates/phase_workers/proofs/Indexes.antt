@@ -1,5 +1,6 @@
 -- Lists by their indexes.
-use Rattle.std.proofs.Common.{◌≡◌, ◌<◌, ◌≤◌, ◌++◌, ℕ, zero, suc, List, [], ◌∷◌, map, length, take, drop, append-nil, Option, None, Some, slice_get, slice_set, slice_index_or, refl, ap, sym, ◌∙◌, arith}
+use Rattle.std.proofs.Common.{◌≡◌, ◌<◌, ◌≤◌, ◌++◌, ℕ, zero, suc, List, [], ◌∷◌, map, length, take, drop, append-nil, Option, None, Some, Result, Ok, Err, slice_get, slice_set, slice_index_or, refl, ap, sym, ◌∙◌, arith}
+use Rattle.std.specs.Prelude.{OnErr, OnOk}
 use Rattle.std.specs.Option.{unwrap_or}
 use Rattle.std.proofs.lemmas.List.{take_all, drop_all}
 
@@ -55,3 +56,13 @@ all_items len xs ys own same =
 -- what an index found is what stands there
 pub index_at : {X : Type 0} (xs : List X) (n : ℕ) (x found : X) → slice_get xs n ≡ Some x → found ≡ slice_index_or xs n found → found ≡ x
 index_at xs n x found at is = is ∙ index_found xs n found ∙ ap (λ o. unwrap_or o found) at
+
+-- what holds where a call went well, or where it failed
+
+pub on_ok : {T E P Q : Type 0} (result : Result T E) → (P → Q) → OnOk result P → OnOk result Q
+on_ok (Ok x) goes holds = goes holds
+on_ok (Err e) goes holds = holds
+
+pub on_err : {T E P Q : Type 0} (result : Result T E) → (P → Q) → OnErr result P → OnErr result Q
+on_err (Ok x) goes holds = holds
+on_err (Err e) goes holds = goes holds

@@ -1,12 +1,14 @@
 -- An engine of which an output stream has another log.
-use Rattle.std.proofs.Common.{◌≡◌, ◌≤◌, ◌<◌, ℕ, true, List, [], map, length, Option, None, Some, slice_get, slice_set, refl, ap, sym, ◌∙◌, subst, arith, inl, inr, ◌⊎◌}
-use Rattle.std.specs.List.{list_all}
+use Rattle.std.proofs.Common.{◌≡◌, ◌≤◌, ◌<◌, ℕ, true, List, [], ◌∷◌, map, length, Option, None, Some, slice_get, slice_set, refl, ap, sym, ◌∙◌, subst, arith, inl, inr, ◌⊎◌}
+use Rattle.std.specs.List.{AllZip, list_all}
 use Rattle.std.specs.Option.{unwrap_or}
-use Rattle.std.proofs.lemmas.Bool.{cases_eq}
+use Rattle.std.proofs.lemmas.Bool.{and_parts, cases_eq}
 use Rattle.std.proofs.lemmas.Option.{slice_get_within}
 use Rattle.hume_base.specs.Flat.{flat}
 use Rattle.hume_base.specs.Sizes.{size_of}
 use Rattle.hume_base.specs.Values.{is_value}
+use Rattle.hume_base.specs.declared.types.Ty.{Ty}
+use Rattle.hume_base.specs.declared.types.Types.{Types}
 use Rattle.hume_base.specs.declared.types.Value.{Value}
 use Rattle.hume_model.specs.declared.core_tree.NodeC.TheVariants.{From, To}
 use Rattle.hume_model.specs.declared.core_tree.WireC.{WireC}
@@ -18,6 +20,8 @@ use Rattle.hume_net.specs.Nodes.{IsInput, IsInputStream, IsOutputStream}
 use Rattle.hume_net.specs.Parts.{IsStateOf}
 use Rattle.hume_net.specs.Sides.{part_of}
 use Rattle.hume_net.specs.StateTyping.{IsTypedState}
+use Rattle.hume_net.proofs.FoundWires.{to_each, to_leads}
+use Rattle.hume_text.specs.Printed.{AreWordsOf}
 use Rattle.hume_streams.specs.declared.log.OutLog.{OutLog}
 use Rattle.hume_streams.specs.Logs.{LogView, log_view}
 use Rattle.wire_cells.specs.Cells.{CellView}
@@ -29,6 +33,7 @@ use Rattle.box_step.specs.nodes.Openings.{Opening}
 use Rattle.box_step.specs.nodes.Right.{IsRightNode, heap_peak_of, stack_peak_of}
 use Rattle.box_step.specs.nodes.Sides.{taken_type}
 use Rattle.step_turns.specs.declared.sides.Sides.{Sides}
+use Rattle.phase_workers.specs.Runnable.{IsRunnable}
 use Rattle.phase_workers.specs.StreamTypes.{type_at}
 use Rattle.phase_workers.specs.inner.Whole.{IsWhole, queue_without, log_without, queues_of, heaps_of, stacks_of, opening_at}
 use Rattle.phase_workers.proofs.AtRest.{log_there, part_at_first, taken_is}
@@ -36,6 +41,7 @@ use Rattle.phase_workers.proofs.CellsSeen.{seen_at}
 use Rattle.phase_workers.proofs.Indexes.{get_set, get_other, length_set, map_set}
 use Rattle.phase_workers.proofs.OneCell.{one_whole}
 use Rattle.phase_workers.proofs.Rounding.{node_of_output, right_cell}
+use Rattle.phase_workers.proofs.Wires.{output_type}
 
 log_in_with : (kind : Kind) (log later : OutLog) → log_in kind ≡ Some log → log_in (with_log kind later) ≡ Some later
 log_in_with (Coded box) log later had = cc
@@ -137,6 +143,27 @@ module _ (core bare : Core) (sides : Sides) (span : ℕ) (state : State) (nodes 
         one_whole core bare sides span state nodes home count room whole node cell new at (ap (λ (c : BoxCell). c.number) new_is)
         (ap (λ (c : BoxCell). c.time) new_is) next wires parts right typed fits (λ input. absurd (no_input input))
         (λ stream there. ap (λ o. (log_without o).span) log_is ∙ span_is ∙ wide)
+
+-- what an output stream has taken is of its type
+
+pub taken_typed : (core : Core) → IsRunnable core → (state : State) → IsTypedState core state → (n : ℕ) → IsOutputStream core n
+    → list_all (is_value core.types (type_at core n)) (part_of state n).taken ≡ true
+taken_typed core run state typed n is =
+    let node = node_of_output core n is in
+    let found = to_each core run.wired n 0 (To node.0) node.1 (omega arith) in
+    let wire = to_leads core n 0 found.0 found.1 in
+    ap (λ ty. list_all (is_value core.types ty) (part_of state n).taken) (output_type core run n found.0 wire.0 wire.1 is wire.2)
+    ∙ typed.taken n node.0 found.0 wire.0 node.1 wire.1 wire.2 wire.3
+
+pub words_of_values : (types : Types) (ty : Ty) (words : List (List ℕ)) (vs : List Value) → words ≡ map (flat types ty) vs
+    → list_all (is_value types ty) vs ≡ true → AllZip (AreWordsOf types ty) words vs
+words_of_values types ty words vs is typed = subst (λ ws. AllZip (AreWordsOf types ty) ws vs) (sym is) (each vs typed)
+  where
+    each : (xs : List Value) → list_all (is_value types ty) xs ≡ true → AllZip (AreWordsOf types ty) (map (flat types ty) xs) xs
+    each [] all = tt
+    each (x ∷ xs) all =
+        let parts = and_parts (is_value types ty x) (list_all (is_value types ty) xs) all in
+        (record { typed = parts.0; same = refl }, each xs parts.1)
 
 -- a state that has forgotten what a stream took
 
