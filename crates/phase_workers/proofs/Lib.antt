@@ -8,3 +8,5 @@ mod Rounding
 mod AtRest
 mod OneCell
 mod LogCells
+mod QueueCells
+mod NodeFilled

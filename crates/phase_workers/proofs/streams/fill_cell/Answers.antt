@@ -22,3 +22,15 @@ fill_at-filled-requires-clause-span g c =
     let had = c.requires.queue in
     let same : had.0 ≡ c.in-Some.queue.now = (let both : Some had.0 ≡ Some c.in-Some.queue.now = sym had.1 ∙ c.in-Some.ensures.queue in cc) in
     subst (λ (q : InQueue). c.args.want ≤ (queue_view q).span) same had.3
+
+pub returns-clause-filled : goal.returns-clause-filled
+returns-clause-filled g c =
+    rw (← c.stream_type-ty.ensures) (record {
+      queue = c.in-Some.queue.now;
+      later = c.fill_at-filled.new.queue;
+      had = c.in-Some.ensures.queue;
+      cell = refl;
+      state = c.then.ensures;
+      step = c.fill_at-filled.ensures.step;
+      fills = c.fill_at-filled.ensures.fills;
+    })
