@@ -10,3 +10,5 @@ mod OneCell
 mod LogCells
 mod QueueCells
 mod NodeFilled
+mod MadeCells
+mod FirstEngine

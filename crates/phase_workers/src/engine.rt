@@ -108,7 +108,7 @@ impl Engine {
         let sides = Sides::make(alloc, &core, wiring)?;
         let nodes = make_nodes(alloc, &core, &bare, programs, span)?;
         let home = make_home(alloc, &core)?;
-        let bench = Vec::with_capacity(alloc, MAX_INPUTS.max(MAX_OUTPUTS))?;
+        let bench = Vec::with_capacity(alloc, MAX_INPUTS + MAX_OUTPUTS)?;
         let seen = Seen::new().then(&Deed::Opened(&core));
         Ok(Engine {
             core,
