@@ -154,7 +154,7 @@ module _ (core bare : Core) (sides : Sides) (span : ℕ) (state : State) (nodes 
         queue.0,
         queue.1,
         queue.2 ∙ ap (λ ty. map (flat core.types ty) (node_at core state n 0).coming) (brought_is core whole.runnable n is)
-        ∙ ap (λ (p : Part). map (flat core.types (type_at core n)) p.coming) (part_at_first core state n),
+            ∙ ap (λ (p : Part). map (flat core.types (type_at core n)) p.coming) (part_at_first core state n),
         sym kept.width ∙ ap (λ (q : QueueView). q.width) seen,
         sym kept.span_is ∙ ap (λ (q : QueueView). q.span) seen,
       )
@@ -176,7 +176,7 @@ module _ (core bare : Core) (sides : Sides) (span : ℕ) (state : State) (nodes 
         log.0,
         log.1,
         log.2 ∙ ap (λ ty. map (flat core.types ty) (node_at core state n 0).taken) (taken_is core whole.runnable n is)
-        ∙ ap (λ (p : Part). map (flat core.types (type_at core n)) p.taken) (part_at_first core state n),
+            ∙ ap (λ (p : Part). map (flat core.types (type_at core n)) p.taken) (part_at_first core state n),
         log.3,
         sym (ap (λ (l : LogView). l.span) seen) ∙ kept,
       )

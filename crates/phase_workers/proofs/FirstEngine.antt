@@ -173,7 +173,7 @@ module _ (core bare : Core) (sides : Sides) (span : ℕ) (nodes : List BoxCell) 
       (let both : Some (Some (first_cell core w wire.0)) ≡ Some (Some cell) = sym (wires.each w wire.0 inside wire.1) ∙ at in cc) in
       let on : on_wire first w ≡ option_to_list wire.0.initial = mapped_at (λ (x : WireC). option_to_list x.initial) core.wires w wire.0 wire.1 in
       let holds = subst (λ s. Holds core.types wire.0 (first_cell core w wire.0) (on_wire s w)) (sym (first_state core first))
-          (subst (Holds core.types wire.0 (first_cell core w wire.0)) (sym on) (first_holds core w wire.0 run.formed.frame wire.1)) in
+      (subst (Holds core.types wire.0 (first_cell core w wire.0)) (sym on) (first_holds core w wire.0 run.formed.frame wire.1)) in
       subst (IsRightWire (opening_at core first nodes)) same (record { wire = wire.0; there = wire.1; holds = holds })
 
   pub first_whole : IsWhole core bare sides span first nodes home count room

@@ -129,7 +129,7 @@ module _ (core bare : Core) (sides : Sides) (span : ℕ) (state : State) (nodes 
     right : IsRightNode seen node 0 new.kind
     right =
         let all = values ∙ ap (λ ty. map (flat core.types ty) (part_of next node).taken) (sym (taken_is core whole.runnable node is))
-            ∙ ap (λ (p : Part). map (flat core.types (taken_type core node)) p.taken) (sym (part_at_first core next node)) in
+        ∙ ap (λ (p : Part). map (flat core.types (taken_type core node)) p.taken) (sym (part_at_first core next node)) in
         subst (IsRightNode seen node 0) (sym new_kind)
         (right_log (opening_at core state nodes) seen node cell.kind log later refl had
         (right_cell core bare sides span state nodes home count room whole node cell at) all width

@@ -82,8 +82,12 @@ first_part_is core n node at =
     let pending = ap option_flatten (numbered_get {X = Option (List (Option Value))} (length core.nodes) (λ m. None) n less) in
     let orders = ap (λ o. unwrap_or o []) (slice_get-map written_order core.nodes n ∙ ap (option_map written_order) at) in
     let none = ap (λ o. unwrap_or o []) (numbered_get {X = List Value} (length core.nodes) (λ m. []) n less) in
-    ap (λ p. record { pending = p; order = unwrap_or (slice_get (start core (no_values core)).orders n) [];
-      coming = unwrap_or (slice_get (no_values core) n) []; taken = unwrap_or (slice_get (no_values core) n) [] }) pending
+    ap (λ p. record {
+      pending = p;
+      order = unwrap_or (slice_get (start core (no_values core)).orders n) [];
+      coming = unwrap_or (slice_get (no_values core) n) [];
+      taken = unwrap_or (slice_get (no_values core) n) [];
+    }) pending
     ∙ ap (λ o. record { pending = None; order = o; coming = unwrap_or (slice_get (no_values core) n) []; taken = unwrap_or (slice_get (no_values core) n) [] }) orders
     ∙ ap (λ c. record { pending = None; order = written_order node; coming = c; taken = c }) none
 

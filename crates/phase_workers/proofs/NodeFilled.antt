@@ -58,14 +58,14 @@ module _ (core bare : Core) (sides : Sides) (span : ℕ) (state : State) (nodes 
       → IsQueueOf core.types (type_at core node) (queue_at engine node) text ((gone ++ coming_at old_engine node) ++ more_values) rest
   goes_on text gone rest over q =
       let full = goes core bare sides span state nodes home count room whole node is cell new at queue later had new_is want from.before from.after result
-          from.fills text gone rest (λ ended. over (ap (λ (v : QueueView). v.ended) now ∙ ended))
-          (subst (λ v. IsQueueOf core.types (type_at core node) v text (gone ++ coming_at old_engine node) (from.fills.bytes ++ rest)) was q) in
+      from.fills text gone rest (λ ended. over (ap (λ (v : QueueView). v.ended) now ∙ ended))
+      (subst (λ v. IsQueueOf core.types (type_at core node) v text (gone ++ coming_at old_engine node) (from.fills.bytes ++ rest)) was q) in
       let split = split_queue core.types
-          (sizes core bare sides span state nodes home count room whole node is cell new at queue later had new_is)
-          (readable core bare sides span state nodes home count room whole node is cell new at queue later had new_is)
-          (type_at core node) (queue_view later) text gone rest full in
+      (sizes core bare sides span state nodes home count room whole node is cell new at queue later had new_is)
+      (readable core bare sides span state nodes home count room whole node is cell new at queue later had new_is)
+      (type_at core node) (queue_view later) text gone rest full in
       let all = ap (λ vs. gone ++ vs) (more core bare sides span state nodes home count room whole node is cell new at queue later had new_is want
-          from.before from.after result from.fills) ∙ sym (append_assoc gone (coming_at old_engine node) more_values) in
+      from.before from.after result from.fills) ∙ sym (append_assoc gone (coming_at old_engine node) more_values) in
       subst (λ v. IsQueueOf core.types (type_at core node) v text ((gone ++ coming_at old_engine node) ++ more_values) rest) (sym now)
       (subst (λ vs. IsQueueOf core.types (type_at core node) (quiet (queue_view later)) text vs rest) all split)
 

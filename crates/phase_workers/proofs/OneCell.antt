@@ -122,7 +122,7 @@ module _ (core bare : Core) (sides : Sides) (span : ℕ) (state : State) (nodes 
       let right = whole.right.wires.each w c there in
       let zero = wire_time_is core bare sides span state nodes home count room whole w c there in
       let early = subst (λ s. Holds core.types right.wire c (on_wire s c.number)) (first_state core state)
-          (subst (λ t. Holds core.types right.wire c (on_wire (at_time core state t) c.number)) zero right.holds) in
+      (subst (λ t. Holds core.types right.wire c (on_wire (at_time core state t) c.number)) zero right.holds) in
       let now : Holds core.types right.wire c (on_wire next c.number) =
       subst (λ ws. Holds core.types right.wire c (unwrap_or (slice_get ws c.number) [])) (sym wires) early in
       record {

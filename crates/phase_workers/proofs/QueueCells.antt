@@ -198,7 +198,7 @@ module _ (core bare : Core) (sides : Sides) (span : ℕ) (state : State) (nodes 
         let earlier : (slice_index_or (queues_of nodes) node (first_view 0 0)).ended ≡ true → fill.bytes ++ rest ≡ [] =
         λ was. let b = fill.end.before (sym (ap (λ (q : QueueView). q.ended) was_queue) ∙ was) in ap (λ bs. bs ++ rest) b.0 ∙ over b.1 in
         let right = subst (λ q. IsQueueOf types ty q (kept.read ++ (fill.bytes ++ rest)) (kept.gone ++ coming) (fill.bytes ++ rest)) was_queue
-            (kept.right.right (fill.bytes ++ rest) earlier) in
+        (kept.right.right (fill.bytes ++ rest) earlier) in
         goes ((kept.read ++ fill.bytes) ++ rest) kept.gone rest over
         (subst (λ text. IsQueueOf types ty (quiet (queue_view queue)) text (kept.gone ++ coming) (fill.bytes ++ rest))
         (sym (append_assoc kept.read fill.bytes rest)) right)
@@ -222,8 +222,8 @@ module _ (core bare : Core) (sides : Sides) (span : ℕ) (state : State) (nodes 
     right : IsRightNode (opening_at core next cells) node 0 new.kind
     right =
         let all = words.1 ∙ ap (map (flat types ty)) (sym next_coming)
-            ∙ ap (λ t. map (flat types t) (part_of next node).coming) (sym (brought_is core whole.runnable node is))
-            ∙ ap (λ (p : Part). map (flat types (brought_type core node)) p.coming) (sym (part_at_first core next node)) in
+        ∙ ap (λ t. map (flat types t) (part_of next node).coming) (sym (brought_is core whole.runnable node is))
+        ∙ ap (λ (p : Part). map (flat types (brought_type core node)) p.coming) (sym (part_at_first core next node)) in
         subst (IsRightNode (opening_at core next cells) node 0) (sym new_kind)
         (right_queue (opening_at core state nodes) (opening_at core next cells) node cell.kind queue later refl had
         (right_cell core bare sides span state nodes home count room whole node cell at) all (sym is_queue))

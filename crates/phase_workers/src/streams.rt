@@ -26,8 +26,8 @@ use crate::stream_types::stream_type;
 use box_step::nodes::BoxCell;
 use hume_model::Core;
 use hume_ports::{Failed, Port};
-use hume_streams::places::{drain_at, fill_at};
 use hume_streams::FillError;
+use hume_streams::places::{drain_at, fill_at};
 use hume_text::Chunk;
 
 /// Fills the queue of an input stream from the port at that place, until it holds as many values as are wanted. These are then

@@ -1,4 +1,4 @@
-use Rattle.std.proofs.Common.{◌≤◌, ◌<◌, length, get_or, arith}
+use Rattle.std.proofs.Common.{◌≤◌, ◌<◌, length, arith}
 use Rattle.phase_workers.specs.inner.Begun.{begun_wire}
 use Rattle.phase_workers.proofs.MappedSoFar.{none_mapped, one_mapped, every_mapped}
 use Rattle.phase_workers.proofs.begin.begin_wires.Goals as goal

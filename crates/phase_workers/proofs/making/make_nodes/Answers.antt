@@ -1,4 +1,4 @@
-use Rattle.std.proofs.Common.{◌≡◌, ◌+◌, ◌<◌, drop, length, refl, Some, slice_get, slice_index_or, sym, ap, ◌∙◌, subst, arith}
+use Rattle.std.proofs.Common.{◌≡◌, ◌+◌, ◌<◌, length, refl, Some, slice_get, slice_index_or, sym, ap, ◌∙◌, subst, arith}
 use Rattle.box_step.specs.nodes.Beginnings.{HasItsProgram}
 use Rattle.phase_workers.specs.inner.Making.{AreFirstNodes, first_opening}
 use Rattle.phase_workers.proofs.Indexes.{index_at, some_at}
@@ -21,10 +21,10 @@ make-requires-clause-program c =
     let less : n < length core.nodes = omega (arith, c.loop-n-test.true, c.len-n-end.ensures) in
     let it = some_at core.nodes n less in
     let found = index_at core.nodes n it.0 c.index-as_slice-n.result it.1
-        (c.index-as_slice-n.is ∙ ap (λ ns. slice_index_or ns n c.index-as_slice-n.result) c.as_slice.ensures) in
+    (c.index-as_slice-n.is ∙ ap (λ ns. slice_index_or ns n c.index-as_slice-n.result) c.as_slice.ensures) in
     let at : slice_get core.nodes n ≡ Some c.index-as_slice-n.result = it.1 ∙ ap (λ x. Some x) (sym found) in
     let next = for_node core c.args.programs c.requires.programs c.requires.within n c.index-as_slice-n.result c.loop-n.rest c.next_program-program.new.rest
-        c.next_program-program.result at c.loop-n.invariant.rest c.next_program-program.ensures in
+    c.next_program-program.result at c.loop-n.invariant.rest c.next_program-program.ensures in
     subst (λ o. HasItsProgram o c.next_program-program.result)
     (sym (bare_at core c.args.bare.now c.requires.opens.core_is n c.index-as_slice-n.result at)) next.its
 
@@ -35,14 +35,14 @@ loop-n-preserved c =
     let less : n < length core.nodes = omega (arith, c.loop-n-test.true, c.len-n-end.ensures) in
     let it = some_at core.nodes n less in
     let found = index_at core.nodes n it.0 c.index-as_slice-n.result it.1
-        (c.index-as_slice-n.is ∙ ap (λ ns. slice_index_or ns n c.index-as_slice-n.result) c.as_slice.ensures) in
+    (c.index-as_slice-n.is ∙ ap (λ ns. slice_index_or ns n c.index-as_slice-n.result) c.as_slice.ensures) in
     let at : slice_get core.nodes n ≡ Some c.index-as_slice-n.result = it.1 ∙ ap (λ x. Some x) (sym found) in
     let next = for_node core c.args.programs c.requires.programs c.requires.within n c.index-as_slice-n.result c.loop-n.rest c.next_program-program.new.rest
-        c.next_program-program.result at c.loop-n.invariant.rest c.next_program-program.ensures in
+    c.next_program-program.result at c.loop-n.invariant.rest c.next_program-program.ensures in
     let opening = first_opening core c.args.span in
     let right = c.in_ok-cell.ensures.right opening c.requires.opens
-        (begins core c.args.programs c.requires.programs c.requires.within n c.args.span c.index-as_slice-n.result c.next_program-program.new.rest
-        c.next_program-program.result at next) in
+    (begins core c.args.programs c.requires.programs c.requires.within n c.args.span c.index-as_slice-n.result c.next_program-program.new.rest
+    c.next_program-program.result at next) in
     record {
       nodes = subst (AreFirstNodes core c.args.span (n + 1)) (sym c.in_ok-push.ensures.items)
           (node_more core c.args.span n c.loop-n.nodes.items c.in_ok-cell.cell c.loop-n.invariant.nodes

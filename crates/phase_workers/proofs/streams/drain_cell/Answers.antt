@@ -1,4 +1,4 @@
-use Rattle.std.proofs.Common.{◌≡◌, inr, refl, sym, subst}
+use Rattle.std.proofs.Common.{inr, refl, sym, subst}
 use Rattle.hume_text.specs.Bounds.{IsPrintable}
 use Rattle.phase_workers.proofs.Indexes.{on_err, on_ok}
 use Rattle.phase_workers.proofs.Wires.{printable_type}

@@ -1,4 +1,4 @@
-use Rattle.std.proofs.Common.{◌≡◌, [], sym, ap, ◌∙◌, subst, slice_index_or, slice_set, refl, map, vec_len, vec_capacity}
+use Rattle.std.proofs.Common.{[], sym, ap, ◌∙◌, subst, slice_index_or, slice_set, refl, map, vec_len, vec_capacity}
 use Rattle.std.proofs.lemmas.Option.{slice_get_within}
 use Rattle.hume_base.specs.Flat.{flat}
 use Rattle.hume_net.specs.Nodes.{IsOutputStream}
@@ -36,7 +36,7 @@ invariant_of-self c =
     let within = slice_get_within inside.core.nodes n _ node.1 in
     let none = cleared_here inside.core n inside.seen.state within whole.fits in
     subst (λ s. IsWhole inside.core inside.bare inside.sides inside.span s (slice_set inside.nodes.items n c.clear_cell.new.cell) inside.home.items
-        (vec_len inside.bench) (vec_capacity inside.bench)) (sym c.then-self-inside.ensures)
+    (vec_len inside.bench) (vec_capacity inside.bench)) (sym c.then-self-inside.ensures)
     (log_whole _ _ _ _ _ _ _ _ _ whole n is its.0 c.clear_cell.new.cell its.1 done.log done.later done.had done.cell (cleared n inside.seen.state) refl
     (cleared_other inside.core n inside.seen.state within whole.fits)
     (ap (λ (l : LogView). l.values) done.changed ∙ sym (ap (map (flat inside.core.types (type_at inside.core n))) none))

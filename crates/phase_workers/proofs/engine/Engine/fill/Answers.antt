@@ -1,16 +1,10 @@
-use Rattle.std.proofs.Common.{◌≡◌, ◌≤◌, ◌++◌, [], length, map, sym, ap, ◌∙◌, subst, slice_index_or, slice_set, refl, vec_len, vec_capacity, None}
-use Rattle.std.specs.Io.KnownBytes.{IsAtEnd}
+use Rattle.std.proofs.Common.{◌≤◌, sym, ap, ◌∙◌, subst, slice_index_or, slice_set, vec_len, vec_capacity}
 use Rattle.hume_net.specs.Nodes.{IsInputStream}
-use Rattle.hume_ports.specs.Port.{PortView}
-use Rattle.hume_streams.specs.declared.queue.InQueue.{InQueue}
-use Rattle.hume_streams.specs.Queues.{QueueView, IsQueueOf, first_view, queue_view}
-use Rattle.hume_streams.proofs.places_lemmas.FillsInLists.{of_first-port}
 use Rattle.hume_streams.proofs.places_lemmas.StepsAt.{ends_of}
 use Rattle.box_step.specs.declared.nodes.cell.BoxCell.{BoxCell}
 use Rattle.box_step.specs.nodes.Lends.{queue_in, with_queue}
-use Rattle.phase_workers.specs.Engines.{EngineView, core_of, heap_peak_at, queue_at, span_of, stack_peak_at, state_of}
-use Rattle.phase_workers.specs.StreamTypes.{type_at}
-use Rattle.phase_workers.specs.inner.Whole.{IsWhole, engine_view}
+use Rattle.phase_workers.specs.Engines.{EngineView, core_of, heap_peak_at, span_of, stack_peak_at}
+use Rattle.phase_workers.specs.inner.Whole.{IsWhole}
 use Rattle.phase_workers.proofs.AtRest.{queue_there}
 use Rattle.phase_workers.proofs.Indexes.{index_at}
 use Rattle.phase_workers.proofs.NodeFilled.{fills_node, not_failed}
@@ -40,7 +34,7 @@ invariant_of-self g c =
     let new_is = done.cell ∙ ap (λ (k : BoxCell). record k { kind = with_queue k.kind done.later }) cell in
     let ends = ends_of _ _ _ _ done.step in
     subst (λ s. IsWhole inside.core inside.bare inside.sides inside.span s (slice_set inside.nodes.items n c.fill_cell.new.cell) inside.home.items
-        (vec_len inside.bench) (vec_capacity inside.bench)) (sym done.state)
+    (vec_len inside.bench) (vec_capacity inside.bench)) (sym done.state)
     (queue_whole _ _ _ _ _ _ _ _ _ whole n is its.0 c.fill_cell.new.cell its.1 done.queue done.later had new_is c.args.want ends.before ends.after c.fill_cell.result ends.steps)
 
 pub returns-clause-peaks : goal.returns-clause-peaks

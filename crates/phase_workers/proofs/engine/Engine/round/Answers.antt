@@ -18,7 +18,7 @@ begin_nodes-requires c = λ n cell at.
     let whole = c.self.invariant in
     let opening = opening_at inside.core inside.seen.state inside.nodes.items in
     let right = c.round.ensures.right opening whole.opens (subst (λ ns. AllRight opening ns c.deref_mut-2.result.now) (sym c.deref_mut.ensures.value)
-        (subst (λ hs. AllRight opening inside.nodes.items hs) (sym c.deref_mut-2.ensures.value) whole.right)) in
+    (subst (λ hs. AllRight opening inside.nodes.items hs) (sym c.deref_mut-2.ensures.value) whole.right)) in
     let nodes_long = c.round.auto.nodes ∙ ap length c.deref_mut.ensures.value in
     let home_long = c.round.auto.home ∙ ap length c.deref_mut-2.ensures.value in
     let later = c.deref_mut-3.ensures.value ∙ all_items inside.nodes.len c.round.new.nodes inside.nodes.items inside.nodes.ok.0 nodes_long in
@@ -32,7 +32,7 @@ invariant_of-self c =
     let whole = c.self.invariant in
     let opening = opening_at inside.core inside.seen.state inside.nodes.items in
     let right = c.round.ensures.right opening whole.opens (subst (λ ns. AllRight opening ns c.deref_mut-2.result.now) (sym c.deref_mut.ensures.value)
-        (subst (λ hs. AllRight opening inside.nodes.items hs) (sym c.deref_mut-2.ensures.value) whole.right)) in
+    (subst (λ hs. AllRight opening inside.nodes.items hs) (sym c.deref_mut-2.ensures.value) whole.right)) in
     let nodes_long = c.round.auto.nodes ∙ ap length c.deref_mut.ensures.value in
     let home_long = c.round.auto.home ∙ ap length c.deref_mut-2.ensures.value in
     let later = c.deref_mut-3.ensures.value ∙ all_items inside.nodes.len c.round.new.nodes inside.nodes.items inside.nodes.ok.0 nodes_long in
@@ -41,13 +41,13 @@ invariant_of-self c =
     let kept : length (take inside.nodes.len (c.round.new.nodes ++ drop (length c.round.new.nodes) inside.nodes.items)) ≡ length inside.nodes.items =
     ap length (all_items inside.nodes.len c.round.new.nodes inside.nodes.items inside.nodes.ok.0 nodes_long) ∙ nodes_long in
     let cells = all_items inside.nodes.len c.begin_nodes.new.nodes (take inside.nodes.len (c.round.new.nodes ++ drop (length c.round.new.nodes) inside.nodes.items))
-        (inside.nodes.ok.0 ∙ sym kept) (again ∙ sym kept) ∙ begun in
+    (inside.nodes.ok.0 ∙ sym kept) (again ∙ sym kept) ∙ begun in
     let laid = c.deref_mut-4.ensures.value ∙ all_items inside.home.len c.round.new.home inside.home.items inside.home.ok.0 home_long in
     let wires_long : length (take inside.home.len (c.round.new.home ++ drop (length c.round.new.home) inside.home.items)) ≡ length inside.home.items =
     ap length (all_items inside.home.len c.round.new.home inside.home.items inside.home.ok.0 home_long) ∙ home_long in
     let wires = all_items inside.home.len c.begin_wires.new.home (take inside.home.len (c.round.new.home ++ drop (length c.round.new.home) inside.home.items))
-        (inside.home.ok.0 ∙ sym wires_long) (c.begin_wires.auto.home ∙ ap length laid ∙ home_long ∙ sym wires_long)
-        ∙ c.begin_wires.ensures ∙ ap (map begun_wire) laid in
+    (inside.home.ok.0 ∙ sym wires_long) (c.begin_wires.auto.home ∙ ap length laid ∙ home_long ∙ sym wires_long)
+    ∙ c.begin_wires.ensures ∙ ap (map begun_wire) laid in
     whole_after inside.core inside.bare inside.sides inside.span inside.seen.state inside.nodes.items inside.home.items (vec_len inside.bench) (vec_capacity inside.bench)
     whole c.args.steps c.round.new.nodes c.round.new.home c.round.ensures.place c.round.ensures.until c.round.ensures.from right home_long
     _ _ _ _ _ c.then-self-inside.ensures cells wires (c.round.ensures.bench.0 ∙ sym whole.clear) c.round.ensures.bench.1
@@ -58,7 +58,7 @@ returns-clause-queues c = λ n.
     let whole = c.self.invariant in
     let opening = opening_at inside.core inside.seen.state inside.nodes.items in
     let right = c.round.ensures.right opening whole.opens (subst (λ ns. AllRight opening ns c.deref_mut-2.result.now) (sym c.deref_mut.ensures.value)
-        (subst (λ hs. AllRight opening inside.nodes.items hs) (sym c.deref_mut-2.ensures.value) whole.right)) in
+    (subst (λ hs. AllRight opening inside.nodes.items hs) (sym c.deref_mut-2.ensures.value) whole.right)) in
     let nodes_long = c.round.auto.nodes ∙ ap length c.deref_mut.ensures.value in
     let home_long = c.round.auto.home ∙ ap length c.deref_mut-2.ensures.value in
     let later = c.deref_mut-3.ensures.value ∙ all_items inside.nodes.len c.round.new.nodes inside.nodes.items inside.nodes.ok.0 nodes_long in
@@ -67,7 +67,7 @@ returns-clause-queues c = λ n.
     let kept : length (take inside.nodes.len (c.round.new.nodes ++ drop (length c.round.new.nodes) inside.nodes.items)) ≡ length inside.nodes.items =
     ap length (all_items inside.nodes.len c.round.new.nodes inside.nodes.items inside.nodes.ok.0 nodes_long) ∙ nodes_long in
     let cells = all_items inside.nodes.len c.begin_nodes.new.nodes (take inside.nodes.len (c.round.new.nodes ++ drop (length c.round.new.nodes) inside.nodes.items))
-        (inside.nodes.ok.0 ∙ sym kept) (again ∙ sym kept) ∙ begun in
+    (inside.nodes.ok.0 ∙ sym kept) (again ∙ sym kept) ∙ begun in
     ap (λ ns. slice_index_or (queues_of ns) n (first_view 0 0)) cells
     ∙ queue_same inside.core inside.bare inside.sides inside.span inside.seen.state inside.nodes.items inside.home.items (vec_len inside.bench) (vec_capacity inside.bench)
     whole c.args.steps c.round.new.nodes c.round.new.home c.round.ensures.place c.round.ensures.until c.round.ensures.from right home_long
@@ -80,7 +80,7 @@ returns-clause-heap c = λ n.
     let whole = c.self.invariant in
     let opening = opening_at inside.core inside.seen.state inside.nodes.items in
     let right = c.round.ensures.right opening whole.opens (subst (λ ns. AllRight opening ns c.deref_mut-2.result.now) (sym c.deref_mut.ensures.value)
-        (subst (λ hs. AllRight opening inside.nodes.items hs) (sym c.deref_mut-2.ensures.value) whole.right)) in
+    (subst (λ hs. AllRight opening inside.nodes.items hs) (sym c.deref_mut-2.ensures.value) whole.right)) in
     let nodes_long = c.round.auto.nodes ∙ ap length c.deref_mut.ensures.value in
     let home_long = c.round.auto.home ∙ ap length c.deref_mut-2.ensures.value in
     let later = c.deref_mut-3.ensures.value ∙ all_items inside.nodes.len c.round.new.nodes inside.nodes.items inside.nodes.ok.0 nodes_long in
@@ -89,7 +89,7 @@ returns-clause-heap c = λ n.
     let kept : length (take inside.nodes.len (c.round.new.nodes ++ drop (length c.round.new.nodes) inside.nodes.items)) ≡ length inside.nodes.items =
     ap length (all_items inside.nodes.len c.round.new.nodes inside.nodes.items inside.nodes.ok.0 nodes_long) ∙ nodes_long in
     let cells = all_items inside.nodes.len c.begin_nodes.new.nodes (take inside.nodes.len (c.round.new.nodes ++ drop (length c.round.new.nodes) inside.nodes.items))
-        (inside.nodes.ok.0 ∙ sym kept) (again ∙ sym kept) ∙ begun in
+    (inside.nodes.ok.0 ∙ sym kept) (again ∙ sym kept) ∙ begun in
     ap (λ ns. slice_index_or (heaps_of ns) n 0) cells
     ∙ heap_more inside.core inside.bare inside.sides inside.span inside.seen.state inside.nodes.items inside.home.items (vec_len inside.bench) (vec_capacity inside.bench)
     whole c.args.steps c.round.new.nodes c.round.new.home c.round.ensures.place c.round.ensures.until c.round.ensures.from right home_long
@@ -102,7 +102,7 @@ returns-clause-stack c = λ n.
     let whole = c.self.invariant in
     let opening = opening_at inside.core inside.seen.state inside.nodes.items in
     let right = c.round.ensures.right opening whole.opens (subst (λ ns. AllRight opening ns c.deref_mut-2.result.now) (sym c.deref_mut.ensures.value)
-        (subst (λ hs. AllRight opening inside.nodes.items hs) (sym c.deref_mut-2.ensures.value) whole.right)) in
+    (subst (λ hs. AllRight opening inside.nodes.items hs) (sym c.deref_mut-2.ensures.value) whole.right)) in
     let nodes_long = c.round.auto.nodes ∙ ap length c.deref_mut.ensures.value in
     let home_long = c.round.auto.home ∙ ap length c.deref_mut-2.ensures.value in
     let later = c.deref_mut-3.ensures.value ∙ all_items inside.nodes.len c.round.new.nodes inside.nodes.items inside.nodes.ok.0 nodes_long in
@@ -111,7 +111,7 @@ returns-clause-stack c = λ n.
     let kept : length (take inside.nodes.len (c.round.new.nodes ++ drop (length c.round.new.nodes) inside.nodes.items)) ≡ length inside.nodes.items =
     ap length (all_items inside.nodes.len c.round.new.nodes inside.nodes.items inside.nodes.ok.0 nodes_long) ∙ nodes_long in
     let cells = all_items inside.nodes.len c.begin_nodes.new.nodes (take inside.nodes.len (c.round.new.nodes ++ drop (length c.round.new.nodes) inside.nodes.items))
-        (inside.nodes.ok.0 ∙ sym kept) (again ∙ sym kept) ∙ begun in
+    (inside.nodes.ok.0 ∙ sym kept) (again ∙ sym kept) ∙ begun in
     ap (λ ns. slice_index_or (stacks_of ns) n 0) cells
     ∙ stack_more inside.core inside.bare inside.sides inside.span inside.seen.state inside.nodes.items inside.home.items (vec_len inside.bench) (vec_capacity inside.bench)
     whole c.args.steps c.round.new.nodes c.round.new.home c.round.ensures.place c.round.ensures.until c.round.ensures.from right home_long

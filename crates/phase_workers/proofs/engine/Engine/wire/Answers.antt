@@ -32,5 +32,5 @@ returns-clause-holds c =
     sym c.in-Some.is ∙ index_at c.self.inside.home.items c.args.wire (Some its.0) c.index.result.now its.1 c.index.ensures in
     let same : its.0 ≡ c.in-Some.cell = cc in
     subst (λ (v : EngineView). (it : WireC) → slice_get (core_of v).wires c.args.wire ≡ Some it
-        → Holds (core_of v).types it c.in-Some.cell (on_wire (state_of v) c.args.wire)) c.self.view_is
+    → Holds (core_of v).types it c.in-Some.cell (on_wire (state_of v) c.args.wire)) c.self.view_is
     (λ it at. subst (λ cell. Holds c.self.inside.core.types it cell (on_wire c.self.inside.seen.state c.args.wire)) same (its.3 it at))
