@@ -88,7 +88,12 @@ first_part_is core n node at =
       coming = unwrap_or (slice_get (no_values core) n) [];
       taken = unwrap_or (slice_get (no_values core) n) [];
     }) pending
-    ∙ ap (λ o. record { pending = None; order = o; coming = unwrap_or (slice_get (no_values core) n) []; taken = unwrap_or (slice_get (no_values core) n) [] }) orders
+    ∙ ap (λ o. record {
+      pending = None;
+      order = o;
+      coming = unwrap_or (slice_get (no_values core) n) [];
+      taken = unwrap_or (slice_get (no_values core) n) [];
+    }) orders
     ∙ ap (λ c. record { pending = None; order = written_order node; coming = c; taken = c }) none
 
 -- programs, in order

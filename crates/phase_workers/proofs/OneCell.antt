@@ -107,7 +107,8 @@ module _ (core bare : Core) (sides : Sides) (span : ℕ) (state : State) (nodes 
 
   next_number : (m : ℕ) (c : BoxCell) → slice_get cells m ≡ Some c → c.number ≡ m
   next_number m c there = elim (cases_eq m node) [
-    | inl same ↦ ap (λ (x : BoxCell). x.number) (sym (here_is c (ap (slice_get cells) (sym same) ∙ there))) ∙ number ∙ whole.place.numbers node cell at ∙ sym same
+    | inl same ↦ ap (λ (x : BoxCell). x.number) (sym (here_is c (ap (slice_get cells) (sym same) ∙ there))) ∙ number ∙ whole.place.numbers node cell at ∙ sym
+        same
     | inr apart ↦ whole.place.numbers m c (elsewhere m apart c there)
   ]
 

@@ -31,7 +31,14 @@ head_or_later test y ys zero x there passes more false e =
     absurd (let same : y ≡ x = cc in let clash : true ≡ false = sym passes ∙ ap test (sym same) ∙ e in cc)
 head_or_later test y ys (suc w) x there passes more false e =
     let later = more w there in
-    record { item = later.item; place = suc later.place; found = ap (λ b. cond b (Some y) (find test ys)) e ∙ later.found; there = later.there; passes = later.passes }
+    record {
+      item = later.item;
+      place = suc later.place;
+      found = ap (λ b. cond b (Some y) (find test ys)) e ∙ later.found;
+      there = later.there;
+      passes =
+          later.passes;
+    }
 
 pub find_some : {X : Type 0} (test : X → Bool) (xs : List X) (w : ℕ) (x : X) → slice_get xs w ≡ Some x → test x ≡ true → Found test xs
 find_some test [] w x there passes = cc

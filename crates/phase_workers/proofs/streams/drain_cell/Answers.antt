@@ -11,10 +11,24 @@ drain_at-requires-clause-printable g c =
 
 pub returns-clause-drained : goal.returns-clause-drained
 returns-clause-drained g c =
-    on_ok c.drain_at.result (λ changed. record { log = c.in-Some.log.now; later = c.drain_at.new.log; had = c.in-Some.ensures.log; cell = refl; changed = changed })
+    on_ok c.drain_at.result (λ changed. record {
+      log = c.in-Some.log.now;
+      later = c.drain_at.new.log;
+      had = c.in-Some.ensures.log;
+      cell = refl;
+      changed =
+          changed;
+    })
     c.drain_at.ensures.drained
 
 pub returns-clause-kept : goal.returns-clause-kept
 returns-clause-kept g c =
-    on_err c.drain_at.result (λ changed. record { log = c.in-Some.log.now; later = c.drain_at.new.log; had = c.in-Some.ensures.log; cell = refl; changed = changed })
+    on_err c.drain_at.result (λ changed. record {
+      log = c.in-Some.log.now;
+      later = c.drain_at.new.log;
+      had = c.in-Some.ensures.log;
+      cell = refl;
+      changed =
+          changed;
+    })
     c.drain_at.ensures.kept

@@ -53,7 +53,8 @@ returns-clause-queues c = λ m.
     let its = log_there _ _ _ _ _ _ _ _ _ whole n is in
     let cell = index_at inside.nodes.items n its.0 c.index_mut.result.now its.1 c.index_mut.ensures.value in
     let done = subst (λ k. HasLog k c.clear_cell.new.cell (λ (log : LogView). record log { values = [] })) cell c.clear_cell.ensures in
-    ap (λ qs. slice_index_or qs m (first_view 0 0)) (queues_kept _ _ _ _ _ _ _ _ _ whole n is its.0 c.clear_cell.new.cell its.1 done.log done.later done.had done.cell)
+    ap (λ qs. slice_index_or qs m (first_view 0 0)) (queues_kept _ _ _ _ _ _ _ _ _ whole n is its.0 c.clear_cell.new.cell its.1 done.log done.later done.had
+    done.cell)
     ∙ ap (λ (v : EngineView). queue_at v m) c.self.view_is
 
 pub returns-clause-peaks : goal.returns-clause-peaks
@@ -66,8 +67,10 @@ returns-clause-peaks c =
     let cell = index_at inside.nodes.items n its.0 c.index_mut.result.now its.1 c.index_mut.ensures.value in
     let done = subst (λ k. HasLog k c.clear_cell.new.cell (λ (log : LogView). record log { values = [] })) cell c.clear_cell.ensures in
     record {
-      heap = λ m. ap (λ hs. slice_index_or hs m 0) (heaps_kept _ _ _ _ _ _ _ _ _ whole n is its.0 c.clear_cell.new.cell its.1 done.log done.later done.had done.cell)
+      heap = λ m. ap (λ hs. slice_index_or hs m 0) (heaps_kept _ _ _ _ _ _ _ _ _ whole n is its.0 c.clear_cell.new.cell its.1 done.log done.later done.had
+          done.cell)
           ∙ ap (λ (v : EngineView). heap_peak_at v m) c.self.view_is;
-      stack = λ m. ap (λ hs. slice_index_or hs m 0) (stacks_kept _ _ _ _ _ _ _ _ _ whole n is its.0 c.clear_cell.new.cell its.1 done.log done.later done.had done.cell)
+      stack = λ m. ap (λ hs. slice_index_or hs m 0) (stacks_kept _ _ _ _ _ _ _ _ _ whole n is its.0 c.clear_cell.new.cell its.1 done.log done.later done.had
+          done.cell)
           ∙ ap (λ (v : EngineView). stack_peak_at v m) c.self.view_is;
     }

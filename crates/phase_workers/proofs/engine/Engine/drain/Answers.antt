@@ -68,7 +68,8 @@ returns-in-Ok-clause-queues g c = λ m.
     let its = log_there _ _ _ _ _ _ _ _ _ whole n is in
     let cell = index_at inside.nodes.items n its.0 c.index_mut-cell.result.now its.1 c.index_mut-cell.ensures.value in
     let done = subst (λ k. HasLog k c.drain_cell.new.cell (λ (log : LogView). record log { values = [] })) cell c.in-Ok.ensures.drained in
-    ap (λ qs. slice_index_or qs m (first_view 0 0)) (queues_kept _ _ _ _ _ _ _ _ _ whole n is its.0 c.drain_cell.new.cell its.1 done.log done.later done.had done.cell)
+    ap (λ qs. slice_index_or qs m (first_view 0 0)) (queues_kept _ _ _ _ _ _ _ _ _ whole n is its.0 c.drain_cell.new.cell its.1 done.log done.later done.had
+    done.cell)
     ∙ ap (λ (v : EngineView). queue_at v m) c.self.view_is
 
 pub returns-in-Ok-clause-peaks : goal.returns-in-Ok-clause-peaks
@@ -81,9 +82,11 @@ returns-in-Ok-clause-peaks g c =
     let cell = index_at inside.nodes.items n its.0 c.index_mut-cell.result.now its.1 c.index_mut-cell.ensures.value in
     let done = subst (λ k. HasLog k c.drain_cell.new.cell (λ (log : LogView). record log { values = [] })) cell c.in-Ok.ensures.drained in
     record {
-      heap = λ m. ap (λ hs. slice_index_or hs m 0) (heaps_kept _ _ _ _ _ _ _ _ _ whole n is its.0 c.drain_cell.new.cell its.1 done.log done.later done.had done.cell)
+      heap = λ m. ap (λ hs. slice_index_or hs m 0) (heaps_kept _ _ _ _ _ _ _ _ _ whole n is its.0 c.drain_cell.new.cell its.1 done.log done.later done.had
+          done.cell)
           ∙ ap (λ (v : EngineView). heap_peak_at v m) c.self.view_is;
-      stack = λ m. ap (λ hs. slice_index_or hs m 0) (stacks_kept _ _ _ _ _ _ _ _ _ whole n is its.0 c.drain_cell.new.cell its.1 done.log done.later done.had done.cell)
+      stack = λ m. ap (λ hs. slice_index_or hs m 0) (stacks_kept _ _ _ _ _ _ _ _ _ whole n is its.0 c.drain_cell.new.cell its.1 done.log done.later done.had
+          done.cell)
           ∙ ap (λ (v : EngineView). stack_peak_at v m) c.self.view_is;
     }
 
@@ -111,7 +114,8 @@ returns-in-Err-clause-queues g c = λ m.
     let its = log_there _ _ _ _ _ _ _ _ _ whole n is in
     let cell = index_at inside.nodes.items n its.0 c.index_mut-cell.result.now its.1 c.index_mut-cell.ensures.value in
     let done = subst (λ k. HasLog k c.drain_cell.new.cell (λ log. log)) cell c.in-Err.ensures.kept in
-    ap (λ qs. slice_index_or qs m (first_view 0 0)) (queues_kept _ _ _ _ _ _ _ _ _ whole n is its.0 c.drain_cell.new.cell its.1 done.log done.later done.had done.cell)
+    ap (λ qs. slice_index_or qs m (first_view 0 0)) (queues_kept _ _ _ _ _ _ _ _ _ whole n is its.0 c.drain_cell.new.cell its.1 done.log done.later done.had
+    done.cell)
     ∙ ap (λ (v : EngineView). queue_at v m) c.self.view_is
 
 pub returns-in-Err-clause-peaks : goal.returns-in-Err-clause-peaks
@@ -124,9 +128,11 @@ returns-in-Err-clause-peaks g c =
     let cell = index_at inside.nodes.items n its.0 c.index_mut-cell.result.now its.1 c.index_mut-cell.ensures.value in
     let done = subst (λ k. HasLog k c.drain_cell.new.cell (λ log. log)) cell c.in-Err.ensures.kept in
     record {
-      heap = λ m. ap (λ hs. slice_index_or hs m 0) (heaps_kept _ _ _ _ _ _ _ _ _ whole n is its.0 c.drain_cell.new.cell its.1 done.log done.later done.had done.cell)
+      heap = λ m. ap (λ hs. slice_index_or hs m 0) (heaps_kept _ _ _ _ _ _ _ _ _ whole n is its.0 c.drain_cell.new.cell its.1 done.log done.later done.had
+          done.cell)
           ∙ ap (λ (v : EngineView). heap_peak_at v m) c.self.view_is;
-      stack = λ m. ap (λ hs. slice_index_or hs m 0) (stacks_kept _ _ _ _ _ _ _ _ _ whole n is its.0 c.drain_cell.new.cell its.1 done.log done.later done.had done.cell)
+      stack = λ m. ap (λ hs. slice_index_or hs m 0) (stacks_kept _ _ _ _ _ _ _ _ _ whole n is its.0 c.drain_cell.new.cell its.1 done.log done.later done.had
+          done.cell)
           ∙ ap (λ (v : EngineView). stack_peak_at v m) c.self.view_is;
     }
 

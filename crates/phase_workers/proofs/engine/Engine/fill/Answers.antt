@@ -35,7 +35,8 @@ invariant_of-self g c =
     let ends = ends_of _ _ _ _ done.step in
     subst (λ s. IsWhole inside.core inside.bare inside.sides inside.span s (slice_set inside.nodes.items n c.fill_cell.new.cell) inside.home.items
     (vec_len inside.bench) (vec_capacity inside.bench)) (sym done.state)
-    (queue_whole _ _ _ _ _ _ _ _ _ whole n is its.0 c.fill_cell.new.cell its.1 done.queue done.later had new_is c.args.want ends.before ends.after c.fill_cell.result ends.steps)
+    (queue_whole _ _ _ _ _ _ _ _ _ whole n is its.0 c.fill_cell.new.cell its.1 done.queue done.later had new_is c.args.want ends.before ends.after
+    c.fill_cell.result ends.steps)
 
 pub returns-clause-peaks : goal.returns-clause-peaks
 returns-clause-peaks g c =
@@ -69,7 +70,8 @@ returns-clause-fills g c = λ name place.
     let new_is = done.cell ∙ ap (λ (k : BoxCell). record k { kind = with_queue k.kind done.later }) cell in
     let ends = ends_of _ _ _ _ done.step in
     rw (← c.self.view_is)
-    (fills_node _ _ _ _ _ _ _ _ _ whole n is its.0 c.fill_cell.new.cell its.1 done.queue done.later had new_is c.args.want name _ _ c.fill_cell.result (done.fills name place) c.fill_cell.new.seen.state done.state)
+    (fills_node _ _ _ _ _ _ _ _ _ whole n is its.0 c.fill_cell.new.cell its.1 done.queue done.later had new_is c.args.want name _ _ c.fill_cell.result
+    (done.fills name place) c.fill_cell.new.seen.state done.state)
 
 pub returns-clause-roomy : goal.returns-clause-roomy
 returns-clause-roomy g c = λ roomy. not_failed c.fill_cell.result (c.fill_cell.ensures.roomy roomy)

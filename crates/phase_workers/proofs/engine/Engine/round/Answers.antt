@@ -22,7 +22,8 @@ begin_nodes-requires c = λ n cell at.
     let nodes_long = c.round.auto.nodes ∙ ap length c.deref_mut.ensures.value in
     let home_long = c.round.auto.home ∙ ap length c.deref_mut-2.ensures.value in
     let later = c.deref_mut-3.ensures.value ∙ all_items inside.nodes.len c.round.new.nodes inside.nodes.items inside.nodes.ok.0 nodes_long in
-    even_times inside.core inside.bare inside.sides inside.span inside.seen.state inside.nodes.items inside.home.items (vec_len inside.bench) (vec_capacity inside.bench)
+    even_times inside.core inside.bare inside.sides inside.span inside.seen.state inside.nodes.items inside.home.items (vec_len inside.bench) (vec_capacity
+    inside.bench)
     whole c.args.steps c.round.new.nodes c.round.new.home c.round.ensures.place c.round.ensures.until c.round.ensures.from right home_long
     n cell (sym (ap (λ ns. slice_get ns n) later) ∙ at)
 
@@ -48,7 +49,8 @@ invariant_of-self c =
     let wires = all_items inside.home.len c.begin_wires.new.home (take inside.home.len (c.round.new.home ++ drop (length c.round.new.home) inside.home.items))
     (inside.home.ok.0 ∙ sym wires_long) (c.begin_wires.auto.home ∙ ap length laid ∙ home_long ∙ sym wires_long)
     ∙ c.begin_wires.ensures ∙ ap (map begun_wire) laid in
-    whole_after inside.core inside.bare inside.sides inside.span inside.seen.state inside.nodes.items inside.home.items (vec_len inside.bench) (vec_capacity inside.bench)
+    whole_after inside.core inside.bare inside.sides inside.span inside.seen.state inside.nodes.items inside.home.items (vec_len inside.bench) (vec_capacity
+    inside.bench)
     whole c.args.steps c.round.new.nodes c.round.new.home c.round.ensures.place c.round.ensures.until c.round.ensures.from right home_long
     _ _ _ _ _ c.then-self-inside.ensures cells wires (c.round.ensures.bench.0 ∙ sym whole.clear) c.round.ensures.bench.1
 
@@ -69,7 +71,8 @@ returns-clause-queues c = λ n.
     let cells = all_items inside.nodes.len c.begin_nodes.new.nodes (take inside.nodes.len (c.round.new.nodes ++ drop (length c.round.new.nodes) inside.nodes.items))
     (inside.nodes.ok.0 ∙ sym kept) (again ∙ sym kept) ∙ begun in
     ap (λ ns. slice_index_or (queues_of ns) n (first_view 0 0)) cells
-    ∙ queue_same inside.core inside.bare inside.sides inside.span inside.seen.state inside.nodes.items inside.home.items (vec_len inside.bench) (vec_capacity inside.bench)
+    ∙ queue_same inside.core inside.bare inside.sides inside.span inside.seen.state inside.nodes.items inside.home.items (vec_len inside.bench) (vec_capacity
+    inside.bench)
     whole c.args.steps c.round.new.nodes c.round.new.home c.round.ensures.place c.round.ensures.until c.round.ensures.from right home_long
     n
     ∙ ap (λ (v : EngineView). queue_at v n) c.self.view_is
@@ -91,7 +94,8 @@ returns-clause-heap c = λ n.
     let cells = all_items inside.nodes.len c.begin_nodes.new.nodes (take inside.nodes.len (c.round.new.nodes ++ drop (length c.round.new.nodes) inside.nodes.items))
     (inside.nodes.ok.0 ∙ sym kept) (again ∙ sym kept) ∙ begun in
     ap (λ ns. slice_index_or (heaps_of ns) n 0) cells
-    ∙ heap_more inside.core inside.bare inside.sides inside.span inside.seen.state inside.nodes.items inside.home.items (vec_len inside.bench) (vec_capacity inside.bench)
+    ∙ heap_more inside.core inside.bare inside.sides inside.span inside.seen.state inside.nodes.items inside.home.items (vec_len inside.bench) (vec_capacity
+    inside.bench)
     whole c.args.steps c.round.new.nodes c.round.new.home c.round.ensures.place c.round.ensures.until c.round.ensures.from right home_long
     n
     ∙ ap (λ (v : EngineView). max (heap_peak_at v n) (peaks (core_of v) (state_of v) c.args.steps n).heap) c.self.view_is
@@ -113,7 +117,8 @@ returns-clause-stack c = λ n.
     let cells = all_items inside.nodes.len c.begin_nodes.new.nodes (take inside.nodes.len (c.round.new.nodes ++ drop (length c.round.new.nodes) inside.nodes.items))
     (inside.nodes.ok.0 ∙ sym kept) (again ∙ sym kept) ∙ begun in
     ap (λ ns. slice_index_or (stacks_of ns) n 0) cells
-    ∙ stack_more inside.core inside.bare inside.sides inside.span inside.seen.state inside.nodes.items inside.home.items (vec_len inside.bench) (vec_capacity inside.bench)
+    ∙ stack_more inside.core inside.bare inside.sides inside.span inside.seen.state inside.nodes.items inside.home.items (vec_len inside.bench) (vec_capacity
+    inside.bench)
     whole c.args.steps c.round.new.nodes c.round.new.home c.round.ensures.place c.round.ensures.until c.round.ensures.from right home_long
     n
     ∙ ap (λ (v : EngineView). max (stack_peak_at v n) (peaks (core_of v) (state_of v) c.args.steps n).stack) c.self.view_is
