@@ -1,5 +1,6 @@
 mod Walks
-mod Wires
+pub mod Wires
+pub mod Filled
 mod Joined
 mod Indexes
 mod MappedSoFar
