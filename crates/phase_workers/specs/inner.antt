@@ -1,0 +1,5 @@
+pub mod Begun
+pub mod Filling
+pub mod Making
+pub mod Seeing
+pub mod Whole
