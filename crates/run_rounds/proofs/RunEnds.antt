@@ -21,7 +21,7 @@ use Rattle.run_rounds.specs.declared.engine.engine.Engine.{Engine}
 use Rattle.run_rounds.specs.engine.Engines.{queue_at, state_of}
 use Rattle.run_rounds.specs.engine.Runnable.{IsRunnable}
 use Rattle.run_rounds.specs.engine.StreamTypes.{type_at}
-use Rattle.run_rounds.proofs.engine_lemmas.Wires.{printable_type}
+use Rattle.run_rounds.proofs.StreamWires.{printable_type}
 use Rattle.hume_net.specs.rounds.Blocked.{blocks, blocking}
 use Rattle.hume_net.specs.rounds.Pieces.{listed}
 use Rattle.hume_net.specs.rounds.Rounds.{length_of, made, rounds_of}

@@ -14,7 +14,7 @@ use Rattle.hume_streams.specs.Queues.{QueueView}
 use Rattle.run_rounds.specs.declared.engine.engine.Engine.{Engine}
 use Rattle.run_rounds.specs.engine.Engines.{core_of, queue_at, span_of, state_of}
 use Rattle.run_rounds.specs.engine.Runnable.{IsRunnable}
-use Rattle.run_rounds.proofs.engine_lemmas.Wires.{input_type, output_type}
+use Rattle.run_rounds.proofs.StreamWires.{input_type, output_type}
 use Rattle.hume_net.specs.rounds.Rounds.{IsRound, length_of, made}
 use Rattle.hume_net.proofs.rounds_lemmas.Streams.{others_take_nothing}
 use Rattle.run_rounds.specs.Writes.{writes_of_nodes}

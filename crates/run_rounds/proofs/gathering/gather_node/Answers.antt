@@ -3,7 +3,7 @@ use Rattle.std.proofs.lemmas.Result.{on_ok_weaker}
 use Rattle.hume_model.proofs.WellFormedCores.{readable_sizes}
 use Rattle.hume_net.specs.Nodes.{IsOutputStream}
 use Rattle.run_rounds.specs.engine.Engines.{core_of}
-use Rattle.run_rounds.proofs.engine_lemmas.Wires.{printable_type, small_type}
+use Rattle.run_rounds.proofs.StreamWires.{printable_type, small_type}
 use Rattle.run_rounds.proofs.GatheredNodes.{output_there, gathered_output, gathered_none}
 use Rattle.run_rounds.proofs.gathering.gather_node.Goals as goal
 
