@@ -5,7 +5,7 @@ use Rattle.hume_model.specs.declared.core_tree.NodeC.TheVariants.{From}
 use Rattle.hume_model.specs.declared.core_tree.StreamC.{StreamC}
 use Rattle.hume_model.specs.declared.core_tree.Core.{Core}
 use Rattle.hume_net.specs.Nodes.{HasParts}
-use Rattle.hume_net.specs.rounds.Rounds.{IsRound, length_of, made, rounds_of}
+use Rattle.hume_net.specs.rounds.Rounds.{IsRound, length_of, made as after_rounds, rounds_of}
 use Rattle.hume_ports.specs.declared.port.Failed.{Failed}
 use Rattle.hume_ports.specs.Port.{PortView, last_count}
 use Rattle.hume_ports.specs.Delivery.{Pairs}
@@ -33,7 +33,7 @@ pub record Stands (core : Core) (traced : Bool) (steps done : ℕ) (acts_of : Li
   pub made : Made acts taken olds news
   pub told : EndsAreTold core (queue_at engine) taken olds
   pub after : IsAfter core (span_of traced) steps done (queue_at engine) (state_of engine) taken fed
-  pub peaks : ArePeaks core (queue_at engine) engine taken (made (span_of traced) steps done)
+  pub peaks : ArePeaks core (queue_at engine) engine taken (after_rounds (span_of traced) steps done)
   pub are : (inputs : Inputs) → MayCome core (queue_at engine) taken inputs → acts ≡ acts_of inputs.good
 
 -- All acts of the first rounds were made.
