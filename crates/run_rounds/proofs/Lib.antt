@@ -1,4 +1,5 @@
 pub mod Ranges
+pub mod FirstFound
 pub mod StreamWires
 pub mod EngineFacts
 pub mod Comings
@@ -6,6 +7,11 @@ pub mod Sharing
 pub mod Fed
 pub mod Filled
 pub mod Ending
+pub mod Stepping
+pub mod Standings
+pub mod Wanting
+pub mod ActSteps
+pub mod LawsOfActs
 pub mod TypedValues
 pub mod TypedInputs
 pub mod OneInputs

@@ -2,7 +2,7 @@
 ghost use Rattle.std.specs.Prelude.{◌≡◌, ◌<◌, ◌*◌, ℕ, [], length, map, Some, slice_get, OnOk};
 ghost use Rattle.hume_model.specs.declared.core_tree.NodeC.TheVariants.{To};
 ghost use Rattle.hume_model.specs.declared.core_tree.StreamC.{StreamC};
-ghost use Rattle.hume_net.specs.Nodes.{HasParts};
+ghost use Rattle.hume_net.specs.Parts.{IsStateOf};
 ghost use Rattle.hume_net.specs.Sides.{part_of};
 ghost use Rattle.hume_ports.specs.Ports.{names};
 ghost use Rattle.hume_text.specs.Chunks.{bytes_in, room_of};
@@ -29,7 +29,7 @@ pub fn drain_outputs(
     chunk: &mut Chunk,
 ) -> Result<(), Failed>
     requires runnable { IsRunnable (core_of engine.old) }
-    requires parts { HasParts (core_of engine.old) (state_of engine.old) }
+    requires parts { IsStateOf (core_of engine.old) (state_of engine.old) }
     requires places { ArePlacesOf (core_of engine.old) (names (map view ports.old)) places.now }
     requires room { 512 * 1024 < room_of chunk.old }
     ensures core { core_of engine.new ≡ core_of engine.old }

@@ -1,7 +1,8 @@
 //! The rounds of a run.
 ghost use Rattle.std.specs.Prelude.{◌≡◌, ◌+◌, ◌*◌, ◌≤◌, ◌<◌, ◌++◌, [], ℕ, suc, List, length, map, OnOk};
 ghost use Rattle.hume_net.specs.Lockstep.{lockstep};
-ghost use Rattle.hume_net.specs.Nodes.{HasParts, IsOutputStream};
+ghost use Rattle.hume_net.specs.Nodes.{IsOutputStream};
+ghost use Rattle.hume_net.specs.Parts.{IsStateOf};
 ghost use Rattle.hume_net.specs.Sides.{part_of};
 ghost use Rattle.hume_net.specs.rounds.Rounds.{IsRound, length_of};
 ghost use Rattle.hume_ports.specs.Port.{PortView};
@@ -119,7 +120,7 @@ fn run_round(
     chunk: &mut Chunk,
 ) -> Result<(), Failed>
     requires runnable { IsRunnable (core_of engine.old) }
-    requires parts { HasParts (core_of engine.old) (state_of engine.old) }
+    requires parts { IsStateOf (core_of engine.old) (state_of engine.old) }
     requires places { ArePlacesOf (core_of engine.old) (names (map view ports.old)) places.now }
     requires out { IsPlaceOf std_out (names (map view ports.old)) out }
     requires room { 512 * 1024 < room_of chunk.old }

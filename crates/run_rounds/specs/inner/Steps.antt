@@ -4,7 +4,7 @@ use Rattle.hume_base.specs.declared.types.Value.{Value}
 use Rattle.hume_model.specs.declared.core_tree.NodeC.TheVariants.{From}
 use Rattle.hume_model.specs.declared.core_tree.StreamC.{StreamC}
 use Rattle.hume_model.specs.declared.core_tree.Core.{Core}
-use Rattle.hume_net.specs.Nodes.{HasParts}
+use Rattle.hume_net.specs.Parts.{IsStateOf}
 use Rattle.hume_net.specs.rounds.Rounds.{IsRound, length_of, made as after_rounds, rounds_of}
 use Rattle.hume_ports.specs.declared.port.Failed.{Failed}
 use Rattle.hume_ports.specs.Port.{PortView, last_count}
@@ -29,7 +29,7 @@ pub record Stands (core : Core) (traced : Bool) (steps done : ℕ) (acts_of : Li
   pub fed : ℕ → List Value
   pub is_core : core_of engine ≡ core
   pub is_span : room_of engine ≡ span_of traced
-  pub parts : HasParts core (state_of engine)
+  pub parts : IsStateOf core (state_of engine)
   pub made : Made acts taken olds news
   pub told : EndsAreTold core (queue_at engine) taken olds
   pub after : IsAfter core (span_of traced) steps done (queue_at engine) (state_of engine) taken fed
