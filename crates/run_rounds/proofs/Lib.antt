@@ -10,6 +10,7 @@ pub mod Ending
 pub mod Stepping
 pub mod Standings
 pub mod Wanting
+pub mod FillingInputs
 pub mod ActSteps
 pub mod LawsOfActs
 pub mod TypedValues
