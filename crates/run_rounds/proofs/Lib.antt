@@ -11,6 +11,9 @@ pub mod Stepping
 pub mod Standings
 pub mod Wanting
 pub mod FillingInputs
+pub mod Clearings
+pub mod Tellings
+pub mod Peaks
 pub mod ActSteps
 pub mod LawsOfActs
 pub mod TypedValues

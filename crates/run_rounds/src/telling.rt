@@ -37,8 +37,12 @@ pub fn tell_superstep(
     ensures same_names { names (map view ports.new) ≡ names (map view ports.old) }
     ensures room { room_of chunk.new ≡ room_of chunk.old }
 {
-    tell_step(step, ports, out, chunk)?;
-    for wire in 0..engine.core().wires.len() {
+    match tell_step(step, ports, out, chunk) {
+        Ok(()) => {}
+        Err(failed) => return Err(failed),
+    }
+    let count = engine.core().wires.len();
+    for wire in 0..count {
         match tell_wire(engine, wire, ports, out, chunk) {
             Ok(()) => {}
             Err(failed) => return Err(failed),
@@ -101,7 +105,8 @@ pub fn tell_peaks(
     ensures same_names { names (map view ports.new) ≡ names (map view ports.old) }
     ensures room { room_of chunk.new ≡ room_of chunk.old }
 {
-    for node in 0..engine.core().nodes.len() {
+    let count = engine.core().nodes.len();
+    for node in 0..count {
         match tell_peak(engine, node, ports, out, chunk) {
             Ok(()) => {}
             Err(failed) => return Err(failed),
