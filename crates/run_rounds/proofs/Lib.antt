@@ -14,6 +14,7 @@ pub mod FillingInputs
 pub mod Clearings
 pub mod Tellings
 pub mod Peaks
+pub mod RoundSteps
 pub mod ActSteps
 pub mod LawsOfActs
 pub mod TypedValues

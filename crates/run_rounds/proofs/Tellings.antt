@@ -13,7 +13,7 @@ use Rattle.hume_text.specs.Chunks.{room_of}
 use Rattle.port_acts.specs.Acts.{Act, write_each, writes}
 use Rattle.port_acts.specs.Ends.{Ends, Fails, Made, never}
 use Rattle.port_acts.specs.Places.{IsPlaceOf}
-use Rattle.port_acts.proofs.Failing.{Fails-on, Fails-stop}
+use Rattle.port_acts.proofs.Failing.{Ends-on, Fails-on, Fails-stop}
 use Rattle.port_acts.proofs.Making.{Made-on, Made-start}
 use Rattle.run_rounds.specs.Streams.{std_out}
 use Rattle.run_rounds.specs.TraceLinesStub.{line_there, wire_line}
@@ -119,3 +119,8 @@ pub telling_over : (before ports : List PortView) (acts : List Act) (of : ℕ �
     → count ≡ total → Made (acts ++ write_each (told (flat_map of (range_with_len 0 total)))) [] before ports
 telling_over before ports acts of old chunk count total it all =
     subst (λ k. Made (acts ++ write_each (told (flat_map of (range_with_len 0 k)))) [] before ports) all it.made
+
+-- an act and then lines
+pub then_told : (act : Act) (lines : List (List ℕ)) (olds mids news : List PortView) (result : Result (Unit {0}) Failed) → Made (act ∷ []) [] olds mids
+    → Ends never [] (write_each (told lines)) [] mids news result → Ends never [] (act ∷ write_each (told lines)) [] olds news result
+then_told act lines olds mids news result made ends = Ends-on never [] [] [] (act ∷ []) (write_each (told lines)) olds mids news result made ends

@@ -9,7 +9,7 @@ ghost use Rattle.port_acts.specs.Places.{IsPlaceOf};
 ghost use Rattle.run_rounds.specs.engine.Engines.{core_of, state_of, heap_peak_at, stack_peak_at};
 ghost use Rattle.run_rounds.specs.engine.Runnable.{IsRunnable};
 ghost use Rattle.run_rounds.specs.Streams.{std_out};
-ghost use Rattle.run_rounds.specs.TraceLinesStub.{step_line as line_of_step, line_there, line_room, peak_there, peak_lines};
+ghost use Rattle.run_rounds.specs.TraceLinesStub.{step_line as line_of_step, line_there, line_room, peak_there, peak_lines, wire_lines};
 ghost use Rattle.run_rounds.specs.Writes.{told, superstep_lines, bad_value_line, name_of};
 ghost use Rattle.run_rounds.specs.inner.Telling.{tops};
 
@@ -41,6 +41,24 @@ pub fn tell_superstep(
         Ok(()) => {}
         Err(failed) => return Err(failed),
     }
+    tell_wires(engine, ports, out, chunk)
+}
+
+// Tells what is on each wire.
+fn tell_wires(
+    engine: &Engine,
+    ports: &mut [Box<dyn Port>],
+    out: usize,
+    chunk: &mut Chunk,
+) -> Result<(), Failed>
+    requires runnable { IsRunnable (core_of engine.now) }
+    requires out { IsPlaceOf std_out (names (map view ports.old)) out }
+    requires room { line_room (core_of engine.now) ≤ room_of chunk.old }
+    ensures ends { Ends never [] (write_each (told (wire_lines (core_of engine.now) (on_wire (state_of engine.now))))) []
+        (map view ports.old) (map view ports.new) result }
+    ensures same_names { names (map view ports.new) ≡ names (map view ports.old) }
+    ensures room { room_of chunk.new ≡ room_of chunk.old }
+{
     let count = engine.core().wires.len();
     for wire in 0..count {
         match tell_wire(engine, wire, ports, out, chunk) {
