@@ -15,6 +15,8 @@ pub mod Clearings
 pub mod Tellings
 pub mod Peaks
 pub mod RoundSteps
+pub mod RoundMaking
+pub mod RoundJoins
 pub mod ActSteps
 pub mod LawsOfActs
 pub mod TypedValues

@@ -60,7 +60,7 @@ same_writes core first second same =
     ap (writes_of_node core n (slice_get core.nodes n)) (same n item.0 item.1)))
 
 -- states with the same on all wires are told alike
-same_wires : (core : Core) (earlier later : ℕ → List Value) (piece whole : State) → IsPieceOf core earlier later piece whole
+pub same_wires : (core : Core) (earlier later : ℕ → List Value) (piece whole : State) → IsPieceOf core earlier later piece whole
     → wire_lines core (on_wire piece) ≡ wire_lines core (on_wire whole)
 same_wires core earlier later piece whole it =
     same_flat (λ w. line_there core (on_wire piece w) (slice_get core.wires w)) (λ w. line_there core (on_wire whole w) (slice_get core.wires w)) 0 (length core.wires)

@@ -17,7 +17,7 @@ ghost use Rattle.run_rounds.specs.Streams.{ArePlacesOf, ArePortsApart, std_out};
 ghost use Rattle.run_rounds.specs.TraceLinesStub.{line_room};
 ghost use Rattle.run_rounds.specs.Writes.{span_of, writes_of_nodes};
 ghost use Rattle.run_rounds.specs.inner.Clearing.{Clears};
-ghost use Rattle.run_rounds.specs.inner.Rounding.{told_now, PeaksGrow};
+ghost use Rattle.run_rounds.specs.inner.Rounding.{told_now, wires_now, PeaksGrow};
 ghost use Rattle.run_rounds.specs.inner.Steps.{StandsAfter, EndsRound, EndsRounds};
 
 use crate::bad_line::BadLine;
@@ -142,8 +142,29 @@ fn run_round(
         Ok(()) => {}
         Err(failed) => return Err(failed),
     }
-    if !traced {
-        return Ok(());
+    tell_wires_now(engine, traced, round, ports, out, chunk)
+}
+
+// The superstep of that number and all wires, if they are told.
+fn tell_wires_now(
+    engine: &Engine,
+    traced: bool,
+    round: u32,
+    ports: &mut [Box<dyn Port>],
+    out: usize,
+    chunk: &mut Chunk,
+) -> Result<(), Failed>
+    requires runnable { IsRunnable (core_of engine.now) }
+    requires out { IsPlaceOf std_out (names (map view ports.old)) out }
+    requires lines { line_room (core_of engine.now) ≤ room_of chunk.old }
+    ensures ends { Ends never [] (write_each (wires_now (core_of engine.now) traced round (state_of engine.now))) []
+        (map view ports.old) (map view ports.new) result }
+    ensures same_names { names (map view ports.new) ≡ names (map view ports.old) }
+    ensures room { room_of chunk.new ≡ room_of chunk.old }
+{
+    if traced {
+        tell_superstep(engine, round, ports, out, chunk)
+    } else {
+        Ok(())
     }
-    tell_superstep(engine, round, ports, out, chunk)
 }
