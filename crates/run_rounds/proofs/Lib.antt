@@ -17,6 +17,8 @@ pub mod Peaks
 pub mod RoundSteps
 pub mod RoundMaking
 pub mod RoundJoins
+pub mod RunEnds
+pub mod RunStarts
 pub mod ActSteps
 pub mod LawsOfActs
 pub mod TypedValues
