@@ -19,6 +19,7 @@ pub mod RoundMaking
 pub mod RoundJoins
 pub mod RunEnds
 pub mod RunStarts
+pub mod WantsOfRounds
 pub mod ActSteps
 pub mod LawsOfActs
 pub mod TypedValues
