@@ -33,8 +33,7 @@ flat_further f from count zero =
     ([], ap (λ k. flat_map f (range_with_len from k)) none ∙ sym (append-nil (flat_map f (range_with_len from count))))
 flat_further f from count (suc more) =
     let next : count + suc more ≡ suc (count + more) = omega arith in
-    let earlier = flat_further f from count more in
-    (
+    let earlier = flat_further f from count more in (
       earlier.0 ++ f (from + (count + more)),
       ap (λ k. flat_map f (range_with_len from k)) next
           ∙ flat_more f from (count + more)

@@ -46,7 +46,7 @@ module _ (core : Core) (queues after : ℕ → QueueView) (want n m : ℕ) (valu
   begin_kept (inl enough) = inl (subst (λ (list : List Value). want ≤ length list) (sym same_coming) enough)
   begin_kept (inr all) =
       let P : List Value → Type 0 = λ coming. (text : List ℕ) (gone : List Value) → IsQueueOf core.types (type_at core m) (after m) text (gone ++ coming) []
-          → IsGoodUntil core.types (type_at core m) text (gone ++ coming) None in
+      → IsGoodUntil core.types (type_at core m) text (gone ++ coming) None in
       inr (record {
         ended = ap (λ (q : QueueView). q.ended) same ∙ all.ended;
         all = subst P (sym same_coming) (λ text gone right. all.all text gone
@@ -84,7 +84,7 @@ module _ (core : Core) (names : HaveNames core.types) (apart : ArePortsApart cor
   told_more olds news given told progress ended m other there now = elim (same_or_other m n) [
     | inl same ↦ (
         let P : ℕ → Type 0 = λ k. (o : StreamC) → slice_get core.nodes k ≡ Some (From o) → (after k).ended ≡ true
-            → IfSome (left_of o.port olds) (λ left. left ≡ bytes_for o.port More) in
+        → IfSome (left_of o.port olds) (λ left. left ≡ bytes_for o.port More) in
         let here : P n = λ o at over. (
         let one : ◌≡◌ {A = Option NodeC} (Some (From stream)) (Some (From o)) = sym is ∙ at in
         let port : stream.port ≡ o.port = cc in

@@ -102,7 +102,16 @@ fn make_round(
         Ok(Some(bad)) => return Ok(Some(bad)),
         Err(failed) => return Err(failed),
     }
-    match run_round(engine, traced, done + 1, supersteps, ports, places, out, chunk) {
+    match run_round(
+        engine,
+        traced,
+        done + 1,
+        supersteps,
+        ports,
+        places,
+        out,
+        chunk,
+    ) {
         Ok(()) => Ok(None),
         Err(failed) => Err(failed),
     }

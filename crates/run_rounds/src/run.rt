@@ -24,8 +24,8 @@ use hume_base::limits::MAX_TYPE_WORDS;
 use hume_model::Core;
 use hume_ports::{Failed, Port};
 use hume_text::Chunk;
-use wiring_check::Wiring;
 use std::alloc::{AllocError, Global};
+use wiring_check::Wiring;
 
 // No text of a value is longer than so many bytes for each of its words.
 const WORD_BYTES: u32 = 512;
@@ -94,12 +94,26 @@ impl Running {
         ensures ends { EndsRun (core_in self.old) (traced_in self.old) steps (map view ports.old) (map view ports.new) result }
         ensures same_names { names (map view ports.new) ≡ names (map view ports.old) }
     {
-        match make_rounds(&mut self.engine, self.traced, steps, ports, places, out, &mut self.chunk) {
+        match make_rounds(
+            &mut self.engine,
+            self.traced,
+            steps,
+            ports,
+            places,
+            out,
+            &mut self.chunk,
+        ) {
             Ok(None) => match tell_peaks(&self.engine, ports, out, &mut self.chunk) {
                 Ok(()) => Ok(false),
                 Err(failed) => Err(failed),
             },
-            Ok(Some(bad)) => match tell_bad_line(self.engine.core(), bad, ports, out, &mut self.chunk) {
+            Ok(Some(bad)) => match tell_bad_line(
+                self.engine.core(),
+                bad,
+                ports,
+                out,
+                &mut self.chunk,
+            ) {
                 Ok(()) => Ok(true),
                 Err(failed) => Err(failed),
             },

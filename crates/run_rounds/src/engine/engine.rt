@@ -31,9 +31,9 @@ use hume_net::State;
 use hume_ports::{Failed, Port};
 use hume_streams::{FillError, InQueue};
 use hume_text::Chunk;
+use std::alloc::{AllocError, Global};
 use wire_cells::WireCell;
 use wiring_check::Wiring;
-use std::alloc::{AllocError, Global};
 
 /// A running net of cells.
 #[derive(Drop)]

@@ -32,7 +32,7 @@ returns-clause-ends g c =
     let s = output_there (core_of c.args.engine.now) c.args.node output in
     output_ends (core_of c.args.engine.now) c.args.node s.0 _ _ _ _ s.1
     (for_port (λ name. Ends never [] (write_each (line_writes name (core_of c.args.engine.now).types (type_at (core_of c.args.engine.now) c.args.node)
-        (part_of (state_of c.args.engine.now) c.args.node).taken)) [] _ _ _) s.0 _ c.args.at (c.requires.place s.0 s.1) c.drain.ensures.ends)
+    (part_of (state_of c.args.engine.now) c.args.node).taken)) [] _ _ _) s.0 _ c.args.at (c.requires.place s.0 s.1) c.drain.ensures.ends)
 
 pub returns-clause-clears : goal.returns-clause-clears
 returns-clause-clears g c =
