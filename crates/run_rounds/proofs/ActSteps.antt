@@ -1,18 +1,18 @@
 -- The acts of a run, read by read and round by round.
-use Rattle.std.proofs.Common.{◌≡◌, ◌⊎◌, ℕ, zero, suc, ◌+◌, ◌-◌, ◌<◌, ◌≤◌, Bool, true, false, true≢false, List, [], ◌∷◌, ◌++◌, length, Option, None, Some, slice_get, refl, ap, sym, ◌∙◌, subst, inl, inr, arith}
+use Rattle.std.proofs.Common.{◌≡◌, ◌⊎◌, ℕ, suc, ◌+◌, ◌-◌, ◌<◌, ◌≤◌, Bool, true, false, true≢false, List, [], ◌∷◌, ◌++◌, length, Option, None, Some, slice_get, refl, ap, sym, ◌∙◌, inl, inr, arith}
 use Rattle.std.proofs.lemmas.Bool.{cases_lt}
 use Rattle.std.proofs.lemmas.List.{append_assoc}
 use Rattle.std.specs.Option.{is_some}
 use Rattle.hume_base.specs.declared.types.Value.{Value}
 use Rattle.hume_model.specs.declared.core_tree.Core.{Core}
-use Rattle.hume_net.specs.rounds.Blocked.{blocks, blocking}
+use Rattle.hume_net.specs.rounds.Blocked.{blocks}
 use Rattle.hume_net.specs.rounds.Rounds.{IsRound, rounds_of}
 use Rattle.hume_net.proofs.rounds_lemmas.RoundCounts.{round_counted}
 use Rattle.port_acts.specs.Acts.{Act, write_each}
 use Rattle.run_rounds.specs.Inputs.{Inputs, is_bad}
 use Rattle.run_rounds.specs.Writes.{span_of, blocked_by, blocked_round, bad_value_writes, peak_writes}
 use Rattle.run_rounds.specs.RunActs.{acts_until, blocked_acts, reading, round_wants, rounds_acts, run_acts, wants_of_node, writing}
-use Rattle.run_rounds.proofs.FirstFound.{found, some_found}
+use Rattle.run_rounds.proofs.FirstFound.{found}
 use Rattle.run_rounds.proofs.Ranges.{flat_more, flat_within}
 
 pub some_span : (traced : Bool) → 1 ≤ span_of traced

@@ -1,5 +1,5 @@
 -- Output streams that are written and cleared one after another.
-use Rattle.std.proofs.Common.{◌≡◌, ◌⊎◌, ℕ, zero, suc, ◌+◌, ◌<◌, ◌≤◌, List, [], ◌∷◌, ◌++◌, length, get_or, Option, None, Some, slice_get, slice_set, Result, Ok, Err, OnOk, refl, ap, sym, ◌∙◌, subst, inl, inr, arith, append-nil}
+use Rattle.std.proofs.Common.{◌≡◌, ◌⊎◌, ℕ, zero, suc, ◌+◌, ◌<◌, ◌≤◌, List, [], ◌∷◌, ◌++◌, length, get_or, Option, None, Some, slice_get, slice_set, Result, Ok, Err, OnOk, refl, ap, sym, ◌∙◌, subst, inl, inr, arith}
 use Rattle.std.proofs.lemmas.List.{map-append}
 use Rattle.std.proofs.lemmas.Option.{slice_get_within, slice_get-get_or}
 use Rattle.std.specs.List.{flat_map, range_with_len}
@@ -16,7 +16,7 @@ use Rattle.hume_net.specs.rounds.Pieces.{IsPieceOf, listed}
 use Rattle.hume_net.proofs.rounds_lemmas.OneNode.{cleared_one}
 use Rattle.hume_ports.specs.declared.port.Failed.{Failed}
 use Rattle.hume_ports.specs.Port.{PortView}
-use Rattle.hume_ports.specs.Ports.{names, place_of, ForNameAt}
+use Rattle.hume_ports.specs.Ports.{names}
 use Rattle.hume_ports.specs.Delivery.{Pairs}
 use Rattle.hume_streams.specs.places.LineWrites.{line_writes}
 use Rattle.hume_text.specs.declared.chunk.Chunk.{Chunk}
@@ -28,13 +28,12 @@ use Rattle.port_acts.proofs.Failing.{Fails-on, Fails-stop}
 use Rattle.port_acts.proofs.Making.{Made-on, Made-start}
 use Rattle.run_rounds.specs.declared.engine.engine.Engine.{Engine}
 use Rattle.run_rounds.specs.engine.Engines.{core_of, queue_at, span_of, state_of, ArePeaksKept}
-use Rattle.run_rounds.specs.engine.Runnable.{IsRunnable}
 use Rattle.run_rounds.specs.engine.StreamTypes.{type_at}
 use Rattle.run_rounds.specs.Streams.{ArePlacesOf}
 use Rattle.run_rounds.specs.Writes.{writes_of_node, writes_of_nodes}
 use Rattle.run_rounds.specs.inner.Clearing.{Clears, ClearsNode}
 use Rattle.run_rounds.proofs.Fed.{same_or_other}
-use Rattle.run_rounds.proofs.FillingInputs.{before_or_last, for_port}
+use Rattle.run_rounds.proofs.FillingInputs.{before_or_last}
 use Rattle.run_rounds.proofs.Ranges.{flat_more, flat_within}
 use Rattle.run_rounds.proofs.Standings.{item_at, length_set, parts_of}
 use Rattle.run_rounds.proofs.Stepping.{set_elsewhere}

@@ -1,7 +1,7 @@
 -- Input streams that are filled one after another.
 use Rattle.std.proofs.Common.{◌≡◌, ◌⊎◌, ℕ, zero, suc, ◌+◌, ◌<◌, ◌≤◌, min, Bool, List, [], ◌∷◌, ◌++◌, length, get_or, Option, None, Some, slice_get, Result, Ok, Err, refl, ap, sym, ◌∙◌, subst, inl, inr, arith, append-nil}
 use Rattle.std.proofs.lemmas.Bool.{cases_lt}
-use Rattle.std.proofs.lemmas.Option.{slice_get-get_or, slice_get_within}
+use Rattle.std.proofs.lemmas.Option.{slice_get-get_or}
 use Rattle.hume_base.specs.declared.types.Value.{Value}
 use Rattle.hume_model.specs.declared.core_tree.NodeC.{NodeC}
 use Rattle.hume_model.specs.declared.core_tree.NodeC.TheVariants.{Rules, From, To}
@@ -17,7 +17,6 @@ use Rattle.hume_streams.specs.declared.queue.FillError.{FillError}
 use Rattle.hume_streams.specs.declared.queue.FillError.TheVariants.{BadValue}
 use Rattle.hume_streams.specs.Good.{IsGoodUntil}
 use Rattle.hume_streams.specs.Queues.{IsQueueOf}
-use Rattle.run_rounds.specs.declared.bad_line.BadLine.{BadLine}
 use Rattle.run_rounds.specs.declared.engine.engine.Engine.{Engine}
 use Rattle.run_rounds.specs.engine.Engines.{core_of, coming_at, queue_at, state_of, span_of as room_of, ArePeaksKept}
 use Rattle.run_rounds.specs.engine.NodeFills.{FillsNode, HasEnough, HasReadAll}
@@ -27,7 +26,7 @@ use Rattle.run_rounds.specs.RunActs.{round_wants, rounds_acts, wants_of_node}
 use Rattle.run_rounds.specs.Streams.{ArePlacesOf, ArePortsApart}
 use Rattle.run_rounds.specs.Writes.{span_of}
 use Rattle.run_rounds.specs.inner.Beginning.{MayBegin}
-use Rattle.run_rounds.specs.inner.Steps.{Stands, StandsBlocked, StandsFilling, EndsFills, EndsNode, filling_acts}
+use Rattle.run_rounds.specs.inner.Steps.{StandsBlocked, StandsFilling, EndsFills, EndsNode, filling_acts}
 use Rattle.run_rounds.proofs.ActSteps.{wants_more}
 use Rattle.run_rounds.proofs.Comings.{inputs_are}
 use Rattle.run_rounds.proofs.Wanting.{stands_wanted, still_begins}

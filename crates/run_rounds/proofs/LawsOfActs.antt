@@ -1,5 +1,5 @@
 -- What the acts of a run write and finish, and where its wants stand.
-use Rattle.std.proofs.Common.{◌≡◌, ◌⊎◌, ℕ, zero, suc, ◌+◌, ◌-◌, Bool, List, [], ◌∷◌, ◌++◌, Option, None, Some, refl, ap, sym, ◌∙◌}
+use Rattle.std.proofs.Common.{◌≡◌, ◌⊎◌, ℕ, ◌+◌, ◌-◌, Bool, List, [], ◌∷◌, ◌++◌, Option, None, Some, refl, ap, ◌∙◌}
 use Rattle.std.specs.List.{flat_map, range_with_len}
 use Rattle.std.proofs.lemmas.Grind.{flat_map-append}
 use Rattle.hume_base.specs.declared.types.Value.{Value}
@@ -8,7 +8,7 @@ use Rattle.hume_model.specs.declared.core_tree.NodeC.TheVariants.{Rules, From, T
 use Rattle.hume_model.specs.declared.core_tree.Core.{Core}
 use Rattle.hume_net.specs.rounds.Rounds.{rounds_of}
 use Rattle.hume_ports.specs.Delivery.{Pairs}
-use Rattle.port_acts.specs.Acts.{Act, finished, finished_by, written, written_by, write_each}
+use Rattle.port_acts.specs.Acts.{Act, finished, finished_by, written, write_each}
 use Rattle.port_acts.proofs.ActLists.{written-append}
 use Rattle.port_acts.proofs.Each.{all_written, writes_finish_nothing}
 use Rattle.run_rounds.specs.Inputs.{Inputs}

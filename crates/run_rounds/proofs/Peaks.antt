@@ -1,6 +1,5 @@
 -- The peaks of a round of a piece are those of the whole run.
-use Rattle.std.proofs.Common.{◌≡◌, ℕ, zero, suc, ◌+◌, ◌<◌, ◌≤◌, max, cond, List, [], ◌∷◌, map, Option, None, Some, slice_get, refl, ap, sym, ◌∙◌, subst, arith}
-use Rattle.std.specs.List.{range_with_len}
+use Rattle.std.proofs.Common.{◌≡◌, ℕ, zero, suc, ◌+◌, ◌<◌, ◌≤◌, max, cond, List, [], ◌∷◌, map, Some, slice_get, refl, ap, sym, ◌∙◌, subst, arith}
 use Rattle.std.specs.Option.{is_some}
 use Rattle.hume_base.specs.declared.types.Value.{Value}
 use Rattle.hume_model.specs.declared.core_tree.NodeC.{NodeC}
@@ -9,7 +8,7 @@ use Rattle.hume_model.specs.declared.core_tree.Core.{Core}
 use Rattle.hume_net.specs.declared.state.State.{State}
 use Rattle.hume_net.specs.HalfSteps.{oldest}
 use Rattle.hume_net.specs.Lockstep.{lockstep}
-use Rattle.hume_net.specs.Sides.{inputs, part_of}
+use Rattle.hume_net.specs.Sides.{inputs}
 use Rattle.hume_net.specs.rounds.Pieces.{IsFilled, IsPieceOf}
 use Rattle.hume_net.proofs.rounds_lemmas.PieceSteps.{filled_less, lockstep_piece}
 use Rattle.box_costs.specs.declared.cost.Cost.{Cost}

@@ -1,6 +1,5 @@
 -- The fills and the supersteps of a round, in turn.
-use Rattle.std.proofs.Common.{◌≡◌, ℕ, suc, ◌-◌, ◌*◌, min, Bool, List, [], length, None, Some, Result, Ok, Err, OnOk, ap, sym, ◌∙◌, subst, refl}
-use Rattle.hume_base.specs.declared.types.Value.{Value}
+use Rattle.std.proofs.Common.{◌≡◌, ℕ, suc, ◌-◌, ◌*◌, min, Bool, List, [], length, Result, Ok, Err, ap, sym, ◌∙◌, subst, refl}
 use Rattle.hume_model.specs.declared.core_tree.Core.{Core}
 use Rattle.hume_net.specs.Lockstep.{lockstep}
 use Rattle.hume_net.specs.Nodes.{IsOutputStream}

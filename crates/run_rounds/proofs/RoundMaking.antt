@@ -1,33 +1,31 @@
 -- The supersteps of a round, its writes, and what is told of its wires, in turn.
-use Rattle.std.proofs.Common.{◌≡◌, ℕ, zero, suc, ◌+◌, ◌-◌, ◌*◌, ◌<◌, ◌≤◌, max, min, Bool, true, false, List, [], ◌∷◌, ◌++◌, length, Option, None, Some, slice_get, Result, Ok, Err, OnOk, refl, ap, sym, ◌∙◌, subst, arith, append-nil}
+use Rattle.std.proofs.Common.{◌≡◌, ℕ, suc, ◌+◌, ◌-◌, ◌*◌, ◌<◌, ◌≤◌, max, min, Bool, true, false, List, [], ◌∷◌, ◌++◌, Option, None, Some, slice_get, Result, Ok, Err, OnOk, refl, ap, sym, ◌∙◌, subst, arith, append-nil}
 use Rattle.hume_base.specs.declared.types.Value.{Value}
 use Rattle.hume_model.specs.declared.core_tree.NodeC.{NodeC}
 use Rattle.hume_model.specs.declared.core_tree.Core.{Core}
-use Rattle.hume_net.specs.declared.state.Part.{Part}
 use Rattle.hume_net.specs.declared.state.State.{State}
 use Rattle.hume_net.specs.Lockstep.{lockstep}
 use Rattle.hume_net.specs.Nodes.{IsOutput, IsOutputStream}
 use Rattle.hume_net.specs.Parts.{IsStateOf}
-use Rattle.hume_net.specs.Sides.{on_wire, part_of}
+use Rattle.hume_net.specs.Sides.{part_of}
 use Rattle.hume_net.specs.rounds.Pieces.{IsPieceOf, nothing}
 use Rattle.hume_net.specs.rounds.Rounds.{IsRound, length_of, rounds_of}
 use Rattle.hume_net.proofs.StatePlaces.{lockstep_state}
 use Rattle.hume_net.proofs.rounds_lemmas.RoundCounts.{counted_round}
 use Rattle.hume_ports.specs.declared.port.Failed.{Failed}
 use Rattle.hume_ports.specs.Port.{PortView}
-use Rattle.hume_ports.specs.Delivery.{Pairs}
 use Rattle.net_costs.specs.Steps.{peaks}
 use Rattle.port_acts.specs.Acts.{Act, write_each}
 use Rattle.port_acts.specs.Ends.{Ends, Fails, Made, never}
 use Rattle.port_acts.proofs.Failing.{Ends-on, Fails-stop}
 use Rattle.run_rounds.specs.declared.bad_line.BadLine.{BadLine}
 use Rattle.run_rounds.specs.declared.engine.engine.Engine.{Engine}
-use Rattle.run_rounds.specs.engine.Engines.{core_of, heap_peak_at, stack_peak_at, span_of as room_of, state_of, ArePeaksKept}
+use Rattle.run_rounds.specs.engine.Engines.{core_of, heap_peak_at, stack_peak_at, state_of, ArePeaksKept}
 use Rattle.run_rounds.specs.TraceLinesStub.{step_line}
 use Rattle.run_rounds.specs.Writes.{span_of, told, writes_of_nodes}
 use Rattle.run_rounds.specs.inner.Clearing.{Clears}
 use Rattle.run_rounds.specs.inner.Rounding.{PeaksGrow, told_now, wires_now}
-use Rattle.run_rounds.specs.inner.Steps.{Stands, StandsAfter, StandsBlocked, StandsFilling, EndsFills, EndsRound, EndsRounds, HaltsBefore, filling_acts}
+use Rattle.run_rounds.specs.inner.Steps.{Stands, StandsAfter, StandsFilling, EndsFills, EndsRound, EndsRounds, HaltsBefore}
 use Rattle.hume_ports.specs.Ports.{names}
 use Rattle.hume_text.specs.declared.chunk.Chunk.{Chunk}
 use Rattle.hume_text.specs.Chunks.{room_of as in_all}

@@ -8,12 +8,11 @@ use Rattle.hume_model.specs.declared.core_tree.StreamC.{StreamC}
 use Rattle.hume_model.specs.declared.core_tree.Core.{Core}
 use Rattle.hume_net.specs.declared.state.State.{State}
 use Rattle.hume_net.specs.Lockstep.{lockstep}
-use Rattle.hume_net.specs.Nodes.{IsOutputStream}
 use Rattle.hume_net.specs.Sides.{on_wire, part_of}
 use Rattle.hume_net.specs.Start.{start}
 use Rattle.hume_net.specs.rounds.Blocked.{blocking}
 use Rattle.hume_net.specs.rounds.Pieces.{IsFilled, IsPieceOf}
-use Rattle.hume_net.specs.rounds.Rounds.{IsRound, begins, ends, length_of, made as after_rounds, rounds_of}
+use Rattle.hume_net.specs.rounds.Rounds.{begins, ends, length_of, made as after_rounds}
 use Rattle.hume_net.specs.rounds.Streams.{gained}
 use Rattle.hume_net.proofs.rounds_lemmas.Blocking.{nothing_blocks}
 use Rattle.hume_net.proofs.rounds_lemmas.RoundCounts.{made_more, round_counted, round_ends}
@@ -22,7 +21,6 @@ use Rattle.hume_net.proofs.rounds_lemmas.Streams.{others_take_nothing}
 use Rattle.hume_ports.specs.declared.port.Failed.{Failed}
 use Rattle.hume_ports.specs.Port.{PortView}
 use Rattle.hume_ports.specs.Delivery.{Pairs}
-use Rattle.hume_streams.specs.Queues.{QueueView}
 use Rattle.port_acts.specs.Acts.{Act, write_each}
 use Rattle.port_acts.specs.Ends.{Ends, Fails, Made, never}
 use Rattle.port_acts.proofs.Failing.{Fails-any, Fails-on, Fails-stop}
@@ -33,22 +31,22 @@ use Rattle.run_rounds.specs.declared.engine.engine.Engine.{Engine}
 use Rattle.run_rounds.specs.engine.Engines.{core_of, queue_at, state_of, span_of as room_of, heap_peak_at, stack_peak_at}
 use Rattle.run_rounds.specs.engine.Runnable.{IsRunnable}
 use Rattle.run_rounds.specs.Inputs.{Inputs, is_bad}
-use Rattle.run_rounds.specs.RunActs.{reading, rounds_acts, run_acts, run_few, writing}
+use Rattle.run_rounds.specs.RunActs.{reading, rounds_acts, run_acts, run_few}
 use Rattle.run_rounds.specs.Runs.{FailsToRun}
 use Rattle.run_rounds.specs.TraceLinesStub.{line_there, step_line, wire_lines}
-use Rattle.run_rounds.specs.Writes.{gained_writes, round_writes, span_of, superstep_lines, told, trace_writes, writes_of_node, writes_of_nodes}
+use Rattle.run_rounds.specs.Writes.{gained_writes, round_writes, span_of, told, trace_writes, writes_of_node, writes_of_nodes}
 use Rattle.run_rounds.specs.inner.Beginning.{MayBegin}
 use Rattle.run_rounds.specs.inner.Clearing.{Clears}
 use Rattle.run_rounds.specs.inner.Reading.{MayCome, later_of}
 use Rattle.run_rounds.specs.inner.Rounding.{PeaksGrow, told_now, wires_now}
 use Rattle.run_rounds.specs.inner.Standing.{AreUnblocked, EndsAreTold, IsAfter, IsCleared, IsPeak, IsPieceAt}
-use Rattle.run_rounds.specs.inner.Steps.{Stands, StandsAfter, StandsFilling, EndsRound, filling_acts}
+use Rattle.run_rounds.specs.inner.Steps.{Stands, StandsAfter, StandsFilling, filling_acts}
 use Rattle.run_rounds.proofs.ActSteps.{rounds_more, some_span, unblocked_first}
 use Rattle.run_rounds.proofs.Clearings.{output_or_not}
 use Rattle.run_rounds.proofs.Filled.{is_filled}
 use Rattle.run_rounds.proofs.Peaks.{peaks_alike, peaks_together}
 use Rattle.run_rounds.proofs.Ranges.{same_flat}
-use Rattle.run_rounds.proofs.Standings.{begun, comes, goes_on, item_at, may, parts_of}
+use Rattle.run_rounds.proofs.Standings.{begun, comes, goes_on, item_at, may}
 use Rattle.run_rounds.proofs.Tellings.{item_in}
 
 -- nodes that have taken the same write the same

@@ -1,5 +1,5 @@
 -- How a run ends: all its rounds are made and peaks are told, or a bad line halts it and is told.
-use Rattle.std.proofs.Common.{◌≡◌, ℕ, zero, suc, ◌+◌, ◌-◌, ◌*◌, ◌<◌, ◌≤◌, ◌^◌, min, Bool, true, false, List, [], ◌∷◌, ◌++◌, length, Option, None, Some, slice_get, Result, Ok, Err, refl, ap, sym, ◌∙◌, subst, inl, arith, append_assoc, append-nil, length-append}
+use Rattle.std.proofs.Common.{◌≡◌, ℕ, suc, ◌+◌, ◌-◌, ◌*◌, ◌<◌, ◌≤◌, ◌^◌, min, Bool, true, false, List, [], ◌∷◌, ◌++◌, length, Option, None, Some, slice_get, Result, Ok, Err, refl, ap, sym, ◌∙◌, subst, arith, append_assoc, append-nil, length-append}
 use Rattle.std.proofs.lemmas.Option.{slice_get_within}
 use Rattle.std.proofs.Math.Nat.{min-eq_left}
 use Rattle.std.specs.Option.{is_some, unwrap_or}
@@ -40,7 +40,7 @@ use Rattle.run_rounds.specs.RunActs.{acts_until, blocked_acts, round_wants, roun
 use Rattle.run_rounds.specs.Runs.{Comes, FailsToRun, RunsTo}
 use Rattle.run_rounds.specs.Streams.{std_out}
 use Rattle.run_rounds.specs.TraceLinesStub.{peak_line, peak_lines, peak_there}
-use Rattle.run_rounds.specs.Writes.{bad_value_line, bad_value_writes, blocked_by, blocked_round, name_of, peak_writes, span_of, told}
+use Rattle.run_rounds.specs.Writes.{bad_value_line, blocked_by, blocked_round, name_of, peak_writes, span_of, told}
 use Rattle.run_rounds.specs.inner.Reading.{MayCome, later_of}
 use Rattle.run_rounds.specs.inner.Steps.{EndsRounds, HaltsBefore, LacksAt, Stands, StandsAfter, StandsBlocked, filling_acts}
 use Rattle.run_rounds.specs.inner.Telling.{tops}

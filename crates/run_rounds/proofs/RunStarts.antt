@@ -1,14 +1,11 @@
 -- Where a run stands before its first round.
-use Rattle.std.proofs.Common.{◌≡◌, ℕ, ◌<◌, ◌≤◌, Bool, true, false, List, [], Option, slice_get, refl, ap, sym, ◌∙◌, subst, arith}
-use Rattle.hume_base.specs.declared.types.Value.{Value}
-use Rattle.hume_model.specs.declared.core_tree.NodeC.{NodeC}
+use Rattle.std.proofs.Common.{◌≡◌, ℕ, ◌<◌, ◌≤◌, Bool, true, false, List, [], refl, ap, sym, ◌∙◌, subst, arith}
 use Rattle.hume_model.specs.declared.core_tree.Core.{Core}
 use Rattle.hume_net.specs.declared.state.State.{State}
 use Rattle.hume_net.specs.Lockstep.{lockstep}
 use Rattle.hume_net.specs.Parts.{IsStateOf}
 use Rattle.hume_net.specs.Sides.{part_of}
 use Rattle.hume_net.specs.Start.{start, no_values}
-use Rattle.hume_net.specs.StatePlaces.{HasPlaces}
 use Rattle.hume_net.specs.rounds.Pieces.{IsPieceOf, nothing}
 use Rattle.hume_net.specs.rounds.Rounds.{made}
 use Rattle.hume_net.proofs.StatePlaces.{lockstep_places}
@@ -17,18 +14,17 @@ use Rattle.hume_net.proofs.rounds_lemmas.RoundCounts.{none_made}
 use Rattle.hume_net.proofs.rounds_lemmas.Rounds.{start_piece}
 use Rattle.std.proofs.lemmas.List.FromFn.{length-map-range_with_len}
 use Rattle.hume_ports.specs.Port.{PortView}
-use Rattle.hume_streams.specs.Queues.{QueueView, IsQueueOf}
+use Rattle.hume_streams.specs.Queues.{QueueView}
 use Rattle.net_costs.specs.Steps.{peaks}
 use Rattle.net_costs.proofs.Peaks.{no_peak}
 use Rattle.box_costs.specs.declared.cost.Cost.{Cost}
 use Rattle.port_acts.proofs.Making.{Made-start}
 use Rattle.run_rounds.specs.declared.engine.engine.Engine.{Engine}
 use Rattle.run_rounds.specs.engine.Engines.{queue_at, state_of}
-use Rattle.run_rounds.specs.engine.StreamTypes.{type_at}
 use Rattle.run_rounds.specs.Inputs.{Inputs}
 use Rattle.run_rounds.specs.Opened.{IsFresh}
 use Rattle.run_rounds.specs.Writes.{span_of}
-use Rattle.run_rounds.specs.inner.Reading.{HasRead, MayCome, later_of}
+use Rattle.run_rounds.specs.inner.Reading.{HasRead, later_of}
 use Rattle.run_rounds.specs.inner.Standing.{IsCleared, IsPeak, IsPieceAt}
 use Rattle.run_rounds.specs.inner.Steps.{StandsAfter}
 use Rattle.run_rounds.proofs.Comings.{inputs_are}

@@ -1,5 +1,5 @@
 -- What is known of a run where it stands: what may come, how many values are wanted, and whether streams block the next round.
-use Rattle.std.proofs.Common.{◌≡◌, ℕ, zero, suc, ◌+◌, ◌-◌, ◌<◌, ◌≤◌, Bool, true, false, List, [], ◌∷◌, ◌++◌, length, None, Some, slice_get, slice_set, ap, sym, ◌∙◌, subst, inl, arith, length-append, refl}
+use Rattle.std.proofs.Common.{◌≡◌, ℕ, zero, suc, ◌+◌, ◌-◌, ◌<◌, ◌≤◌, Bool, false, List, [], ◌∷◌, ◌++◌, length, Some, slice_get, slice_set, ap, sym, ◌∙◌, subst, inl, arith, length-append, refl}
 use Rattle.hume_base.specs.declared.types.Value.{Value}
 use Rattle.hume_model.specs.declared.core_tree.NodeC.{NodeC}
 use Rattle.hume_model.specs.declared.core_tree.NodeC.TheVariants.{From}
@@ -9,9 +9,8 @@ use Rattle.hume_net.specs.declared.state.State.{State}
 use Rattle.hume_net.specs.Lockstep.{lockstep}
 use Rattle.hume_net.specs.Nodes.{HasParts}
 use Rattle.hume_net.specs.Parts.{IsStateOf}
-use Rattle.hume_net.specs.Sides.{part_of}
 use Rattle.hume_net.specs.Start.{start}
-use Rattle.hume_net.specs.rounds.Blocked.{blocks, blocking}
+use Rattle.hume_net.specs.rounds.Blocked.{blocks}
 use Rattle.hume_net.specs.rounds.Pieces.{IsPieceOf}
 use Rattle.hume_net.specs.rounds.Rounds.{IsRound, begins, length_of, made}
 use Rattle.hume_net.specs.rounds.Streams.{asserted_between}
@@ -26,7 +25,7 @@ use Rattle.run_rounds.specs.engine.StreamTypes.{type_at}
 use Rattle.run_rounds.specs.Inputs.{Inputs, AreInputs, is_bad}
 use Rattle.run_rounds.specs.RunActs.{needed}
 use Rattle.run_rounds.specs.Runs.{Comes}
-use Rattle.run_rounds.specs.Writes.{span_of, blocked_by}
+use Rattle.run_rounds.specs.Writes.{span_of}
 use Rattle.run_rounds.specs.inner.Beginning.{MayBegin}
 use Rattle.run_rounds.specs.inner.Reading.{MayCome, later_of}
 use Rattle.run_rounds.specs.inner.Steps.{Stands}

@@ -23,7 +23,7 @@ use Rattle.run_rounds.specs.Streams.{ArePortsApart}
 use Rattle.run_rounds.specs.Inputs.{Inputs}
 use Rattle.run_rounds.specs.inner.Reading.{HasRead, MayCome}
 use Rattle.run_rounds.specs.inner.Standing.{IsAfter, EndsAreTold}
-use Rattle.run_rounds.specs.inner.Beginning.{HasAllRead, MayBegin}
+use Rattle.run_rounds.specs.inner.Beginning.{MayBegin}
 use Rattle.run_rounds.proofs.Fed.{before, more, with_values, read_more, piece_fed, same_or_other, own_bytes, same_bytes}
 
 pub set_elsewhere : (lists : List (List Value)) (n m : ℕ) (list : List Value) → (m ≡ n → ⊥) → listed (slice_set lists n list) m ≡ listed lists m

@@ -1,5 +1,5 @@
 -- One want of a run: it is made, or its read fails.
-use Rattle.std.proofs.Common.{◌≡◌, ℕ, zero, suc, ◌+◌, ◌-◌, ◌<◌, ◌≤◌, Bool, true, false, List, [], ◌∷◌, ◌++◌, length, map, Option, None, Some, slice_get, slice_set, slice_index_or, Result, Err, refl, ap, sym, ◌∙◌, subst, arith, append_assoc, append-nil, length-append}
+use Rattle.std.proofs.Common.{◌≡◌, ℕ, zero, suc, ◌+◌, ◌-◌, ◌<◌, ◌≤◌, Bool, true, false, List, [], ◌∷◌, ◌++◌, length, Option, None, Some, slice_get, slice_set, slice_index_or, Result, Err, refl, ap, sym, ◌∙◌, subst, arith, append_assoc, length-append}
 use Rattle.std.proofs.lemmas.List.{length-map}
 use Rattle.std.proofs.lemmas.Option.{slice_get_within}
 use Rattle.std.specs.Option.{unwrap_or}
@@ -12,13 +12,13 @@ use Rattle.hume_model.specs.declared.core_tree.Core.{Core}
 use Rattle.hume_net.specs.declared.state.State.{State}
 use Rattle.hume_net.specs.Parts.{IsStateOf}
 use Rattle.hume_net.specs.Sides.{part_of}
-use Rattle.hume_net.specs.rounds.Rounds.{IsRound, length_of, made as after_rounds}
+use Rattle.hume_net.specs.rounds.Rounds.{made as after_rounds}
 use Rattle.hume_ports.specs.Port.{PortView}
 use Rattle.hume_ports.specs.Ports.{Untouched}
 use Rattle.hume_ports.specs.Delivery.{Pairs, Progress, Roomy, bytes_for}
 use Rattle.hume_ports.proofs.Names.{bytes_for-append, bytes_for-one}
 use Rattle.port_acts.specs.Acts.{Act, wants}
-use Rattle.port_acts.specs.Ends.{Made, Fails}
+use Rattle.port_acts.specs.Ends.{Made}
 use Rattle.port_acts.proofs.Failing.{then_fails}
 use Rattle.port_acts.proofs.Making.{Made-on}
 use Rattle.port_acts.proofs.Single.{only_of, want_fails, want_made}
@@ -45,7 +45,7 @@ use Rattle.run_rounds.specs.inner.Standing.{IsAfter, IsPeak}
 use Rattle.run_rounds.specs.inner.Steps.{Stands, StandsFilling, filling_acts}
 use Rattle.run_rounds.proofs.ActSteps.{want_next, wants_more}
 use Rattle.run_rounds.proofs.EngineFacts.{queues_show_no_values}
-use Rattle.run_rounds.proofs.Fed.{before, more, with_values}
+use Rattle.run_rounds.proofs.Fed.{before, with_values}
 use Rattle.run_rounds.proofs.Standings.{comes, count_is, goes_on, inputs, length_set, may, parts_of, shares}
 use Rattle.run_rounds.proofs.Stepping.{after_fed, begin_kept, told_more}
 

@@ -1,7 +1,6 @@
 -- Where the wants of a run stand.
-use Rattle.std.proofs.Common.{◌≡◌, ◌⊎◌, ℕ, zero, suc, ◌+◌, ◌-◌, ◌<◌, ◌≤◌, ◌==◌, if◌then◌else◌, Bool, true, false, List, [], ◌∷◌, ◌++◌, length, Option, None, Some, slice_get, refl, ap, sym, ◌∙◌, subst, inl, inr, arith, append_assoc, append-nil}
+use Rattle.std.proofs.Common.{◌≡◌, ◌⊎◌, ℕ, zero, suc, ◌+◌, ◌-◌, ◌<◌, ◌≤◌, ◌==◌, if◌then◌else◌, Bool, true, false, List, [], ◌∷◌, ◌++◌, length, Option, None, Some, slice_get, refl, ap, sym, ◌∙◌, subst, inl, inr, arith}
 use Rattle.std.specs.List.{flat_map, range_with_len}
-use Rattle.std.proofs.lemmas.Grind.{flat_map-append}
 use Rattle.hume_base.specs.declared.types.Value.{Value}
 use Rattle.hume_model.specs.declared.core_tree.NodeC.{NodeC}
 use Rattle.hume_model.specs.declared.core_tree.NodeC.TheVariants.{Rules, From, To}
@@ -10,16 +9,15 @@ use Rattle.hume_model.specs.declared.core_tree.Core.{Core}
 use Rattle.hume_net.specs.rounds.Rounds.{IsRound, rounds_of}
 use Rattle.hume_net.proofs.rounds_lemmas.RoundCounts.{counted_round}
 use Rattle.hume_ports.specs.Delivery.{Pairs}
-use Rattle.port_acts.specs.Acts.{Act, wants, wanted, wanted_by, written, write_each}
-use Rattle.port_acts.specs.Rounds.{round_acts, StandsInRound}
+use Rattle.port_acts.specs.Acts.{Act, wants, wanted, written, write_each}
+use Rattle.port_acts.specs.Rounds.{round_acts}
 use Rattle.port_acts.proofs.Wanting.{stands_in_round}
-use Rattle.run_rounds.specs.Inputs.{Inputs, is_bad}
+use Rattle.run_rounds.specs.Inputs.{Inputs}
 use Rattle.run_rounds.specs.RunActs.{acts_until, blocked_acts, needed, reading, ReadsForRound, round_wants, rounds_acts, run_acts, wants_of_node, writing}
-use Rattle.run_rounds.specs.Writes.{bad_value_writes, blocked_by, blocked_round, peak_writes, round_writes, rounds_writes, span_of}
+use Rattle.run_rounds.specs.Writes.{bad_value_writes, blocked_by, blocked_round, peak_writes, round_writes, span_of}
 use Rattle.run_rounds.proofs.ActSteps.{some_span}
 use Rattle.run_rounds.proofs.FirstFound.{found}
-use Rattle.run_rounds.proofs.LawsOfActs.{rounds_write, wants_quiet}
-use Rattle.std.proofs.lemmas.List.{map-append}
+use Rattle.run_rounds.proofs.LawsOfActs.{wants_quiet}
 use Rattle.std.specs.Option.{is_some}
 use Rattle.std.proofs.lemmas.Bool.{cases_Bool, cases_lt, eq-eqb, eqb-true, ne_eqb}
 use Rattle.port_acts.proofs.Each.{all_written}
