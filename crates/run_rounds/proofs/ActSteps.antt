@@ -113,7 +113,8 @@ module _ (core : Core) (inputs : Inputs) (traced : Bool) (steps : ℕ) where
         (more_begin (Rounds done) round (Wants (suc done) (n + 1))
         (begins_in round (reading core inputs.good traced steps (suc done)) (Wants (suc done) (n + 1)) (writing core inputs.good traced steps (suc done), refl) all))
 
-    in_blocked : (o : Option ℕ) → Blocking (suc done) ≡ o → is_some o ≡ true → BeginsWith (Rounds done ++ blocked_acts core inputs traced steps (suc done) o) First
+    in_blocked : (o : Option ℕ) → Blocking (suc done) ≡ o → is_some o ≡ true
+        → BeginsWith (Rounds done ++ blocked_acts core inputs traced steps (suc done) o) First
     in_blocked None by some = cc
     in_blocked (Some m) by some =
         let f = found (blocks core inputs.good (is_bad inputs) (span_of traced) steps (suc done)) 0 (length core.nodes) m by in

@@ -174,7 +174,8 @@ pub record Draining (before ports : List PortView) (first engine : Engine) (old 
   pub made : Made (write_each (flat_map (λ n. writes_of_node (core_of first) n (slice_get (core_of first).nodes n) (part_of (state_of first) n).taken) (range_with_len 0 count))) [] before ports
   pub clears : ClearsBelow (core_of first) count (state_of first) (state_of engine)
 
-pub draining_none : (ports : List PortView) (engine : Engine) (chunk : Chunk) → IsStateOf (core_of engine) (state_of engine) → Draining ports ports engine engine chunk chunk 0
+pub draining_none : (ports : List PortView) (engine : Engine) (chunk : Chunk) → IsStateOf (core_of engine) (state_of engine)
+    → Draining ports ports engine engine chunk chunk 0
 draining_none ports engine chunk parts = record {
   is_core = refl;
   is_span = refl;

@@ -34,7 +34,8 @@ use Rattle.run_rounds.specs.inner.Standing.{EndsAreTold}
 use Rattle.run_rounds.proofs.Comings.{inputs_are}
 
 -- what comes to a node
-pub comes_at : (core : Core) (texts : List ℕ → List ℕ) (inputs : Inputs) → AreInputs core texts inputs → (n : ℕ) (node : NodeC) → slice_get core.nodes n ≡ Some node
+pub comes_at : (core : Core) (texts : List ℕ → List ℕ) (inputs : Inputs) → AreInputs core texts inputs → (n : ℕ) (node : NodeC)
+    → slice_get core.nodes n ≡ Some node
     → ComesTo core texts n (Some node) (listed inputs.good n) (inputs.bad n)
 comes_at core texts inputs are n node is = subst (λ o. ComesTo core texts n o (listed inputs.good n) (inputs.bad n)) is (are.each n)
 
@@ -46,7 +47,8 @@ no_more : (all bytes left : List ℕ) → all ≡ bytes ++ left → all ≡ byte
 no_more all bytes left consumes same = append_cancel_left bytes left [] (sym consumes ∙ same ∙ sym (append-nil bytes))
 
 -- the text of a port is what was read of it, and a rest
-text_rest : (before after : Option (List ℕ)) (bytes : List ℕ) (ended : Bool) → Consumes before after bytes → (ended ≡ true → IfSome before (λ left. left ≡ bytes))
+text_rest : (before after : Option (List ℕ)) (bytes : List ℕ) (ended : Bool) → Consumes before after bytes
+    → (ended ≡ true → IfSome before (λ left. left ≡ bytes))
     → (rest : List ℕ) × (ended ≡ true → rest ≡ []) × (unwrap_or before bytes ≡ bytes ++ rest)
 text_rest None after bytes ended consumes at_end = ([], (λ e. refl), sym (append-nil bytes))
 text_rest (Some all) None bytes ended consumes at_end = absurd consumes

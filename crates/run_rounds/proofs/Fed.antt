@@ -139,7 +139,8 @@ module _ (core : Core) (names : HaveNames core.types) (apart : ArePortsApart cor
           subst P (sym (own_text rest) ∙ ap (λ name. bytes_for name more ++ rest) port)
           (subst Q (ap (λ v. fed n ++ v) (sym (only_here n n values refl))) now)
 
-      right_elsewhere : (m : ℕ) (other : StreamC) → slice_get core.nodes m ≡ Some (From other) → (m ≡ n → ⊥) → (rest : List ℕ) → ((after m).ended ≡ true → rest ≡ [])
+      right_elsewhere : (m : ℕ) (other : StreamC) → slice_get core.nodes m ≡ Some (From other) → (m ≡ n → ⊥) → (rest : List ℕ)
+          → ((after m).ended ≡ true → rest ≡ [])
           → IsQueueOf core.types (type_at core m) (after m) (bytes_for other.port more ++ rest) (with_values n values fed m) rest
       right_elsewhere m other there differ rest ends =
           let was = read.right m other there rest (λ ended. ends (ap (λ (q : QueueView). q.ended) (others m differ) ∙ ended)) in
@@ -149,7 +150,8 @@ module _ (core : Core) (names : HaveNames core.types) (apart : ArePortsApart cor
           subst R (sym (append-nil (fed m)) ∙ ap (λ v. fed m ++ v) (sym (none_elsewhere n m values differ)))
           (subst Q (sym (same_bytes m other there differ)) (subst P (sym (others m differ)) was))
 
-      right_at : (m : ℕ) (other : StreamC) → slice_get core.nodes m ≡ Some (From other) → (m ≡ n) ⊎ (m ≡ n → ⊥) → (rest : List ℕ) → ((after m).ended ≡ true → rest ≡ [])
+      right_at : (m : ℕ) (other : StreamC) → slice_get core.nodes m ≡ Some (From other) → (m ≡ n) ⊎ (m ≡ n → ⊥) → (rest : List ℕ)
+          → ((after m).ended ≡ true → rest ≡ [])
           → IsQueueOf core.types (type_at core m) (after m) (bytes_for other.port more ++ rest) (with_values n values fed m) rest
       right_at m other there (inl same) rest ends =
           let P : ℕ → Type 0 = λ k. ((after k).ended ≡ true → rest ≡ []) → Right k rest in

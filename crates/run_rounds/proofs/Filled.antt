@@ -80,7 +80,8 @@ module _ (core : Core) (names : HaveNames core.types) (queues : ℕ → QueueVie
         ap (λ b. is_some b && nat_lt (length (part_of (start core inputs.good) n).coming)
         (length (asserted_between (start core inputs.good) (lockstep core (start core inputs.good) (begins span round)) n) + length_of span steps round)) none
 
-    pub stream_goes_on : (n : ℕ) (stream : StreamC) → slice_get core.nodes n ≡ Some (From stream) → MayBegin core queues (length_of span steps round) state n → Blocks n ≡ false
+    pub stream_goes_on : (n : ℕ) (stream : StreamC) → slice_get core.nodes n ≡ Some (From stream) → MayBegin core queues (length_of span steps round) state n
+        → Blocks n ≡ false
     stream_goes_on n stream is (inl enough) =
         filled_goes_on core inputs.good (is_bad inputs) span steps round n (From stream) is earlier (later_of inputs fed) state it enough
     stream_goes_on n stream is (inr all) = not_bad n (all_came n stream is state (shares n stream is) all).1
@@ -92,14 +93,16 @@ module _ (core : Core) (names : HaveNames core.types) (queues : ℕ → QueueVie
       | inr other ↦ not_bad n (may.others n node is other).1
     ]
 
-    pub stream_blocks : (n : ℕ) (stream : StreamC) → slice_get core.nodes n ≡ Some (From stream) → later_of inputs fed n ≡ [] → (number : ℕ) → inputs.bad n ≡ Some number
+    pub stream_blocks : (n : ℕ) (stream : StreamC) → slice_get core.nodes n ≡ Some (From stream) → later_of inputs fed n ≡ [] → (number : ℕ)
+        → inputs.bad n ≡ Some number
         → length (part_of state n).coming < length_of span steps round → Blocks n ≡ true
     stream_blocks n stream is none number bad few =
         blocks_at_its_end core inputs.good (is_bad inputs) span steps round n (From stream) is earlier (later_of inputs fed) state it none
         ∙ ap (λ b. is_some b && nat_lt (length (part_of state n).coming) (length_of span steps round)) bad
         ∙ lt-ltb (length (part_of state n).coming) (length_of span steps round) few
 
-  filled_at : (want : ℕ) (state : State) (n : ℕ) (stream : StreamC) → slice_get core.nodes n ≡ Some (From stream) → IsShared fed state n → MayBegin core queues want state n
+  filled_at : (want : ℕ) (state : State) (n : ℕ) (stream : StreamC) → slice_get core.nodes n ≡ Some (From stream) → IsShared fed state n
+      → MayBegin core queues want state n
       → (later_of inputs fed n ≡ []) ⊎ (want ≤ length (part_of state n).coming)
   filled_at want state n stream is shares (inl enough) = inr enough
   filled_at want state n stream is shares (inr all) = inl (all_came n stream is state shares all).0
@@ -111,8 +114,10 @@ module _ (core : Core) (names : HaveNames core.types) (queues : ℕ → QueueVie
   stream_of_input None input = absurd input
 
   -- the net has what it may need
-  pub is_filled : (want k : ℕ) (state : State) (earlier : ℕ → List Value) → IsPieceOf core earlier (later_of inputs fed) state (lockstep core (start core inputs.good) k)
-      → ((n : ℕ) (stream : StreamC) → slice_get core.nodes n ≡ Some (From stream) → MayBegin core queues want state n) → IsFilled core want (later_of inputs fed) state
+  pub is_filled : (want k : ℕ) (state : State) (earlier : ℕ → List Value)
+      → IsPieceOf core earlier (later_of inputs fed) state (lockstep core (start core inputs.good) k)
+      → ((n : ℕ) (stream : StreamC) → slice_get core.nodes n ≡ Some (From stream) → MayBegin core queues want state n)
+      → IsFilled core want (later_of inputs fed) state
   is_filled want k state earlier it begin n input =
       let s = stream_of_input (slice_get core.nodes n) input in
       filled_at want state n s.0 s.1

@@ -42,7 +42,8 @@ stream_there core n input = by_node (slice_get core.nodes n) refl input
     by_node None is input = absurd input
 
 -- what holds for the name of the port at its place holds for the stream's
-pub for_port : (fact : List ℕ → Type 0) (stream : StreamC) (ports : List PortView) (at : ℕ) → IsPlaceOf stream.port (names ports) at → ForNameAt at ports fact → fact stream.port
+pub for_port : (fact : List ℕ → Type 0) (stream : StreamC) (ports : List PortView) (at : ℕ) → IsPlaceOf stream.port (names ports) at → ForNameAt at ports fact
+    → fact stream.port
 for_port fact stream ports at place facts = facts stream.port (subst (λ name. place_of name (names ports) ≡ Some at) place.named place.place.first)
 
 -- a fill whose result is known
@@ -60,7 +61,8 @@ few_or_enough : (want count : ℕ) → (want ≤ count → ⊥) → count < want
 few_or_enough want count never = elim (cases_lt count want) [ inl less ↦ less | inr enough ↦ absurd (never enough) ]
 
 -- what is no input stream is not read
-no_wants : (core : Core) (good : List (List Value)) (span steps round n : ℕ) (o : Option NodeC) → (IsInput o → ⊥) → wants_of_node core good span steps round n o ≡ []
+no_wants : (core : Core) (good : List (List Value)) (span steps round n : ℕ) (o : Option NodeC) → (IsInput o → ⊥)
+    → wants_of_node core good span steps round n o ≡ []
 no_wants core good span steps round n None other = refl
 no_wants core good span steps round n (Some (Rules b)) other = refl
 no_wants core good span steps round n (Some (To stream)) other = refl
@@ -187,7 +189,8 @@ module _ (want : ℕ) (before mids news : List PortView) (first engine new : Eng
       pub filling_failed : (failed : Failed) → result ≡ Err failed → EndsFills (core_of first) traced steps done want olds news new (Err failed)
       filling_failed failed is = own result (Err failed) is ends traced steps done olds (it.stands traced steps done olds stands)
 
-pub filling_over : (want : ℕ) (before mids : List PortView) (first engine : Engine) (count : ℕ) → Filling want before mids first engine count → length (core_of first).nodes ≤ count
+pub filling_over : (want : ℕ) (before mids : List PortView) (first engine : Engine) (count : ℕ) → Filling want before mids first engine count
+    → length (core_of first).nodes ≤ count
     → (traced : Bool) (steps done : ℕ) (olds : List PortView) → StandsFilling (core_of first) traced steps done 0 want olds before first
     → StandsFilling (core_of first) traced steps done (length (core_of first).nodes) want olds mids engine
 filling_over want before mids first engine count it past traced steps done olds stands =

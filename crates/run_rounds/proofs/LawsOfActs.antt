@@ -19,7 +19,8 @@ finished-append : (ps qs : List Act) → finished (ps ++ qs) ≡ finished ps ++ 
 finished-append ps qs = flat_map-append finished_by ps qs
 
 module _ (core : Core) (good : List (List Value)) where
-  node_quiet : (span steps round n : ℕ) (o : Option NodeC) → (written (wants_of_node core good span steps round n o) ≡ []) × (finished (wants_of_node core good span steps round n o) ≡ [])
+  node_quiet : (span steps round n : ℕ) (o : Option NodeC)
+      → (written (wants_of_node core good span steps round n o) ≡ []) × (finished (wants_of_node core good span steps round n o) ≡ [])
   node_quiet span steps round n None = (refl, refl)
   node_quiet span steps round n (Some (Rules b)) = (refl, refl)
   node_quiet span steps round n (Some (From stream)) = (refl, refl)
@@ -34,7 +35,8 @@ module _ (core : Core) (good : List (List Value)) where
     finished-append (f n) (flat_map f numbers) ∙ rw ((each n).1, (quiet f each numbers).1) refl,
   )
 
-  pub wants_quiet : (span steps round count : ℕ) → (written (round_wants core good span steps round count) ≡ []) × (finished (round_wants core good span steps round count) ≡ [])
+  pub wants_quiet : (span steps round count : ℕ)
+      → (written (round_wants core good span steps round count) ≡ []) × (finished (round_wants core good span steps round count) ≡ [])
   wants_quiet span steps round count =
       quiet (λ n. wants_of_node core good span steps round n _) (λ n. node_quiet span steps round n _) (range_with_len 0 count)
 

@@ -22,7 +22,8 @@ use Rattle.run_rounds.proofs.RoundMaking.{next_length, outputs_clear}
 use Rattle.run_rounds.proofs.RoundSteps.{round_failed, round_stands}
 
 -- how many supersteps a round has
-pub supersteps_are : (traced : Bool) (steps done first second result : ℕ) → first ≡ span_of traced → second ≡ span_of traced → result ≡ min (steps - done * first) second
+pub supersteps_are : (traced : Bool) (steps done first second result : ℕ) → first ≡ span_of traced → second ≡ span_of traced
+    → result ≡ min (steps - done * first) second
     → result ≡ length_of (span_of traced) steps (suc done)
 supersteps_are traced steps done first second result a b is =
     is ∙ ap (λ k. min (steps - done * k) second) a ∙ ap (min (steps - done * span_of traced)) b ∙ next_length steps done (span_of traced)
@@ -50,8 +51,10 @@ module _ (traced : Bool) (steps done want : ℕ) (olds mids : List PortView) (fi
     joined_failed failed is = subst (λ c. FailsToRun c traced steps olds news) same
         (round_failed (core_of filled) run_own traced steps done want olds mids filled refl own new news want filling.wanted result did_next failed is)
 
-    pub joined : result ≡ Ok tt → core_of new ≡ core_of filled → room_of new ≡ room_of filled → ((n : ℕ) → queue_at new n ≡ queue_at filled n) → PeaksGrow filled want new
-        → Clears (core_of filled) (lockstep (core_of filled) (state_of filled) want) (state_of new) → StandsAfter (core_of first) traced steps (suc done) olds news new
+    pub joined : result ≡ Ok tt → core_of new ≡ core_of filled → room_of new ≡ room_of filled → ((n : ℕ) → queue_at new n ≡ queue_at filled n)
+        → PeaksGrow filled want new
+        → Clears (core_of filled) (lockstep (core_of filled) (state_of filled) want) (state_of new)
+        → StandsAfter (core_of first) traced steps (suc done) olds news new
     joined is new_core new_span queues grow clears = subst (λ c. StandsAfter c traced steps (suc done) olds news new) same
         (round_stands (core_of filled) run_own traced steps done want olds mids filled refl own new news want filling.wanted result did_next is
         new_core new_span queues grow clears)

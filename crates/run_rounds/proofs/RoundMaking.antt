@@ -153,7 +153,8 @@ pub fills_as : (core : Core) (traced : Bool) (steps done want : ℕ) (olds news 
     → EndsFills core traced steps done want olds news engine result → EndsFills core traced steps done want olds news engine other
 fills_as core traced steps done want olds news engine result other is ends = subst (EndsFills core traced steps done want olds news engine) is ends
 
-pub round_as : (core : Core) (traced : Bool) (steps done : ℕ) (olds news : List PortView) (engine : Engine) (result other : Result (Option BadLine) Failed) → result ≡ other
+pub round_as : (core : Core) (traced : Bool) (steps done : ℕ) (olds news : List PortView) (engine : Engine) (result other : Result (Option BadLine) Failed)
+    → result ≡ other
     → EndsRound core traced steps done olds news engine result → EndsRound core traced steps done olds news engine other
 round_as core traced steps done olds news engine result other is ends = subst (EndsRound core traced steps done olds news engine) is ends
 
@@ -172,7 +173,8 @@ pub record Rounding (traced : Bool) (steps : ℕ) (before ports : List PortView)
   pub room : in_all chunk ≡ in_all old
   pub stands : StandsAfter (core_of first) traced steps done before ports engine
 
-pub rounding_none : (traced : Bool) (steps : ℕ) (ports : List PortView) (engine : Engine) (chunk : Chunk) → StandsAfter (core_of engine) traced steps 0 ports ports engine
+pub rounding_none : (traced : Bool) (steps : ℕ) (ports : List PortView) (engine : Engine) (chunk : Chunk)
+    → StandsAfter (core_of engine) traced steps 0 ports ports engine
     → Rounding traced steps ports ports engine engine chunk chunk 0
 rounding_none traced steps ports engine chunk stands = record { is_core = refl; same_names = refl; room = refl; stands = stands }
 
@@ -205,6 +207,8 @@ module _ (traced : Bool) (steps : ℕ) (before mids : List PortView) (first engi
     pub rounds_failed : (failed : Failed) → result ≡ Err failed → EndsRounds (core_of first) traced steps before news new (Err failed)
     rounds_failed failed is = ended (Err failed) is
 
-pub rounds_over : (traced : Bool) (steps : ℕ) (before mids : List PortView) (first engine : Engine) (old mid : Chunk) (done : ℕ) → done ≡ rounds_of (span_of traced) steps
-    → Rounding traced steps before mids first engine old mid done → StandsAfter (core_of first) traced steps (rounds_of (span_of traced) steps) before mids engine
+pub rounds_over : (traced : Bool) (steps : ℕ) (before mids : List PortView) (first engine : Engine) (old mid : Chunk) (done : ℕ)
+    → done ≡ rounds_of (span_of traced) steps
+    → Rounding traced steps before mids first engine old mid done
+    → StandsAfter (core_of first) traced steps (rounds_of (span_of traced) steps) before mids engine
 rounds_over traced steps before mids first engine old mid done all it = subst (λ k. StandsAfter (core_of first) traced steps k before mids engine) all it.stands

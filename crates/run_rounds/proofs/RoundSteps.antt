@@ -146,7 +146,8 @@ module _ (core : Core) (run : IsRunnable core) (traced : Bool) (steps done want 
       ∙ ap (λ k. wire_lines core (on_wire (whole inputs k))) last)
 
   -- what is written are the lines of the round
-  written_now : (inputs : Inputs) → MayCome core (queue_at old) stands.taken inputs → told_now core traced (suc done) over ≡ round_writes core inputs.good traced steps (suc done)
+  written_now : (inputs : Inputs) → MayCome core (queue_at old) stands.taken inputs
+      → told_now core traced (suc done) over ≡ round_writes core inputs.good traced steps (suc done)
   written_now inputs can =
       let lines : writes_of_nodes core (λ n. (part_of over n).taken) ≡ gained_writes core inputs.good span steps (suc done) =
       sym (same_writes core (gained (whole inputs (begins span (suc done))) (whole inputs (ends span steps (suc done)))) (λ n. (part_of over n).taken) (gained_now inputs can)) in

@@ -64,7 +64,8 @@ module _ (core : Core) (traced : Bool) (steps : ℕ) (olds mids news : List Port
       subst (λ every. Made every taken olds news) all
       (subst (λ pairs. Made (acts ++ last) pairs olds news) (append-nil taken) (Made-on acts last taken [] olds mids news made more))
 
-  pub runs_to : (blocked : Bool) → blocked ≡ is_some (blocked_round core coming.inputs (span_of traced) steps) → (result : Result (Unit {0}) Failed) → result ≡ Ok tt
+  pub runs_to : (blocked : Bool) → blocked ≡ is_some (blocked_round core coming.inputs (span_of traced) steps) → (result : Result (Unit {0}) Failed)
+      → result ≡ Ok tt
       → Ends never [] last [] mids news result → RunsTo core traced steps olds news blocked
   runs_to blocked blocks (Ok done) is ends = record { comes = coming; taken = taken; made = made_all ends; blocks = blocks }
   runs_to blocked blocks (Err failed) is ends = cc
@@ -231,13 +232,15 @@ few_lines true steps less = omega (arith, less)
 few_lines false steps less = omega (arith, less)
 
 -- rounds whose result is known
-pub rounds_as : (core : Core) (traced : Bool) (steps : ℕ) (olds news : List PortView) (engine : Engine) (result other : Result (Option BadLine) Failed) → result ≡ other
+pub rounds_as : (core : Core) (traced : Bool) (steps : ℕ) (olds news : List PortView) (engine : Engine) (result other : Result (Option BadLine) Failed)
+    → result ≡ other
     → EndsRounds core traced steps olds news engine result → EndsRounds core traced steps olds news engine other
 rounds_as core traced steps olds news engine result other is ends = subst (EndsRounds core traced steps olds news engine) is ends
 
 -- what is told of an engine with the same core
 pub peaks_as : (core own : Core) (engine : Engine) (mids news : List PortView) (result : Result (Unit {0}) Failed) → own ≡ core
-    → Ends never [] (write_each (told (peak_lines own (tops engine)))) [] mids news result → Ends never [] (write_each (told (peak_lines core (tops engine)))) [] mids news result
+    → Ends never [] (write_each (told (peak_lines own (tops engine)))) [] mids news result
+    → Ends never [] (write_each (told (peak_lines core (tops engine)))) [] mids news result
 peaks_as core own engine mids news result same ends = subst (λ c. Ends never [] (write_each (told (peak_lines c (tops engine)))) [] mids news result) same ends
 
 pub line_as : (core own : Core) (bad : BadLine) (mids news : List PortView) (result : Result (Unit {0}) Failed) → own ≡ core

@@ -36,7 +36,8 @@ use Rattle.run_rounds.proofs.Sharing.{shared}
 use Rattle.run_rounds.proofs.StreamWires.{printable_type}
 
 -- the texts of input streams can be printed
-pub stream_printable : (core : Core) → IsRunnable core → (n : ℕ) (stream : StreamC) → slice_get core.nodes n ≡ Some (From stream) → IsPrintable core.types (type_at core n)
+pub stream_printable : (core : Core) → IsRunnable core → (n : ℕ) (stream : StreamC) → slice_get core.nodes n ≡ Some (From stream)
+    → IsPrintable core.types (type_at core n)
 stream_printable core run n stream is = printable_type core run n (inl (inputs_are core n stream is))
 
 -- whatever texts there are, something comes of them

@@ -34,7 +34,8 @@ pub record Telling (before ports : List PortView) (acts : List Act) (of : ℕ �
   pub room : room_of chunk ≡ room_of old
   pub made : Made (acts ++ write_each (told (flat_map of (range_with_len 0 count)))) [] before ports
 
-pub telling_none : (before ports : List PortView) (acts : List Act) (of : ℕ → List (List ℕ)) (old chunk : Chunk) → names ports ≡ names before → room_of chunk ≡ room_of old
+pub telling_none : (before ports : List PortView) (acts : List Act) (of : ℕ → List (List ℕ)) (old chunk : Chunk) → names ports ≡ names before
+    → room_of chunk ≡ room_of old
     → Made acts [] before ports → Telling before ports acts of old chunk 0
 telling_none before ports acts of old chunk same room made = record {
   same_names = same;
@@ -94,7 +95,8 @@ pub line_told : (bytes before line : List ℕ) (olds news : List PortView) (resu
 line_told bytes before line olds news result put clear ends =
     subst (λ all. Ends never [] (writes std_out all ∷ []) [] olds news result) (put ∙ ap (λ (first : List ℕ). first ++ line) clear) ends
 
-pub wire_told : (core : Core) (w : ℕ) (its : WireC) (held : List Value) (olds news : List PortView) (result : Result (Unit {0}) Failed) → slice_get core.wires w ≡ Some its
+pub wire_told : (core : Core) (w : ℕ) (its : WireC) (held : List Value) (olds news : List PortView) (result : Result (Unit {0}) Failed)
+    → slice_get core.wires w ≡ Some its
     → Ends never [] (writes std_out (wire_line core its held) ∷ []) [] olds news result
     → Ends never [] (write_each (told (line_there core held (slice_get core.wires w)))) [] olds news result
 wire_told core w its held olds news result there ends =
@@ -115,7 +117,8 @@ first_made act olds news (Ok done) is ends = ends
 first_made act olds news (Err failed) is ends = cc
 
 -- all of them were told
-pub telling_over : (before ports : List PortView) (acts : List Act) (of : ℕ → List (List ℕ)) (old chunk : Chunk) (count total : ℕ) → Telling before ports acts of old chunk count
+pub telling_over : (before ports : List PortView) (acts : List Act) (of : ℕ → List (List ℕ)) (old chunk : Chunk) (count total : ℕ)
+    → Telling before ports acts of old chunk count
     → count ≡ total → Made (acts ++ write_each (told (flat_map of (range_with_len 0 total)))) [] before ports
 telling_over before ports acts of old chunk count total it all =
     subst (λ k. Made (acts ++ write_each (told (flat_map of (range_with_len 0 k)))) [] before ports) all it.made

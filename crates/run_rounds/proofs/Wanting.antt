@@ -197,7 +197,8 @@ module _ (traced : Bool) (steps done want : ℕ) (olds mids news : List PortView
       let within = slice_get_within its.nodes n (From stream) is in
       ap (λ (s : State). length (part_of s n).coming) fill.state ∙ fed_length (state_of old).coming n fill.values (omega (arith, within, stood.parts.coming))
 
-  few_here : (good : List Value) (bad : Option ℕ) → IsGoodUntil its.types (type_at its n) (whole_lines (bytes_for stream.port read)) good bad → length good < number
+  few_here : (good : List Value) (bad : Option ℕ) → IsGoodUntil its.types (type_at its n) (whole_lines (bytes_for stream.port read)) good bad
+      → length good < number
   few_here good bad until =
       let given = taken_given its.types (type_at its n) (queue_at new n) (bytes_for stream.port read) (stood.fed n ++ fill.values) fill.ends.whole right in
       let one = good_once its.types (type_at its n) (whole_lines (bytes_for stream.port read)) good ((stood.fed n ++ fill.values) ++ given.0) bad None run.names until given.2 in

@@ -78,7 +78,8 @@ module _ (core : Core) (good : List (List Value)) (span steps round : ℕ) where
       inl (record { node = n; stream = stream; at = is; is_port = cc; is_needed = cc })
   of_node n (Some (From stream)) is rest (act ∷ read) unread name count e = inr (read, cc)
 
-  among_wants : (numbers : List ℕ) (read unread : List Act) (name : List ℕ) (count : ℕ) → flat_map Of numbers ≡ read ++ wants name count ∷ unread → OfNode name count
+  among_wants : (numbers : List ℕ) (read unread : List Act) (name : List ℕ) (count : ℕ) → flat_map Of numbers ≡ read ++ wants name count ∷ unread
+      → OfNode name count
   among_wants [] [] unread name count e = cc
   among_wants [] (act ∷ read) unread name count e = cc
   among_wants (n ∷ numbers) read unread name count e = elim (of_node n (slice_get core.nodes n) refl (flat_map Of numbers) read unread name count e) [
@@ -120,7 +121,8 @@ module _ (core : Core) (good : List (List Value)) (traced : Bool) (steps rounds 
       (λ n least most. ap (λ b. (if b then round_wants core good (span_of traced) steps (suc rounds) last else reading core good traced steps n)
       ++ write_each (if b then lines else round_writes core good traced steps n)) (alike n (omega (arith, most)))))
 
-  read_at : (round : ℕ) (read unread : List Act) (name : List ℕ) (count : ℕ) → Reads round ≡ read ++ wants name count ∷ unread → OfNode core good (span_of traced) steps round name count
+  read_at : (round : ℕ) (read unread : List Act) (name : List ℕ) (count : ℕ) → Reads round ≡ read ++ wants name count ∷ unread
+      → OfNode core good (span_of traced) steps round name count
   read_at round read unread name count e = elim (cases_Bool (round == suc rounds)) [
     | inl is ↦ (
         let same : suc rounds ≡ round = sym (eqb-true round (suc rounds) is) in
@@ -187,7 +189,8 @@ module _ (core : Core) (inputs : Inputs) (traced : Bool) (steps : ℕ) (before l
       reads_for_round core inputs.good traced steps rounds (n + 1) (bad_value_writes core inputs (Some n)) before later name count e
       (λ round least most some. counted round least (omega (arith, most, within)))
 
-  until_reads : (o : Option ℕ) → blocked_round core inputs (span_of traced) steps ≡ o → acts_until core inputs traced steps o ≡ before ++ wants name count ∷ later
+  until_reads : (o : Option ℕ) → blocked_round core inputs (span_of traced) steps ≡ o
+      → acts_until core inputs traced steps o ≡ before ++ wants name count ∷ later
       → ReadsForRound core inputs.good traced steps before name count
   until_reads None is e =
       reads_for_round core inputs.good traced steps Rounds 0 (peak_writes core inputs.good steps) before later name count e

@@ -89,7 +89,8 @@ blocked_by core inputs traced steps round = blocking core inputs.good (is_bad in
 
 -- what a run writes, by its first blocked round
 abbrev pub writes_until : Core → Inputs → Bool → ℕ → Option ℕ → Pairs
-writes_until core inputs traced steps None = rounds_writes core inputs.good traced steps (rounds_of (span_of traced) steps) ++ peak_writes core inputs.good steps
+writes_until core inputs traced steps None =
+    rounds_writes core inputs.good traced steps (rounds_of (span_of traced) steps) ++ peak_writes core inputs.good steps
 writes_until core inputs traced steps (Some round) =
     rounds_writes core inputs.good traced steps (round - 1) ++ bad_value_writes core inputs (blocked_by core inputs traced steps round)
 

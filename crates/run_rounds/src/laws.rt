@@ -27,7 +27,8 @@ pub fn inputs_are_unique()
 
 /// The acts of a run write its lines, in order, and finish nothing.
 pub fn runs_write_their_lines()
-    ensures writes { (core : Core) (inputs : Inputs) (traced : Bool) (steps : ℕ) → written (run_acts core inputs traced steps) ≡ writes core inputs traced steps }
+    ensures writes { (core : Core) (inputs : Inputs) (traced : Bool) (steps : ℕ)
+        → written (run_acts core inputs traced steps) ≡ writes core inputs traced steps }
     ensures finishes { (core : Core) (inputs : Inputs) (traced : Bool) (steps : ℕ) → finished (run_acts core inputs traced steps) ≡ [] }
 {}
 

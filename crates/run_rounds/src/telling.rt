@@ -98,7 +98,8 @@ fn tell_wire(
     requires there { wire < length (core_of engine.now).wires }
     requires out { IsPlaceOf std_out (names (map view ports.old)) out }
     requires room { line_room (core_of engine.now) ≤ room_of chunk.old }
-    ensures ends { Ends never [] (write_each (told (line_there (core_of engine.now) (on_wire (state_of engine.now) wire) (slice_get (core_of engine.now).wires wire)))) []
+    ensures ends { Ends never [] (write_each (told (line_there (core_of engine.now) (on_wire (state_of engine.now) wire)
+        (slice_get (core_of engine.now).wires wire)))) []
         (map view ports.old) (map view ports.new) result }
     ensures same_names { names (map view ports.new) ≡ names (map view ports.old) }
     ensures room { room_of chunk.new ≡ room_of chunk.old }

@@ -23,7 +23,8 @@ use Rattle.run_rounds.specs.inner.Reading.{MayCome}
 use Rattle.run_rounds.specs.inner.Standing.{ArePeaks, EndsAreTold, IsAfter}
 
 -- After so many rounds the engine is where the whole run is, and whatever may come, the acts that were made are these.
-pub record Stands (core : Core) (traced : Bool) (steps done : ℕ) (acts_of : List (List Value) → List Act) (olds news : List PortView) (engine : Engine) : Type 0 where
+pub record Stands (core : Core) (traced : Bool) (steps done : ℕ) (acts_of : List (List Value) → List Act) (olds news : List PortView)
+    (engine : Engine) : Type 0 where
   pub acts : List Act
   pub taken : Pairs
   pub fed : ℕ → List Value
