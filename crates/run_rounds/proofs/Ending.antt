@@ -1,6 +1,6 @@
 -- Texts and inputs of a run that has ended, chosen once all is read.
 use Rattle.std.proofs.Common.{◌≡◌, ℕ, Bool, true, List, [], ◌++◌, length, Option, None, Some, IfSome, slice_get, refl, ap, sym, ◌∙◌, subst, inl, inr}
-use Rattle.std.proofs.lemmas.List.{append-nil}
+use Rattle.std.proofs.lemmas.List.{append-nil, append_cancel_left}
 use Rattle.std.proofs.lemmas.Bool.{cases_lt}
 use Rattle.std.proofs.lemmas.Option.{slice_get_past}
 use Rattle.std.specs.Io.KnownBytes.{Consumes}
@@ -19,6 +19,8 @@ use Rattle.hume_ports.specs.Port.{PortView}
 use Rattle.hume_ports.specs.Ports.{left_of}
 use Rattle.hume_ports.specs.Delivery.{Pairs, bytes_for}
 use Rattle.hume_ports.proofs.Progress.{Drawn-first}
+use Rattle.port_acts.specs.Acts.{Act}
+use Rattle.port_acts.specs.Ends.{Made}
 use Rattle.hume_text.specs.Bounds.{IsPrintable}
 use Rattle.hume_text.specs.Names.{HaveNames}
 use Rattle.hume_streams.specs.Good.{IsGoodUntil}
@@ -28,11 +30,12 @@ use Rattle.run_rounds.specs.engine.StreamTypes.{type_at}
 use Rattle.hume_net.specs.rounds.Pieces.{listed}
 use Rattle.run_rounds.specs.Inputs.{Inputs, AreInputs, ComesTo}
 use Rattle.run_rounds.specs.inner.Reading.{MayCome}
-use Rattle.run_rounds.specs.inner.Standing.{IsAtToldEnd, PortsGave}
+use Rattle.run_rounds.specs.inner.Standing.{EndsAreTold}
 use Rattle.run_rounds.proofs.Comings.{inputs_are}
 
 -- what comes to a node
-pub comes_at : (core : Core) (texts : List ℕ → List ℕ) (inputs : Inputs) → AreInputs core texts inputs → (n : ℕ) (node : NodeC) → slice_get core.nodes n ≡ Some node
+pub comes_at : (core : Core) (texts : List ℕ → List ℕ) (inputs : Inputs) → AreInputs core texts inputs → (n : ℕ) (node : NodeC)
+    → slice_get core.nodes n ≡ Some node
     → ComesTo core texts n (Some node) (listed inputs.good n) (inputs.bad n)
 comes_at core texts inputs are n node is = subst (λ o. ComesTo core texts n o (listed inputs.good n) (inputs.bad n)) is (are.each n)
 
@@ -40,12 +43,16 @@ told_self : (left : Option (List ℕ)) (bytes : List ℕ) → IfSome left (λ kn
 told_self None bytes = tt
 told_self (Some known) bytes = refl
 
+no_more : (all bytes left : List ℕ) → all ≡ bytes ++ left → all ≡ bytes → left ≡ []
+no_more all bytes left consumes same = append_cancel_left bytes left [] (sym consumes ∙ same ∙ sym (append-nil bytes))
+
 -- the text of a port is what was read of it, and a rest
-text_rest : (before after : Option (List ℕ)) (bytes : List ℕ) (ended : Bool) → Consumes before after bytes → (ended ≡ true → IsAtToldEnd before after)
+text_rest : (before after : Option (List ℕ)) (bytes : List ℕ) (ended : Bool) → Consumes before after bytes
+    → (ended ≡ true → IfSome before (λ left. left ≡ bytes))
     → (rest : List ℕ) × (ended ≡ true → rest ≡ []) × (unwrap_or before bytes ≡ bytes ++ rest)
 text_rest None after bytes ended consumes at_end = ([], (λ e. refl), sym (append-nil bytes))
 text_rest (Some all) None bytes ended consumes at_end = absurd consumes
-text_rest (Some all) (Some left) bytes ended consumes at_end = (left, at_end, consumes)
+text_rest (Some all) (Some left) bytes ended consumes at_end = (left, (λ e. no_more all bytes left consumes (at_end e)), consumes)
 
 -- what each port tells, or else what was read of it
 abbrev pub texts_read : List PortView → Pairs → List ℕ → List ℕ
@@ -97,7 +104,7 @@ module _ (core : Core) (sizes : HaveTheirSizes core.types) (names : HaveNames co
     none_comes n (To stream) good bad is other comes = comes
     none_comes n (Rules b) good bad is other comes = comes
 
-  module _ (queues : ℕ → QueueView) (taken : Pairs) (olds news : List PortView) (gave : PortsGave core queues taken olds news) where
+  module _ (queues : ℕ → QueueView) (taken : Pairs) (acts : List Act) (olds news : List PortView) (did : Made acts taken olds news) (told : EndsAreTold core queues taken olds) where
     abbrev inputs : Inputs
     inputs = the_inputs (texts_read olds taken)
 
@@ -108,8 +115,8 @@ module _ (core : Core) (sizes : HaveTheirSizes core.types) (names : HaveNames co
     they_may_come = record {
       count = are.count;
       each = λ n stream is. (
-          let drawn = Drawn-first olds news stream.port taken gave.progress.same_names gave.progress.drawn in
-          let t = text_rest (left_of stream.port olds) (left_of stream.port news) (bytes_for stream.port taken) (queues n).ended drawn (gave.ended n stream is) in
+          let drawn = Drawn-first olds news stream.port taken did.progress.same_names did.progress.drawn in
+          let t = text_rest (left_of stream.port olds) (left_of stream.port news) (bytes_for stream.port taken) (queues n).ended drawn (told n stream is) in
           (t.0, t.1, subst (λ text. IsGoodUntil core.types (type_at core n) text (listed inputs.good n) (inputs.bad n)) t.2 (comes_at core (texts_read olds taken) inputs are n (From stream) is)));
       others = λ n node is other. none_comes (texts_read olds taken) n node (listed inputs.good n) (inputs.bad n) is other (comes_at core (texts_read olds taken) inputs are n node is);
     }

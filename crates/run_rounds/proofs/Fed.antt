@@ -65,13 +65,13 @@ module _ (core : Core) (names : HaveNames core.types) (apart : ArePortsApart cor
   abbrev pub more : Pairs
   more = taken ++ (stream.port, bytes) ∷ []
 
-  own_bytes : bytes_for stream.port more ≡ bytes_for stream.port taken ++ bytes
+  pub own_bytes : bytes_for stream.port more ≡ bytes_for stream.port taken ++ bytes
   own_bytes = bytes_for-append stream.port taken ((stream.port, bytes) ∷ []) ∙ ap (λ last. bytes_for stream.port taken ++ last) (bytes_for-one stream.port bytes)
 
   own_text : (rest : List ℕ) → bytes_for stream.port more ++ rest ≡ bytes_for stream.port taken ++ (bytes ++ rest)
   own_text rest = ap (λ text. text ++ rest) own_bytes ∙ append_assoc (bytes_for stream.port taken) bytes rest
 
-  same_bytes : (m : ℕ) (other : StreamC) → slice_get core.nodes m ≡ Some (From other) → (m ≡ n → ⊥) → bytes_for other.port more ≡ bytes_for other.port taken
+  pub same_bytes : (m : ℕ) (other : StreamC) → slice_get core.nodes m ≡ Some (From other) → (m ≡ n → ⊥) → bytes_for other.port more ≡ bytes_for other.port taken
   same_bytes m other there differ =
       bytes_for-append other.port taken ((stream.port, bytes) ∷ [])
       ∙ ap (λ last. bytes_for other.port taken ++ last)
@@ -121,9 +121,9 @@ module _ (core : Core) (names : HaveNames core.types) (apart : ArePortsApart cor
     }
 
     module _ (read : HasRead core queues taken fed) (given : (m : ℕ) → (after m).values ≡ [])
-        (goes_on : (text : List ℕ) (came : List Value) (rest : List ℕ) → ((after n).ended ≡ true → rest ≡ [])
-        → IsQueueOf core.types (type_at core n) (queues n) text came (bytes ++ rest)
-        → IsQueueOf core.types (type_at core n) (after n) text (came ++ values) rest) where
+        (goes_on : (text rest : List ℕ) → ((after n).ended ≡ true → rest ≡ [])
+        → IsQueueOf core.types (type_at core n) (queues n) text (fed n) (bytes ++ rest)
+        → IsQueueOf core.types (type_at core n) (after n) text (fed n ++ values) rest) where
       abbrev Right : ℕ → List ℕ → Type 0
       Right m rest = (other : StreamC) → slice_get core.nodes m ≡ Some (From other)
           → IsQueueOf core.types (type_at core m) (after m) (bytes_for other.port more ++ rest) (with_values n values fed m) rest
@@ -133,13 +133,14 @@ module _ (core : Core) (names : HaveNames core.types) (apart : ArePortsApart cor
           let one : ◌≡◌ {A = Option NodeC} (Some (From other)) (Some (From stream)) = sym at ∙ is in
           let port : stream.port ≡ other.port = cc in
           let was = read.right n stream is (bytes ++ rest) (was_ended rest ends) in
-          let now = goes_on (bytes_for stream.port taken ++ (bytes ++ rest)) (fed n) rest ends was in
+          let now = goes_on (bytes_for stream.port taken ++ (bytes ++ rest)) rest ends was in
           let P : List ℕ → Type 0 = λ text. IsQueueOf core.types (type_at core n) (after n) text (with_values n values fed n) rest in
           let Q : List Value → Type 0 = λ came. IsQueueOf core.types (type_at core n) (after n) (bytes_for stream.port taken ++ (bytes ++ rest)) came rest in
           subst P (sym (own_text rest) ∙ ap (λ name. bytes_for name more ++ rest) port)
           (subst Q (ap (λ v. fed n ++ v) (sym (only_here n n values refl))) now)
 
-      right_elsewhere : (m : ℕ) (other : StreamC) → slice_get core.nodes m ≡ Some (From other) → (m ≡ n → ⊥) → (rest : List ℕ) → ((after m).ended ≡ true → rest ≡ [])
+      right_elsewhere : (m : ℕ) (other : StreamC) → slice_get core.nodes m ≡ Some (From other) → (m ≡ n → ⊥) → (rest : List ℕ)
+          → ((after m).ended ≡ true → rest ≡ [])
           → IsQueueOf core.types (type_at core m) (after m) (bytes_for other.port more ++ rest) (with_values n values fed m) rest
       right_elsewhere m other there differ rest ends =
           let was = read.right m other there rest (λ ended. ends (ap (λ (q : QueueView). q.ended) (others m differ) ∙ ended)) in
@@ -149,7 +150,8 @@ module _ (core : Core) (names : HaveNames core.types) (apart : ArePortsApart cor
           subst R (sym (append-nil (fed m)) ∙ ap (λ v. fed m ++ v) (sym (none_elsewhere n m values differ)))
           (subst Q (sym (same_bytes m other there differ)) (subst P (sym (others m differ)) was))
 
-      right_at : (m : ℕ) (other : StreamC) → slice_get core.nodes m ≡ Some (From other) → (m ≡ n) ⊎ (m ≡ n → ⊥) → (rest : List ℕ) → ((after m).ended ≡ true → rest ≡ [])
+      right_at : (m : ℕ) (other : StreamC) → slice_get core.nodes m ≡ Some (From other) → (m ≡ n) ⊎ (m ≡ n → ⊥) → (rest : List ℕ)
+          → ((after m).ended ≡ true → rest ≡ [])
           → IsQueueOf core.types (type_at core m) (after m) (bytes_for other.port more ++ rest) (with_values n values fed m) rest
       right_at m other there (inl same) rest ends =
           let P : ℕ → Type 0 = λ k. ((after k).ended ≡ true → rest ≡ []) → Right k rest in

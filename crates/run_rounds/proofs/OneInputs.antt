@@ -13,7 +13,8 @@ use Rattle.hume_net.specs.rounds.Pieces.{listed}
 use Rattle.run_rounds.specs.Inputs.{Inputs, AreInputs, ComesTo}
 
 module _ (core : Core) (names : HaveNames core.types) (texts : List ℕ → List ℕ) where
-  one_comes : (n : ℕ) (o : Option NodeC) (good values : List Value) (bad other : Option ℕ) → ComesTo core texts n o good bad → ComesTo core texts n o values other
+  one_comes : (n : ℕ) (o : Option NodeC) (good values : List Value) (bad other : Option ℕ) → ComesTo core texts n o good bad
+      → ComesTo core texts n o values other
       → (good ≡ values) × (bad ≡ other)
   one_comes n (Some (From stream)) good values bad other p q = good_once core.types (type_at core n) (texts stream.port) good values bad other names p q
   one_comes n (Some (To stream)) good values bad other p q = (p.0 ∙ sym q.0, p.1 ∙ sym q.1)

@@ -1,7 +1,7 @@
 -- Lists of what is said of numbers one after another.
-use Rattle.std.proofs.Common.{◌≡◌, ℕ, zero, suc, ◌+◌, ◌<◌, ◌≤◌, List, [], ◌∷◌, ◌++◌, refl, ap, ◌∙◌, arith}
+use Rattle.std.proofs.Common.{◌≡◌, ℕ, zero, suc, ◌+◌, ◌-◌, ◌<◌, ◌≤◌, List, [], ◌∷◌, ◌++◌, refl, ap, sym, ◌∙◌, arith}
 use Rattle.std.specs.List.{flat_map, range_with_len}
-use Rattle.std.proofs.lemmas.List.{append-nil}
+use Rattle.std.proofs.lemmas.List.{append-nil, append_assoc}
 use Rattle.std.proofs.lemmas.List.Concat.{flat_map-append}
 
 -- the same is said of each
@@ -24,3 +24,26 @@ flat_more f from count =
     ap (flat_map f) (last from count (from + count) refl)
     ∙ flat_map-append f (range_with_len from count) ((from + count) ∷ [])
     ∙ ap (λ more. flat_map f (range_with_len from count) ++ more) (append-nil (f (from + count)))
+
+-- what is said of the first numbers comes first in what is said of more
+flat_further : {X : Type 0} (f : ℕ → List X) (from count more : ℕ)
+    → (rest : List X) × (flat_map f (range_with_len from (count + more)) ≡ flat_map f (range_with_len from count) ++ rest)
+flat_further f from count zero =
+    let none : count + 0 ≡ count = omega arith in
+    ([], ap (λ k. flat_map f (range_with_len from k)) none ∙ sym (append-nil (flat_map f (range_with_len from count))))
+flat_further f from count (suc more) =
+    let next : count + suc more ≡ suc (count + more) = omega arith in
+    let earlier = flat_further f from count more in (
+      earlier.0 ++ f (from + (count + more)),
+      ap (λ k. flat_map f (range_with_len from k)) next
+          ∙ flat_more f from (count + more)
+          ∙ ap (λ first. first ++ f (from + (count + more))) earlier.1
+          ∙ append_assoc (flat_map f (range_with_len from count)) earlier.0 (f (from + (count + more))),
+    )
+
+pub flat_within : {X : Type 0} (f : ℕ → List X) (from count total : ℕ) → count ≤ total
+    → (rest : List X) × (flat_map f (range_with_len from total) ≡ flat_map f (range_with_len from count) ++ rest)
+flat_within f from count total within =
+    let split : total ≡ count + (total - count) = omega (arith, within) in
+    let further = flat_further f from count (total - count) in
+    (further.0, ap (λ k. flat_map f (range_with_len from k)) split ∙ further.1)

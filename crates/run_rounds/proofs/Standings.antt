@@ -1,70 +1,120 @@
--- Where a run with an engine stands behind the fill of one stream, and how one fails.
-use Rattle.std.proofs.Common.{◌≡◌, ℕ, List, [], ◌∷◌, ◌++◌, Some, slice_get, Result, sym, ◌∙◌, subst}
+-- What is known of a run where it stands: what may come, how many values are wanted, and whether streams block the next round.
+use Rattle.std.proofs.Common.{◌≡◌, ℕ, zero, suc, ◌+◌, ◌-◌, ◌<◌, ◌≤◌, Bool, false, List, [], ◌∷◌, ◌++◌, length, Some, slice_get, slice_set, ap, sym, ◌∙◌, subst, inl, arith, length-append, refl}
 use Rattle.hume_base.specs.declared.types.Value.{Value}
+use Rattle.hume_model.specs.declared.core_tree.NodeC.{NodeC}
 use Rattle.hume_model.specs.declared.core_tree.NodeC.TheVariants.{From}
 use Rattle.hume_model.specs.declared.core_tree.StreamC.{StreamC}
 use Rattle.hume_model.specs.declared.core_tree.Core.{Core}
+use Rattle.hume_net.specs.declared.state.State.{State}
+use Rattle.hume_net.specs.Lockstep.{lockstep}
+use Rattle.hume_net.specs.Nodes.{HasParts}
+use Rattle.hume_net.specs.Parts.{IsStateOf}
+use Rattle.hume_net.specs.Start.{start}
+use Rattle.hume_net.specs.rounds.Blocked.{blocks}
+use Rattle.hume_net.specs.rounds.Pieces.{IsPieceOf}
+use Rattle.hume_net.specs.rounds.Rounds.{IsRound, begins, length_of, made}
+use Rattle.hume_net.specs.rounds.Streams.{asserted_between}
+use Rattle.hume_net.proofs.rounds_lemmas.RoundCounts.{begins_made}
 use Rattle.hume_ports.specs.Port.{PortView}
-use Rattle.hume_ports.specs.Ports.{Untouched}
-use Rattle.hume_ports.specs.Delivery.{Pairs, Progress, bytes_for}
-use Rattle.hume_ports.proofs.Progress.{Progress-on}
-use Rattle.hume_streams.specs.Queues.{IsQueueOf}
+use Rattle.hume_text.specs.Bounds.{IsPrintable}
+use Rattle.port_acts.specs.Acts.{Act}
 use Rattle.run_rounds.specs.declared.engine.engine.Engine.{Engine}
-use Rattle.run_rounds.specs.declared.engine.engine.EngineError.{EngineError}
-use Rattle.run_rounds.specs.engine.Engines.{core_of, queue_at, span_of, state_of, HasGivenAll, IsRight}
-use Rattle.run_rounds.specs.engine.NodeFills.{FillsNode}
+use Rattle.run_rounds.specs.engine.Engines.{coming_at, queue_at, state_of}
 use Rattle.run_rounds.specs.engine.Runnable.{IsRunnable}
 use Rattle.run_rounds.specs.engine.StreamTypes.{type_at}
-use Rattle.run_rounds.specs.Runs.{ReadsSome}
-use Rattle.run_rounds.specs.Streams.{ArePortsApart}
-use Rattle.run_rounds.specs.inner.Standing.{IsAfter}
+use Rattle.run_rounds.specs.Inputs.{Inputs, AreInputs, is_bad}
+use Rattle.run_rounds.specs.RunActs.{needed}
+use Rattle.run_rounds.specs.Runs.{Comes}
+use Rattle.run_rounds.specs.Writes.{span_of}
 use Rattle.run_rounds.specs.inner.Beginning.{MayBegin}
-use Rattle.run_rounds.specs.inner.Steps.{StandsAfter}
-use Rattle.run_rounds.proofs.Fed.{more, with_values}
-use Rattle.run_rounds.proofs.Stepping.{begin_kept, gave_more, after_fed}
+use Rattle.run_rounds.specs.inner.Reading.{MayCome, later_of}
+use Rattle.run_rounds.specs.inner.Steps.{Stands}
+use Rattle.run_rounds.proofs.Comings.{inputs_are}
+use Rattle.run_rounds.proofs.Ending.{texts_read, texts_told, the_inputs, inputs_of_texts, they_may_come}
+use Rattle.run_rounds.proofs.Filled.{node_goes_on}
+use Rattle.run_rounds.proofs.Sharing.{shared}
+use Rattle.run_rounds.proofs.StreamWires.{printable_type}
 
--- the engine is right behind what was read for a stream
-pub is_right : (core : Core) (span steps done : ℕ) (olds mids : List PortView) (engine : Engine) (written : Pairs) → StandsAfter core span steps done olds mids engine written
-    → (n : ℕ) (stream : StreamC) → slice_get core.nodes n ≡ Some (From stream)
-    → (read : List ℕ) × (given : List Value) × IsRight engine n read given
-is_right core span steps done olds mids engine written stands n stream is = (
-  bytes_for stream.port stands.taken,
-  stands.fed n,
-  record {
-    right = λ rest ends. subst (λ (c : Core). IsQueueOf c.types (type_at c n) (queue_at engine n) (bytes_for stream.port stands.taken ++ rest) (stands.fed n) rest)
-        (sym stands.is_core) (stands.after.read.right n stream is rest ends);
-  },
+-- the texts of input streams can be printed
+pub stream_printable : (core : Core) → IsRunnable core → (n : ℕ) (stream : StreamC) → slice_get core.nodes n ≡ Some (From stream)
+    → IsPrintable core.types (type_at core n)
+stream_printable core run n stream is = printable_type core run n (inl (inputs_are core n stream is))
+
+-- whatever texts there are, something comes of them
+pub has_inputs : (core : Core) → IsRunnable core → (texts : List ℕ → List ℕ) → (inputs : Inputs) × AreInputs core texts inputs
+has_inputs core run texts = (
+  the_inputs core run.formed.frame.sizes run.names (stream_printable core run) texts,
+  inputs_of_texts core run.formed.frame.sizes run.names (stream_printable core run) texts,
 )
 
-module _ (span steps done want : ℕ) (olds mids news : List PortView) (old new : Engine) (written : Pairs) (n : ℕ) (stream : StreamC)
-    (is : slice_get (core_of old).nodes n ≡ Some (From stream)) (result : Result (Unit {0}) EngineError)
-    (fill : FillsNode want old new n stream.port mids news result) where
-  abbrev core : Core
-  core = core_of old
+-- a number below the length has its item
+pub item_at : (nodes : List NodeC) (n : ℕ) → n < length nodes → (node : NodeC) × (slice_get nodes n ≡ Some node)
+item_at [] n within = absurd (omega (arith, within))
+item_at (node ∷ nodes) zero within = (node, refl)
+item_at (node ∷ nodes) (suc n) within = item_at nodes n (omega (arith, within))
 
-  -- the fill didn't fail
-  pub stands_filled_at : IsRunnable core → ArePortsApart core → StandsAfter core span steps done olds mids old written → core_of new ≡ core → span_of new ≡ span_of old
-      → HasGivenAll new → Progress mids news ((stream.port, fill.bytes) ∷ []) [] → Untouched (stream.port ∷ []) mids news
-      → StandsAfter core span steps done olds news new written
-  stands_filled_at run apart stands same_core same_span given progress untouched =
-      let now = after_fed core run.names apart (queue_at old) (queue_at new) stands.taken stands.fed n stream is fill.bytes fill.values fill.others fill.stays
-      stands.after.read given fill.goes_on (state_of old) old.net.parts span steps done written stands.after in
-      record {
-        taken = more core run.names apart (queue_at old) (queue_at new) stands.taken stands.fed n stream is fill.bytes fill.values;
-        fed = with_values n fill.values stands.fed;
-        is_core = same_core;
-        is_span = same_span ∙ stands.is_span;
-        gave = gave_more core run.names apart (queue_at old) (queue_at new) stands.taken stands.fed n stream is fill.bytes fill.values fill.others fill.stays
-            olds mids news stands.gave progress untouched fill.ended;
-        after = subst (λ state. IsAfter core span steps done (queue_at new) state
-            (more core run.names apart (queue_at old) (queue_at new) stands.taken stands.fed n stream is fill.bytes fill.values)
-            (with_values n fill.values stands.fed) written) (sym fill.state) now;
-      }
+-- a state with a place for each node has the parts of each
+pub parts_of : (core : Core) (state : State) → IsStateOf core state → HasParts core state
+parts_of core state is = record { coming = is.coming; taken = is.taken }
 
-  -- an earlier stream may begin still
-  pub still_begins : (m : ℕ) → (m ≡ n → ⊥) → MayBegin core (queue_at old) want (state_of old) m → MayBegin core (queue_at new) want (state_of new) m
-  still_begins m differ begin = subst (λ state. MayBegin core (queue_at new) want state m) (sym fill.state)
-      (begin_kept core (queue_at old) (queue_at new) want n m fill.values (state_of old) differ (fill.others m differ) begin)
+pub length_set : (lists : List (List Value)) (n : ℕ) (list : List Value) → length (slice_set lists n list) ≡ length lists
+length_set [] n list = refl
+length_set (first ∷ lists) zero list = refl
+length_set (first ∷ lists) (suc n) list = ap suc (length_set lists n list)
 
-  pub reads_more : (taken : Pairs) → Progress olds mids taken [] → Progress mids news ((stream.port, fill.bytes) ∷ []) [] → ReadsSome olds news
-  reads_more taken before progress = (taken ++ (stream.port, fill.bytes) ∷ [], Progress-on olds mids news taken ((stream.port, fill.bytes) ∷ []) [] [] before progress)
+module _ (core : Core) (run : IsRunnable core) (traced : Bool) (steps done : ℕ) (acts_of : List (List Value) → List Act) (olds news : List PortView) (engine : Engine)
+    (stands : Stands core traced steps done acts_of olds news engine) where
+  abbrev pub inputs : Inputs
+  inputs = the_inputs core run.formed.frame.sizes run.names (stream_printable core run) (texts_read olds stands.taken)
+
+  pub may : MayCome core (queue_at engine) stands.taken inputs
+  may = they_may_come core run.formed.frame.sizes run.names (stream_printable core run) (queue_at engine) stands.taken stands.acts olds news stands.made stands.told
+
+  -- what the ports have to read, once it is known what was read
+  abbrev pub comes : Comes core olds
+  comes = record {
+    texts = texts_read olds stands.taken;
+    told = texts_told olds stands.taken;
+    inputs = inputs;
+    are = inputs_of_texts core run.formed.frame.sizes run.names (stream_printable core run) (texts_read olds stands.taken);
+  }
+
+  module _ (others : Inputs) (can : MayCome core (queue_at engine) stands.taken others) where
+    -- of the values that came the first were asserted
+    pub shares : (n : ℕ) (stream : StreamC) → slice_get core.nodes n ≡ Some (From stream)
+        → stands.fed n
+        ≡ asserted_between (start core others.good) (lockstep core (start core others.good) (made (span_of traced) steps done)) n ++ coming_at engine n
+    shares n stream is =
+        let p = stands.after.piece others can in
+        shared core run.names (queue_at engine) stands.taken stands.fed stands.after.read others can (made (span_of traced) steps done) (state_of engine) p.0 p.1 n stream is
+
+    module _ (is : IsRound (span_of traced) steps (suc done)) where
+      pub begun : begins (span_of traced) (suc done) ≡ made (span_of traced) steps done
+      begun = begins_made (span_of traced) steps done is.begins_within
+
+      pub piece_now : IsPieceOf core (stands.after.piece others can).0 (later_of others stands.fed) (state_of engine)
+          (lockstep core (start core others.good) (begins (span_of traced) (suc done)))
+      piece_now = subst (λ k. IsPieceOf core (stands.after.piece others can).0 (later_of others stands.fed) (state_of engine) (lockstep core (start core others.good) k))
+          (sym begun) (stands.after.piece others can).1
+
+      -- how many values are wanted of a stream
+      pub count_is : (want n : ℕ) (stream : StreamC) → slice_get core.nodes n ≡ Some (From stream) → want ≡ length_of (span_of traced) steps (suc done)
+          → (length (stands.fed n) - length (coming_at engine n)) + want ≡ needed core others.good (span_of traced) steps (suc done) n
+      count_is want n stream there wanted =
+          let k : ℕ = made (span_of traced) steps done in
+          let gone : List Value = asserted_between (start core others.good) (lockstep core (start core others.good) k) n in
+          let all = ap length (shares n stream there) ∙ length-append gone (coming_at engine n) in
+          let first : length (stands.fed n) - length (coming_at engine n) ≡ length gone = omega (arith, all) in
+          ap (λ count. count + want) first
+          ∙ ap (λ count. length gone + count) wanted
+          ∙ ap (λ j. length (asserted_between (start core others.good) (lockstep core (start core others.good) j) n) + length_of (span_of traced) steps (suc done)) (sym begun)
+
+      -- a stream that may begin doesn't block the round
+      pub goes_on : (n want : ℕ) → n < length core.nodes → want ≡ length_of (span_of traced) steps (suc done)
+          → ((stream : StreamC) → slice_get core.nodes n ≡ Some (From stream) → MayBegin core (queue_at engine) want (state_of engine) n)
+          → blocks core others.good (is_bad others) (span_of traced) steps (suc done) n ≡ false
+      goes_on n want within wanted begin =
+          let item = item_at core.nodes n within in
+          node_goes_on core run.names (queue_at engine) stands.taken stands.fed stands.after.read others can (span_of traced) steps (suc done) (state_of engine)
+          (stands.after.piece others can).0 piece_now n item.0 item.1
+          (λ stream there. subst (λ count. MayBegin core (queue_at engine) count (state_of engine) n) wanted (begin stream there))

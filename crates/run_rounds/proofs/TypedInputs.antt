@@ -8,11 +8,11 @@ use Rattle.hume_net.specs.Nodes.{IsInput}
 use Rattle.hume_net.specs.StateTyping.{ComingAreTyped}
 use Rattle.run_rounds.specs.engine.Runnable.{IsRunnable}
 use Rattle.run_rounds.specs.engine.StreamTypes.{type_at}
-use Rattle.run_rounds.proofs.engine_lemmas.Wires.{input_type}
+use Rattle.run_rounds.proofs.StreamWires.{input_type}
 use Rattle.hume_net.specs.rounds.Pieces.{listed}
 use Rattle.run_rounds.specs.Inputs.{AreInputs, Inputs}
 use Rattle.run_rounds.proofs.Ending.{comes_at}
-use Rattle.run_rounds.proofs.TypedTaken.{values_typed}
+use Rattle.run_rounds.proofs.TypedValues.{values_typed}
 
 pub inputs_typed : (core : Core) → IsRunnable core → (texts : List ℕ → List ℕ) (inputs : Inputs) → AreInputs core texts inputs → ComingAreTyped core inputs.good
 inputs_typed core run texts inputs are n stream w wire is there from =

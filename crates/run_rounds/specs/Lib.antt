@@ -1,7 +1,9 @@
 pub mod Streams
 pub mod Inputs
+pub mod TraceLinesStub
 pub mod Writes
-pub mod Destinations
+pub mod RunActs
 pub mod Runs
+pub mod Opened
 pub mod inner
 pub mod engine

@@ -1,6 +1,7 @@
 pub mod Reading
-pub mod Standing
 pub mod Beginning
+pub mod Standing
 pub mod Clearing
-pub mod Gatherings
 pub mod Steps
+pub mod Telling
+pub mod Rounding

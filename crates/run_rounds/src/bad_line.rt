@@ -1,8 +1,10 @@
-ghost use Rattle.std.specs.Prelude.{◌≡◌, IfOk};
+ghost use Rattle.std.specs.Prelude.{◌≡◌, ◌+◌, ◌≤◌, ◌++◌, length};
+ghost use Rattle.hume_base.specs.declared.limits.TheConstants.{MAX_NAME_BYTES};
+ghost use Rattle.hume_text.specs.Chunks.{bytes_in, room_of};
 ghost use Rattle.run_rounds.specs.Writes.{bad_value_line};
 
+use hume_text::Chunk;
 use itoa::Buffer;
-use std::alloc::{AllocError, Global};
 
 /// A line of an input stream that is bad.
 #[derive(Clone, Copy)]
@@ -12,14 +14,16 @@ pub struct BadLine {
     pub line: u64,
 }
 
-/// The line that tells at which line of its port an input stream of that name has no value.
-pub fn bad_line_text(alloc: Global, name: &[u8], line: u64) -> Result<Vec<u8>, AllocError>
-    ensures { IfOk result (λ told. told.items ≡ bad_value_line name.now line) }
+/// Puts the line that tells at which line of its port an input stream of that name has no value.
+pub fn put_bad_line(name: &[u8], line: u64, chunk: &mut Chunk)
+    requires name { length name.now ≤ MAX_NAME_BYTES }
+    requires room { length (bytes_in chunk.old) + 128 ≤ room_of chunk.old }
+    ensures line { bytes_in chunk.new ≡ bytes_in chunk.old ++ bad_value_line name.now line }
+    ensures room { room_of chunk.new ≡ room_of chunk.old }
 {
-    let mut told = Vec::from_slice(alloc, b"bad value ")?;
-    told.extend_from_slice(name)?;
-    told.extend_from_slice(b" line ")?;
-    told.extend_from_slice(Buffer::new().format(line).as_bytes())?;
-    told.push(b'\n')?;
-    Ok(told)
+    chunk.put(b"bad value ");
+    chunk.put(name);
+    chunk.put(b" line ");
+    chunk.put(Buffer::new().format(line).as_bytes());
+    chunk.put(b"\n");
 }

@@ -1,30 +1,34 @@
-//! The loop of rounds: it fills the input streams of a core, runs its net for a round, and gathers what the output streams took
-//! as lines.
+//! The run of a core by rounds: before each round its input streams are read, and after it the lines of the round are written.
 //!
-//! Main call: `run_core`. `Inputs.antt` says which values the texts bring to the streams, `Writes.antt` what a run writes and
-//! which round is blocked, and `Runs.antt` how a run ended.
+//! Main calls: `Running::make` and `Running::run`. `Inputs.antt` says which values the texts bring to the streams, `Writes.antt`
+//! what a run writes and which round is blocked, `RunActs.antt` which reads and writes it makes and in which order, `Runs.antt`
+//! how a run ended, and `Opened.antt` what it is before its first superstep.
 //!
-//! Proved: `run_core` reads what a run needs and gathers exactly the writes that the texts of the ports owe (`RunsTo`), or says
-//! that a read failed or memory ran out while nothing was written. A read failed only before a round for which its stream had
-//! too few values: the whole lines that were taken from the port have fewer good values than the stream had asserted and may
-//! need in the round (`FailsToRead`). Laws: every list of texts brings values to the streams (`each_run_has_inputs`), the
-//! same ones each time (`inputs_are_unique`), and they have the types of the streams (`inputs_have_types`).
+//! Proved: `run` makes exactly the acts that the texts of the ports owe (`RunsTo`), or one of them has failed and those before it
+//! were made (`FailsToRun`). A read failed only where the whole lines that were taken from its port have fewer good values than its
+//! stream had asserted and may need in the round (`run_few`). `make` takes all memory, and `run` takes none. Laws: every list of
+//! texts brings values to the streams (`each_run_has_inputs`), the same ones each time (`inputs_are_unique`), and they have the
+//! types of the streams (`inputs_have_types`). What the acts write is what `Writes.antt` says, and they finish nothing
+//! (`runs_write_their_lines`). Each of their reads is for one round, before which exactly the earlier rounds have written
+//! (`wants_stand_before_rounds`).
 //!
-//! It knows cores, an engine that runs a net, rounds and the places of ports. It doesn't know sources, how a core was accepted,
-//! or when what is gathered is written.
+//! It knows cores, an engine that runs a net, rounds and the places of ports. It doesn't know sources, or how a core was accepted.
 #![tactic(auto)]
 
 mod bad_line;
-mod clearing;
+mod draining;
 pub mod engine;
 mod filling;
-mod gathering;
 mod laws;
-mod line_printer;
 mod nodes;
 mod rounds;
 mod run;
+mod telling;
+mod trace_stub;
 
-pub use laws::{each_run_has_inputs, inputs_are_unique, inputs_have_types};
+pub use laws::{
+    each_run_has_inputs, inputs_are_unique, inputs_have_types, runs_write_their_lines,
+    wants_stand_before_rounds,
+};
 pub use rounds::SPAN;
-pub use run::{RunEnd, RunError, run_core};
+pub use run::Running;

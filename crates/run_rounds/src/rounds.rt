@@ -1,132 +1,179 @@
-ghost use Rattle.std.specs.Prelude.{◌≡◌, ◌≤◌, ℕ, suc, List, length, map, OnOk};
-ghost use Rattle.hume_ports.specs.Port.{PortView};
-ghost use Rattle.hume_ports.specs.Ports.{names, Untouched};
-ghost use Rattle.hume_ports.specs.Delivery.{Pairs};
-ghost use Rattle.trace_print.specs.writes.Gathered.{pairs_of, writes_of};
-ghost use Rattle.run_rounds.specs.engine.Engines.{core_of, span_of};
-ghost use Rattle.run_rounds.specs.engine.Runnable.{IsRunnable};
+//! The rounds of a run.
+ghost use Rattle.std.specs.Prelude.{◌≡◌, ◌+◌, ◌*◌, ◌≤◌, ◌<◌, ◌++◌, [], ℕ, suc, List, length, map, OnOk};
+ghost use Rattle.hume_net.specs.Lockstep.{lockstep};
+ghost use Rattle.hume_net.specs.Nodes.{IsOutputStream};
+ghost use Rattle.hume_net.specs.Parts.{IsStateOf};
+ghost use Rattle.hume_net.specs.Sides.{part_of};
 ghost use Rattle.hume_net.specs.rounds.Rounds.{IsRound, length_of};
-ghost use Rattle.run_rounds.specs.Streams.{ArePlacesOf, ArePortsApart, inputs, ports_of};
-ghost use Rattle.run_rounds.specs.inner.Gatherings.{GoToOutputs};
-ghost use Rattle.run_rounds.specs.inner.Steps.{StandsAfter, StandsFilled, EndsRound, EndsRounds};
+ghost use Rattle.hume_ports.specs.Port.{PortView};
+ghost use Rattle.hume_ports.specs.Ports.{names};
+ghost use Rattle.hume_text.specs.Chunks.{room_of};
+ghost use Rattle.port_acts.specs.Acts.{write_each};
+ghost use Rattle.port_acts.specs.Ends.{Ends, never};
+ghost use Rattle.port_acts.specs.Places.{IsPlaceOf};
+ghost use Rattle.run_rounds.specs.engine.Engines.{core_of, queue_at, state_of, span_of as room_in};
+ghost use Rattle.run_rounds.specs.engine.Runnable.{IsRunnable};
+ghost use Rattle.run_rounds.specs.Streams.{ArePlacesOf, ArePortsApart, std_out};
+ghost use Rattle.run_rounds.specs.TraceLinesStub.{line_room};
+ghost use Rattle.run_rounds.specs.Writes.{span_of, writes_of_nodes};
+ghost use Rattle.run_rounds.specs.inner.Clearing.{Clears};
+ghost use Rattle.run_rounds.specs.inner.Rounding.{told_now, wires_now, PeaksGrow};
+ghost use Rattle.run_rounds.specs.inner.Steps.{StandsAfter, EndsRound, EndsRounds};
 
 use crate::bad_line::BadLine;
-use crate::clearing::clear_outputs;
+use crate::draining::drain_outputs;
 use crate::engine::Engine;
 use crate::filling::fill_inputs;
-use crate::gathering::gather_outputs;
-use crate::line_printer::LinePrinter;
-use crate::run::RunError;
-use hume_ports::Port;
-use trace_print::writes::Writes;
-use std::alloc::{AllocError, Global};
+use crate::telling::tell_superstep;
+use hume_ports::{Failed, Port};
+use hume_text::Chunk;
 
-/// How many supersteps a round has, but for the last.
+/// How many supersteps a round has, but for the last, where not all wires are told after each superstep.
 pub const SPAN: u32 = 64;
 
-/// Makes rounds until so many supersteps are made, or a stream blocks one by a bad line.
+/// How many supersteps a round has, but for the last.
+pub fn span(traced: bool) -> u32
+    ensures { result ≡ span_of traced }
+{
+    if traced { 1 } else { SPAN }
+}
+
+/// Makes rounds until so many supersteps are made, or a stream blocks one by a bad line. The ports of the streams are given by their
+/// places, one for each node, and so is the port for all that is told besides.
 pub fn make_rounds(
-    alloc: Global,
-    engine: &mut Engine<'_>,
+    engine: &mut Engine,
+    traced: bool,
     steps: u32,
     ports: &mut [Box<dyn Port>],
     places: &[usize],
-    printer: &mut LinePrinter,
-    writes: &mut Writes,
-) -> Result<Option<BadLine>, RunError>
+    out: usize,
+    chunk: &mut Chunk,
+) -> Result<Option<BadLine>, Failed>
     requires runnable { IsRunnable (core_of engine.old) }
     requires places { ArePlacesOf (core_of engine.old) (names (map view ports.old)) places.now }
     requires apart { ArePortsApart (core_of engine.old) }
-    requires span { span_of engine.old ≡ SPAN }
-    requires stands { StandsAfter (core_of engine.old) SPAN steps 0 (map view ports.old) (map view ports.old) engine.old
-        (pairs_of (names (map view ports.old)) (writes_of writes.old)) }
-    ensures ends { EndsRounds (core_of engine.old) SPAN steps (map view ports.old) (map view ports.new) engine.new
-        (pairs_of (names (map view ports.old)) (writes_of writes.new)) result }
+    requires out { IsPlaceOf std_out (names (map view ports.old)) out }
+    requires room { 512 * 1024 < room_of chunk.old }
+    requires lines { line_room (core_of engine.old) ≤ room_of chunk.old }
+    requires stands { StandsAfter (core_of engine.old) traced steps 0 (map view ports.old) (map view ports.old) engine.old }
+    ensures core { core_of engine.new ≡ core_of engine.old }
+    ensures ends { EndsRounds (core_of engine.old) traced steps (map view ports.old) (map view ports.new) engine.new result }
     ensures same_names { names (map view ports.new) ≡ names (map view ports.old) }
-    ensures untouched { Untouched (ports_of (inputs (core_of engine.old))) (map view ports.old) (map view ports.new) }
-    ensures places { GoToOutputs (core_of engine.old) places.now (writes_of writes.old)
-        → GoToOutputs (core_of engine.old) places.now (writes_of writes.new) }
+    ensures room { room_of chunk.new ≡ room_of chunk.old }
 {
-    for done in 0..steps.div_ceil(SPAN) {
-        let supersteps = (steps - done * SPAN).min(SPAN);
-        match make_round(alloc, engine, supersteps, ports, places, printer, writes) {
+    for done in 0..steps.div_ceil(span(traced)) {
+        match make_round(engine, traced, steps, done, ports, places, out, chunk) {
             Ok(None) => {}
             Ok(Some(bad)) => return Ok(Some(bad)),
-            Err(error) => return Err(error),
+            Err(failed) => return Err(failed),
         }
     }
     Ok(None)
 }
 
+// Makes the round after those that are done.
 fn make_round(
-    alloc: Global,
-    engine: &mut Engine<'_>,
-    supersteps: u32,
+    engine: &mut Engine,
+    traced: bool,
+    steps: u32,
+    done: u32,
     ports: &mut [Box<dyn Port>],
     places: &[usize],
-    printer: &mut LinePrinter,
-    writes: &mut Writes,
-) -> Result<Option<BadLine>, RunError>
+    out: usize,
+    chunk: &mut Chunk,
+) -> Result<Option<BadLine>, Failed>
     requires runnable { IsRunnable (core_of engine.old) }
     requires places { ArePlacesOf (core_of engine.old) (names (map view ports.old)) places.now }
     requires apart { ArePortsApart (core_of engine.old) }
-    requires span { supersteps ≤ span_of engine.old }
-    requires stands { (span steps done : ℕ) × (olds : List PortView) × (names (map view ports.old) ≡ names olds)
-        × IsRound span steps (suc done) × (supersteps ≡ length_of span steps (suc done))
-        × StandsAfter (core_of engine.old) span steps done olds (map view ports.old) engine.old (pairs_of (names olds) (writes_of writes.old)) }
+    requires out { IsPlaceOf std_out (names (map view ports.old)) out }
+    requires room { 512 * 1024 < room_of chunk.old }
+    requires lines { line_room (core_of engine.old) ≤ room_of chunk.old }
+    requires is { IsRound (span_of traced) steps (suc done) }
+    requires stands { (olds : List PortView) × StandsAfter (core_of engine.old) traced steps done olds (map view ports.old) engine.old }
     ensures core { core_of engine.new ≡ core_of engine.old }
-    ensures span { span_of engine.new ≡ span_of engine.old }
-    ensures ends { (span steps done : ℕ) (olds : List PortView) → names (map view ports.old) ≡ names olds
-        → IsRound span steps (suc done) → supersteps ≡ length_of span steps (suc done)
-        → StandsAfter (core_of engine.old) span steps done olds (map view ports.old) engine.old (pairs_of (names olds) (writes_of writes.old))
-        → EndsRound (core_of engine.old) span steps done olds (map view ports.new) engine.new (pairs_of (names olds) (writes_of writes.new)) result }
+    ensures ends { (olds : List PortView) → StandsAfter (core_of engine.old) traced steps done olds (map view ports.old) engine.old
+        → EndsRound (core_of engine.old) traced steps done olds (map view ports.new) engine.new result }
     ensures same_names { names (map view ports.new) ≡ names (map view ports.old) }
-    ensures untouched { Untouched (ports_of (inputs (core_of engine.old))) (map view ports.old) (map view ports.new) }
-    ensures places { GoToOutputs (core_of engine.old) places.now (writes_of writes.old)
-        → GoToOutputs (core_of engine.old) places.now (writes_of writes.new) }
+    ensures room { room_of chunk.new ≡ room_of chunk.old }
 {
-    match fill_inputs(alloc, engine, ports, places, supersteps) {
+    let supersteps = (steps - done * span(traced)).min(span(traced));
+    match fill_inputs(engine, ports, places, supersteps) {
         Ok(None) => {}
         Ok(Some(bad)) => return Ok(Some(bad)),
-        Err(error) => return Err(error),
+        Err(failed) => return Err(failed),
     }
-    match run_round(alloc, engine, supersteps, places, printer, writes) {
+    match run_round(
+        engine,
+        traced,
+        done + 1,
+        supersteps,
+        ports,
+        places,
+        out,
+        chunk,
+    ) {
         Ok(()) => Ok(None),
-        Err(_) => Err(RunError::NoMemory),
+        Err(failed) => Err(failed),
     }
 }
 
-// The supersteps of a round for which all streams are filled, and what comes of it.
+// The supersteps of a round of that number for which all streams are filled, and the lines that come of it.
 fn run_round(
-    alloc: Global,
-    engine: &mut Engine<'_>,
+    engine: &mut Engine,
+    traced: bool,
+    round: u32,
     supersteps: u32,
+    ports: &mut [Box<dyn Port>],
     places: &[usize],
-    printer: &mut LinePrinter,
-    writes: &mut Writes,
-) -> Result<(), AllocError>
+    out: usize,
+    chunk: &mut Chunk,
+) -> Result<(), Failed>
     requires runnable { IsRunnable (core_of engine.old) }
-    requires places { length places.now ≡ length (core_of engine.old).nodes }
-    requires stands { (span steps done : ℕ) × (olds news : List PortView) × (written : Pairs)
-        × IsRound span steps (suc done) × (supersteps ≡ length_of span steps (suc done))
-        × StandsFilled (core_of engine.old) span steps done supersteps olds news engine.old written }
+    requires parts { IsStateOf (core_of engine.old) (state_of engine.old) }
+    requires places { ArePlacesOf (core_of engine.old) (names (map view ports.old)) places.now }
+    requires out { IsPlaceOf std_out (names (map view ports.old)) out }
+    requires room { 512 * 1024 < room_of chunk.old }
+    requires lines { line_room (core_of engine.old) ≤ room_of chunk.old }
+    requires span { supersteps ≤ room_in engine.old }
+    requires clear { (n : ℕ) → IsOutputStream (core_of engine.old) n → (part_of (state_of engine.old) n).taken ≡ [] }
     ensures core { core_of engine.new ≡ core_of engine.old }
-    ensures span { span_of engine.new ≡ span_of engine.old }
-    ensures round { OnOk result ((span steps done : ℕ) (olds news : List PortView) → ArePlacesOf (core_of engine.old) (names olds) places.now
-        → IsRound span steps (suc done) → supersteps ≡ length_of span steps (suc done)
-        → StandsFilled (core_of engine.old) span steps done supersteps olds news engine.old (pairs_of (names olds) (writes_of writes.old))
-        → StandsAfter (core_of engine.old) span steps (suc done) olds news engine.new (pairs_of (names olds) (writes_of writes.new))) }
-    ensures places { GoToOutputs (core_of engine.old) places.now (writes_of writes.old)
-        → GoToOutputs (core_of engine.old) places.now (writes_of writes.new) }
+    ensures span { room_in engine.new ≡ room_in engine.old }
+    ensures queues { (n : ℕ) → queue_at engine.new n ≡ queue_at engine.old n }
+    ensures peaks { PeaksGrow engine.old supersteps engine.new }
+    ensures ends { Ends never [] (write_each (told_now (core_of engine.old) traced round (lockstep (core_of engine.old) (state_of engine.old) supersteps))) []
+        (map view ports.old) (map view ports.new) result }
+    ensures clears { OnOk result (Clears (core_of engine.old) (lockstep (core_of engine.old) (state_of engine.old) supersteps) (state_of engine.new)) }
+    ensures same_names { names (map view ports.new) ≡ names (map view ports.old) }
+    ensures room { room_of chunk.new ≡ room_of chunk.old }
 {
-    match engine.round(alloc, supersteps) {
+    engine.round(supersteps);
+    match drain_outputs(engine, ports, places, chunk) {
         Ok(()) => {}
-        Err(error) => return Err(error),
+        Err(failed) => return Err(failed),
     }
-    match gather_outputs(alloc, engine, places, printer, writes) {
-        Ok(()) => {}
-        Err(error) => return Err(error),
+    tell_wires_now(engine, traced, round, ports, out, chunk)
+}
+
+// The superstep of that number and all wires, if they are told.
+fn tell_wires_now(
+    engine: &Engine,
+    traced: bool,
+    round: u32,
+    ports: &mut [Box<dyn Port>],
+    out: usize,
+    chunk: &mut Chunk,
+) -> Result<(), Failed>
+    requires runnable { IsRunnable (core_of engine.now) }
+    requires out { IsPlaceOf std_out (names (map view ports.old)) out }
+    requires lines { line_room (core_of engine.now) ≤ room_of chunk.old }
+    ensures ends { Ends never [] (write_each (wires_now (core_of engine.now) traced round (state_of engine.now))) []
+        (map view ports.old) (map view ports.new) result }
+    ensures same_names { names (map view ports.new) ≡ names (map view ports.old) }
+    ensures room { room_of chunk.new ≡ room_of chunk.old }
+{
+    if traced {
+        tell_superstep(engine, round, ports, out, chunk)
+    } else {
+        Ok(())
     }
-    clear_outputs(engine);
-    Ok(())
 }

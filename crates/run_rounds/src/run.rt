@@ -1,111 +1,123 @@
-ghost use Rattle.std.specs.Prelude.{◌≡◌, ◌++◌, [], ◌∷◌, true, map, IfOk, slice_get};
-ghost use Rattle.hume_ports.specs.Ports.{names, Untouched};
-ghost use Rattle.trace_print.specs.writes.Gathered.{writes_of};
+//! A run that is open.
+ghost use Rattle.std.specs.Prelude.{◌≡◌, ◌≤◌, ◌<◌, ◌*◌, map, IfOk, None};
+ghost use Rattle.hume_base.specs.Least.{IsLeast};
+ghost use Rattle.hume_net.specs.StatePlaces.{BoxesHandleAll};
+ghost use Rattle.hume_ports.specs.Ports.{names};
+ghost use Rattle.hume_text.specs.Chunks.{room_of};
 ghost use Rattle.port_acts.specs.Places.{IsPlaceOf};
+ghost use Rattle.wiring_check.specs.Wires.{IsWiringOf};
+ghost use Rattle.box_compile.specs.Programs.{AreProgramsOf};
+ghost use Rattle.box_costs.specs.CostRules.{BreaksCosts};
+ghost use Rattle.run_rounds.specs.engine.Engines.{core_of};
 ghost use Rattle.run_rounds.specs.engine.Runnable.{IsRunnable};
-ghost use Rattle.run_rounds.specs.Streams.{ArePlacesOf, ArePortsApart, inputs, ports_of, std_out};
+ghost use Rattle.run_rounds.specs.Streams.{ArePlacesOf, ArePortsApart, std_out};
+ghost use Rattle.run_rounds.specs.TraceLinesStub.{line_room};
 ghost use Rattle.run_rounds.specs.Runs.{EndsRun};
-ghost use Rattle.run_rounds.specs.Writes.{bad_value_line, name_of};
-ghost use Rattle.run_rounds.specs.Destinations.{GoToOutputsOr};
 
-use crate::bad_line::{BadLine, bad_line_text};
 use crate::engine::Engine;
-use crate::line_printer::LinePrinter;
-use crate::rounds::{SPAN, make_rounds};
-use hume_model::{Core, NodeC};
-use hume_ports::Port;
-use trace_print::writes::Writes;
+use crate::rounds::{make_rounds, span};
+use crate::telling::{tell_bad_line, tell_peaks};
+use crate::trace_stub::line_bound;
+use box_code::BoxProgram;
+use hume_base::List;
+use hume_base::limits::MAX_TYPE_WORDS;
+use hume_model::Core;
+use hume_ports::{Failed, Port};
+use hume_text::Chunk;
 use std::alloc::{AllocError, Global};
-use thiserror::Error;
+use wiring_check::Wiring;
 
-/// Why a run has no end.
-#[derive(Debug, Drop, Error)]
-pub enum RunError {
-    #[error("a read of an input stream's port failed")]
-    Failed,
-    #[error("out of memory")]
-    NoMemory,
-}
+// No text of a value is longer than so many bytes for each of its words.
+const WORD_BYTES: u32 = 512;
 
-/// What is owed to the ports after a run.
+/// A run that is open: a net, and room for a line. No later call takes memory.
 #[derive(Drop)]
-pub struct RunEnd {
-    pub writes: Writes,
-    /// Whether a stream has blocked a round by a bad line.
-    pub blocked: bool,
+pub struct Running {
+    engine: Engine,
+    chunk: Chunk,
+    // whether all wires are told after each superstep
+    traced: bool,
+    ghost values: { 512 * 1024 < room_of chunk },
+    ghost lines: { line_room (core_of engine) ≤ room_of chunk },
 }
 
-/// Runs a core for so many supersteps. The ports of the streams are given by their places, one for each node, and so is the
-/// port for all that is told besides.
-pub fn run_core(
-    alloc: Global,
-    core: &Core,
-    steps: u32,
-    ports: &mut [Box<dyn Port>],
-    places: &[usize],
-    out: usize,
-) -> Result<RunEnd, RunError>
-    requires runnable { IsRunnable core.now }
-    requires places { ArePlacesOf core.now (names (map view ports.old)) places.now }
-    requires apart { ArePortsApart core.now }
-    requires out { IsPlaceOf std_out (names (map view ports.old)) out }
-    ensures ends { EndsRun core.now SPAN steps (map view ports.old) (map view ports.new) result }
-    ensures same_names { names (map view ports.new) ≡ names (map view ports.old) }
-    ensures untouched { Untouched (ports_of (inputs core.now)) (map view ports.old) (map view ports.new) }
-    ensures places { IfOk result (λ end. GoToOutputsOr core.now places.now out (writes_of end.writes)) }
-{
-    let Ok(mut engine) = Engine::make(alloc, core, SPAN) else {
-        return Err(RunError::NoMemory);
-    };
-    let Ok(mut printer) = LinePrinter::make(alloc) else {
-        return Err(RunError::NoMemory);
-    };
-    let mut writes = Writes::new(alloc);
-    match make_rounds(
-        alloc,
-        &mut engine,
-        steps,
-        ports,
-        places,
-        &mut printer,
-        &mut writes,
-    ) {
-        Ok(None) => Ok(RunEnd {
-            writes,
-            blocked: false,
-        }),
-        Ok(Some(bad)) => match blocked_end(alloc, core, writes, bad, out) {
-            Ok(end) => Ok(end),
-            Err(_) => Err(RunError::NoMemory),
-        },
-        Err(error) => Err(error),
+impl Running {
+    ghost use Rattle.run_rounds.specs.Opened.{core_in, traced_in, IsOpened};
+
+    /// The run of a core before its first superstep, of boxes whose programs are given. If `traced`, it will tell all wires after each
+    /// superstep. All memory of the run is taken here.
+    pub fn make(
+        alloc: Global,
+        core: Core,
+        wiring: &Wiring,
+        programs: List<BoxProgram>,
+        traced: bool,
+    ) -> Result<Running, AllocError>
+        requires runnable { IsRunnable core }
+        requires handles { BoxesHandleAll core }
+        requires wiring { IsWiringOf core wiring.now }
+        requires programs { AreProgramsOf core programs }
+        requires within { IsLeast (BreaksCosts core) None }
+        ensures { IfOk result (λ running. IsOpened core traced running) }
+    {
+        let bytes = line_bound(&core).max(WORD_BYTES * MAX_TYPE_WORDS + 1);
+        let chunk = Chunk::make(alloc, bytes)?;
+        let engine = Engine::make(alloc, core, wiring, programs, span(traced))?;
+        Ok(Running {
+            engine,
+            chunk,
+            traced,
+        })
     }
-}
 
-// What is owed where a bad line of a stream blocks a round.
-fn blocked_end(
-    alloc: Global,
-    core: &Core,
-    mut writes: Writes,
-    bad: BadLine,
-    out: usize,
-) -> Result<RunEnd, AllocError>
-    ensures { IfOk result (λ end. (end.blocked ≡ true) × (writes_of end.writes ≡ writes_of writes
-        ++ (out, bad_value_line (name_of (slice_get core.now.nodes bad.node)) bad.line) ∷ [])) }
-{
-    let text = bad_line_text(alloc, stream_name(core, bad.node), bad.line)?;
-    writes.push(out, &text)?;
-    Ok(RunEnd {
-        writes,
-        blocked: true,
-    })
-}
+    pub fn core(&self) -> &Core
+        ensures { result.now ≡ core_in self.now }
+    {
+        self.engine.core()
+    }
 
-fn stream_name(core: &Core, node: u32) -> &[u8]
-    ensures { result.now ≡ name_of (slice_get core.now.nodes node) }
-{
-    match core.nodes.get(node as usize) {
-        Some(NodeC::From(stream)) => stream.name.bytes(),
-        Some(NodeC::Rules(_) | NodeC::To(_)) | None => &[],
+    /// Makes `steps` supersteps by rounds, and then tells what each box took at most. Answers whether a bad line of a stream has
+    /// blocked a round; it is told then. The ports of the streams are given by their places, one for each node, and so is the port
+    /// for all that is told besides.
+    pub fn run(
+        &mut self,
+        steps: u32,
+        ports: &mut [Box<dyn Port>],
+        places: &[usize],
+        out: usize,
+    ) -> Result<bool, Failed>
+        requires runnable { IsRunnable (core_in self.old) }
+        requires places { ArePlacesOf (core_in self.old) (names (map view ports.old)) places.now }
+        requires apart { ArePortsApart (core_in self.old) }
+        requires out { IsPlaceOf std_out (names (map view ports.old)) out }
+        requires opened { IsOpened (core_in self.old) (traced_in self.old) self.old }
+        ensures ends { EndsRun (core_in self.old) (traced_in self.old) steps (map view ports.old) (map view ports.new) result }
+        ensures same_names { names (map view ports.new) ≡ names (map view ports.old) }
+    {
+        match make_rounds(
+            &mut self.engine,
+            self.traced,
+            steps,
+            ports,
+            places,
+            out,
+            &mut self.chunk,
+        ) {
+            Ok(None) => match tell_peaks(&self.engine, ports, out, &mut self.chunk) {
+                Ok(()) => Ok(false),
+                Err(failed) => Err(failed),
+            },
+            Ok(Some(bad)) => match tell_bad_line(
+                self.engine.core(),
+                bad,
+                ports,
+                out,
+                &mut self.chunk,
+            ) {
+                Ok(()) => Ok(true),
+                Err(failed) => Err(failed),
+            },
+            Err(failed) => Err(failed),
+        }
     }
 }

@@ -1,26 +1,19 @@
 -- What a fill of an input stream does: to its queue, to the net, and to all ports.
-use Rattle.std.specs.Prelude.{◌≡◌, ◌⊎◌, ℕ, ◌+◌, ◌<◌, ◌≤◌, min, true, false, ⊤, List, [], ◌∷◌, ◌++◌, length, Some, None, Result, Ok, Err, slice_set, slice_index_or}
+use Rattle.std.specs.Prelude.{◌≡◌, ◌⊎◌, ℕ, ◌<◌, ◌≤◌, min, true, false, List, [], ◌∷◌, ◌++◌, length, Some, None, Result, Ok, Err, slice_set, slice_index_or}
 use Rattle.std.specs.Io.KnownBytes.{IsAtEnd}
 use Rattle.hume_base.specs.declared.types.Value.{Value}
 use Rattle.hume_net.specs.declared.state.State.{State}
-use Rattle.hume_net.specs.Sides.{part_of}
 use Rattle.hume_ports.specs.Port.{PortView, last_count}
 use Rattle.hume_ports.specs.Ports.{left_of}
-use Rattle.hume_ports.specs.Delivery.{Progress, ReadFailure}
+use Rattle.hume_streams.specs.declared.queue.FillError.{FillError}
+use Rattle.hume_streams.specs.declared.queue.FillError.TheVariants.{BadValue, Failed}
 use Rattle.hume_streams.specs.Good.{IsGoodUntil}
 use Rattle.hume_streams.specs.Queues.{IsQueueOf}
 use Rattle.hume_streams.specs.Fills.{HasReadWholeLines}
+use Rattle.hume_streams.specs.places.FillsOfPorts.{ReadsBytes}
 use Rattle.run_rounds.specs.declared.engine.engine.Engine.{Engine}
-use Rattle.run_rounds.specs.declared.engine.engine.EngineError.{EngineError}
-use Rattle.run_rounds.specs.declared.engine.engine.EngineError.TheVariants.{BadValue, Failed, NoMemory}
-use Rattle.run_rounds.specs.engine.Engines.{core_of, queue_at, state_of, HasGivenAll}
+use Rattle.run_rounds.specs.engine.Engines.{core_of, queue_at, state_of, coming_at}
 use Rattle.run_rounds.specs.engine.StreamTypes.{type_at}
-
--- These bytes were read from the first port with that name, and nothing else was done. No call has failed, or one read of that
--- port, the last.
-abbrev pub ReadsBytes : List ℕ → List ℕ → List PortView → List PortView → Result (Unit {0}) EngineError → Type 0
-ReadsBytes name bytes olds news (Err Failed) = ReadFailure name olds news ((name, bytes) ∷ []) []
-ReadsBytes name bytes olds news _ = Progress olds news ((name, bytes) ∷ []) []
 
 -- the state in which these values come to the node too
 abbrev pub fed_at : ℕ → List Value → State → State
@@ -28,37 +21,38 @@ fed_at node values state = record state { coming = slice_set state.coming node (
 
 -- as many values come to the node as are wanted
 abbrev pub HasEnough : ℕ → Engine → ℕ → Type 0
-HasEnough want engine node = want ≤ length (part_of (state_of engine) node).coming
+HasEnough want engine node = want ≤ length (coming_at engine node)
 
--- Nothing is left to read. Of each text for which the queue is right, what it gave are all the values, and no line is bad.
+-- Nothing is left to read. Of each text for which the queue is right, the values that have gone and those that are to come are all,
+-- and no line is bad.
 pub record HasReadAll (engine : Engine) (node : ℕ) : Type 0 where
   pub ended : (queue_at engine node).ended ≡ true
-  pub all : (text : List ℕ) (given : List Value) → IsQueueOf (core_of engine).types (type_at (core_of engine) node) (queue_at engine node) text given []
-      → IsGoodUntil (core_of engine).types (type_at (core_of engine) node) text given None
+  pub all : (text : List ℕ) (gone : List Value)
+      → IsQueueOf (core_of engine).types (type_at (core_of engine) node) (queue_at engine node) text (gone ++ coming_at engine node) []
+      → IsGoodUntil (core_of engine).types (type_at (core_of engine) node) text (gone ++ coming_at engine node) None
 
--- The next line is bad. Of each text for which the queue is right, what it gave are the values before the first bad line, whose
--- number is told, up to the last one that 64 bits can tell.
+-- The next line is bad. Of each text for which the queue is right, the values that have gone and those that are to come are those
+-- before the first bad line, whose number is told, up to the last one that 64 bits can tell.
 abbrev pub StandsBefore : Engine → ℕ → ℕ → Type 0
-StandsBefore engine node line = (text : List ℕ) (given : List Value) (rest : List ℕ)
-    → IsQueueOf (core_of engine).types (type_at (core_of engine) node) (queue_at engine node) text given rest
+StandsBefore engine node line = (text : List ℕ) (gone : List Value) (rest : List ℕ)
+    → IsQueueOf (core_of engine).types (type_at (core_of engine) node) (queue_at engine node) text (gone ++ coming_at engine node) rest
     → (number : ℕ) × (line ≡ min number last_count)
-    × IsGoodUntil (core_of engine).types (type_at (core_of engine) node) text given (Some number)
+    × IsGoodUntil (core_of engine).types (type_at (core_of engine) node) text (gone ++ coming_at engine node) (Some number)
 
--- Too few values have come, with those that the queue still holds, and no whole line is unread.
+-- Too few values are to come, and no whole line is unread.
 pub record HasReadTooFew (want : ℕ) (engine : Engine) (node : ℕ) : Type 0 where
-  pub few : length (part_of (state_of engine) node).coming + length (queue_at engine node).values < want
+  pub few : length (coming_at engine node) < want
   pub whole : HasReadWholeLines (queue_at engine node)
 
 -- Why a fill ended.
-abbrev pub EndsFill : ℕ → Engine → ℕ → Result (Unit {0}) EngineError → Type 0
+abbrev pub EndsFill : ℕ → Engine → ℕ → Result (Unit {0}) FillError → Type 0
 EndsFill want engine node (Ok _) = HasEnough want engine node ⊎ HasReadAll engine node
 EndsFill want engine node (Err (BadValue line)) = (HasEnough want engine node → ⊥) × StandsBefore engine node line
 EndsFill want engine node (Err Failed) = HasReadTooFew want engine node
-EndsFill want engine node (Err NoMemory) = ⊤
 
--- A fill read some bytes of the first port with that name, and gave the values of their lines to the net. For every text for
+-- A fill read some bytes of the first port with that name, and the values of their lines come to the node. For every text for
 -- which the queue was right, with these bytes next, it is right again behind them.
-pub record FillsNode (want : ℕ) (old new : Engine) (node : ℕ) (name : List ℕ) (olds news : List PortView) (result : Result (Unit {0}) EngineError) : Type 0 where
+pub record FillsNode (want : ℕ) (old new : Engine) (node : ℕ) (name : List ℕ) (olds news : List PortView) (result : Result (Unit {0}) FillError) : Type 0 where
   pub bytes : List ℕ
   pub values : List Value
   pub reads : ReadsBytes name bytes olds news result
@@ -67,14 +61,7 @@ pub record FillsNode (want : ℕ) (old new : Engine) (node : ℕ) (name : List �
   -- it never reads on once a read gave nothing, and where the port tells what it has left there is then nothing
   pub stays : (queue_at old node).ended ≡ true → (bytes ≡ []) × ((queue_at new node).ended ≡ true)
   pub ended : (queue_at old node).ended ≡ false → (queue_at new node).ended ≡ true → IsAtEnd (left_of name news)
-  pub goes_on : (text : List ℕ) (given : List Value) (rest : List ℕ) → ((queue_at new node).ended ≡ true → rest ≡ [])
-      → IsQueueOf (core_of old).types (type_at (core_of old) node) (queue_at old node) text given (bytes ++ rest)
-      → IsQueueOf (core_of old).types (type_at (core_of old) node) (queue_at new node) text (given ++ values) rest
+  pub goes_on : (text : List ℕ) (gone : List Value) (rest : List ℕ) → ((queue_at new node).ended ≡ true → rest ≡ [])
+      → IsQueueOf (core_of old).types (type_at (core_of old) node) (queue_at old node) text (gone ++ coming_at old node) (bytes ++ rest)
+      → IsQueueOf (core_of old).types (type_at (core_of old) node) (queue_at new node) text ((gone ++ coming_at old node) ++ values) rest
   pub ends : EndsFill want new node result
-
--- What was read has all gone to the net, where the fill went well or came to a bad line.
-abbrev pub GivesAll : Engine → Result (Unit {0}) EngineError → Type 0
-GivesAll engine (Ok _) = HasGivenAll engine
-GivesAll engine (Err (BadValue line)) = HasGivenAll engine
-GivesAll engine (Err Failed) = ⊤
-GivesAll engine (Err NoMemory) = ⊤

@@ -1,8 +1,6 @@
 -- Whether a round may begin: what each input stream has brought, and what it has left to read.
-use Rattle.std.specs.Prelude.{◌≡◌, ◌⊎◌, ℕ, ◌≤◌, true, List, [], length, None, Some, slice_get}
+use Rattle.std.specs.Prelude.{◌≡◌, ◌⊎◌, ℕ, ◌≤◌, true, List, [], ◌++◌, length, None, Some, slice_get}
 use Rattle.hume_base.specs.declared.types.Value.{Value}
-use Rattle.hume_model.specs.declared.core_tree.NodeC.TheVariants.{From}
-use Rattle.hume_model.specs.declared.core_tree.StreamC.{StreamC}
 use Rattle.hume_model.specs.declared.core_tree.Core.{Core}
 use Rattle.hume_net.specs.declared.state.State.{State}
 use Rattle.hume_net.specs.Sides.{part_of}
@@ -11,20 +9,17 @@ use Rattle.hume_streams.specs.Queues.{QueueView, IsQueueOf}
 use Rattle.run_rounds.specs.engine.StreamTypes.{type_at}
 
 -- Nothing is left to read for the stream, and no line was bad.
-pub record HasAllRead (core : Core) (queues : ℕ → QueueView) (n : ℕ) : Type 0 where
+pub record HasAllRead (core : Core) (queues : ℕ → QueueView) (state : State) (n : ℕ) : Type 0 where
   pub ended : (queues n).ended ≡ true
-  pub all : (text : List ℕ) (given : List Value) → IsQueueOf core.types (type_at core n) (queues n) text given []
-      → IsGoodUntil core.types (type_at core n) text given None
+  pub all : (text : List ℕ) (gone : List Value) → IsQueueOf core.types (type_at core n) (queues n) text (gone ++ (part_of state n).coming) []
+      → IsGoodUntil core.types (type_at core n) text (gone ++ (part_of state n).coming) None
 
 -- As many values come to the node as are wanted, or all that there are.
 abbrev pub MayBegin : Core → (ℕ → QueueView) → ℕ → State → ℕ → Type 0
-MayBegin core queues want state n = (want ≤ length (part_of state n).coming) ⊎ HasAllRead core queues n
-
--- That holds of each input stream.
-abbrev pub AllMayBegin : Core → (ℕ → QueueView) → ℕ → State → Type 0
-AllMayBegin core queues want state = (n : ℕ) (stream : StreamC) → slice_get core.nodes n ≡ Some (From stream) → MayBegin core queues want state n
+MayBegin core queues want state n = (want ≤ length (part_of state n).coming) ⊎ HasAllRead core queues state n
 
 -- The line behind those that were read for the stream is bad, and this holds of its number.
-abbrev pub StandsBeforeBad : Core → (ℕ → QueueView) → ℕ → (ℕ → Type 0) → Type 0
-StandsBeforeBad core queues n Is = (text : List ℕ) (given : List Value) (rest : List ℕ) → IsQueueOf core.types (type_at core n) (queues n) text given rest
-    → (number : ℕ) × Is number × IsGoodUntil core.types (type_at core n) text given (Some number)
+abbrev pub StandsBeforeBad : Core → (ℕ → QueueView) → State → ℕ → (ℕ → Type 0) → Type 0
+StandsBeforeBad core queues state n Is = (text : List ℕ) (gone : List Value) (rest : List ℕ)
+    → IsQueueOf core.types (type_at core n) (queues n) text (gone ++ (part_of state n).coming) rest
+    → (number : ℕ) × Is number × IsGoodUntil core.types (type_at core n) text (gone ++ (part_of state n).coming) (Some number)

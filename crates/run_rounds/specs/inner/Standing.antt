@@ -1,6 +1,5 @@
 -- Where a run stands after some of its rounds.
-use Rattle.std.specs.Prelude.{◌≡◌, ℕ, ◌≤◌, true, List, [], Option, None, Some, IfSome, slice_get}
-use Rattle.std.specs.Io.KnownBytes.{IsAtEnd}
+use Rattle.std.specs.Prelude.{◌≡◌, ℕ, ◌≤◌, true, List, [], None, Some, IfSome, slice_get}
 use Rattle.hume_base.specs.declared.types.Value.{Value}
 use Rattle.hume_model.specs.declared.core_tree.NodeC.{NodeC}
 use Rattle.hume_model.specs.declared.core_tree.NodeC.TheVariants.{From}
@@ -10,15 +9,17 @@ use Rattle.hume_net.specs.declared.state.State.{State}
 use Rattle.hume_net.specs.Lockstep.{lockstep}
 use Rattle.hume_net.specs.Sides.{part_of}
 use Rattle.hume_net.specs.Start.{start}
-use Rattle.hume_ports.specs.Port.{PortView}
-use Rattle.hume_ports.specs.Ports.{left_of}
-use Rattle.hume_ports.specs.Delivery.{Pairs, Progress}
-use Rattle.hume_streams.specs.Queues.{QueueView}
 use Rattle.hume_net.specs.rounds.Blocked.{blocking}
 use Rattle.hume_net.specs.rounds.Pieces.{IsPieceOf}
 use Rattle.hume_net.specs.rounds.Rounds.{made}
+use Rattle.hume_ports.specs.Port.{PortView}
+use Rattle.hume_ports.specs.Ports.{left_of}
+use Rattle.hume_ports.specs.Delivery.{Pairs, bytes_for}
+use Rattle.hume_streams.specs.Queues.{QueueView}
+use Rattle.net_costs.specs.Steps.{peaks}
+use Rattle.run_rounds.specs.declared.engine.engine.Engine.{Engine}
+use Rattle.run_rounds.specs.engine.Engines.{heap_peak_at, stack_peak_at}
 use Rattle.run_rounds.specs.Inputs.{Inputs, is_bad}
-use Rattle.run_rounds.specs.Writes.{rounds_writes}
 use Rattle.run_rounds.specs.inner.Reading.{HasRead, MayCome, later_of}
 
 -- Whatever may come, the net's state is a piece of the whole run's state after so many supersteps.
@@ -31,28 +32,28 @@ abbrev pub AreUnblocked : Core → ℕ → ℕ → (ℕ → QueueView) → Pairs
 AreUnblocked core span steps queues taken done = (inputs : Inputs) → MayCome core queues taken inputs
     → (round : ℕ) → 1 ≤ round → round ≤ done → blocking core inputs.good (is_bad inputs) span steps round ≡ None
 
--- What was written are the lines of the first rounds.
-abbrev pub AreWrites : Core → ℕ → ℕ → (ℕ → QueueView) → Pairs → ℕ → Pairs → Type 0
-AreWrites core span steps queues taken done written = (inputs : Inputs) → MayCome core queues taken inputs
-    → written ≡ rounds_writes core inputs.good span steps done
-
 -- no node has values taken that were not written
 abbrev pub IsCleared : Core → State → Type 0
 IsCleared core state = (n : ℕ) (node : NodeC) → slice_get core.nodes n ≡ Some node → (part_of state n).taken ≡ []
 
--- where the net, its queues and what was written are after so many rounds
-pub record IsAfter (core : Core) (span steps done : ℕ) (queues : ℕ → QueueView) (state : State) (taken : Pairs) (fed : ℕ → List Value) (written : Pairs) : Type 0 where
+-- where the net and its queues are after so many rounds
+pub record IsAfter (core : Core) (span steps done : ℕ) (queues : ℕ → QueueView) (state : State) (taken : Pairs) (fed : ℕ → List Value) : Type 0 where
   pub read : HasRead core queues taken fed
   pub piece : IsPieceAt core queues state taken fed (made span steps done)
   pub cleared : IsCleared core state
-  pub writes : AreWrites core span steps queues taken done written
   pub unblocked : AreUnblocked core span steps queues taken done
 
--- If the port tells what it has left, nothing is left.
-abbrev pub IsAtToldEnd : Option (List ℕ) → Option (List ℕ) → Type 0
-IsAtToldEnd before after = IfSome before (λ all. IsAtEnd after)
+-- Where a queue has come to its end, all that its port told at first was taken.
+abbrev pub EndsAreTold : Core → (ℕ → QueueView) → Pairs → List PortView → Type 0
+EndsAreTold core queues taken olds = (n : ℕ) (stream : StreamC) → slice_get core.nodes n ≡ Some (From stream) → (queues n).ended ≡ true
+    → IfSome (left_of stream.port olds) (λ left. left ≡ bytes_for stream.port taken)
 
--- The bytes were read from these ports, and where a queue has come to its end nothing that is told is left.
-pub record PortsGave (core : Core) (queues : ℕ → QueueView) (taken : Pairs) (olds news : List PortView) : Type 0 where
-  pub progress : Progress olds news taken []
-  pub ended : (n : ℕ) (stream : StreamC) → slice_get core.nodes n ≡ Some (From stream) → (queues n).ended ≡ true → IsAtToldEnd (left_of stream.port olds) (left_of stream.port news)
+-- the engine's peak of a node is that of so many supersteps
+pub record IsPeak (core : Core) (good : List (List Value)) (supersteps : ℕ) (engine : Engine) (n : ℕ) : Type 0 where
+  pub heap : heap_peak_at engine n ≡ (peaks core (start core good) supersteps n).heap
+  pub stack : stack_peak_at engine n ≡ (peaks core (start core good) supersteps n).stack
+
+-- Whatever may come, the engine's peaks are those of the whole run's first supersteps.
+abbrev pub ArePeaks : Core → (ℕ → QueueView) → Engine → Pairs → ℕ → Type 0
+ArePeaks core queues engine taken supersteps = (inputs : Inputs) → MayCome core queues taken inputs
+    → (n : ℕ) (node : NodeC) → slice_get core.nodes n ≡ Some node → IsPeak core inputs.good supersteps engine n

@@ -1,17 +1,11 @@
 //! Laws of the definitions, as contracts of functions that do nothing.
-ghost use Rattle.std.specs.Prelude.{◌≡◌, ◌≤◌, ◌++◌, ◌⊎◌, ℕ, List, Some, Result, slice_get};
+ghost use Rattle.std.specs.Prelude.{◌≡◌, ◌≤◌, ◌⊎◌, ℕ, Some, slice_get};
 ghost use Rattle.hume_base.specs.declared.limits.TheConstants.{MAX_TYPE_WORDS};
-ghost use Rattle.hume_base.specs.declared.types.Value.{Value};
 ghost use Rattle.hume_base.specs.Sizes.{size_of};
 ghost use Rattle.hume_model.specs.declared.core_tree.Core.{Core};
 ghost use Rattle.hume_model.specs.declared.core_tree.WireC.{WireC};
 ghost use Rattle.hume_net.specs.Nodes.{IsInputStream, IsOutputStream};
-ghost use Rattle.hume_ports.specs.Port.{PortView};
 ghost use Rattle.hume_text.specs.Bounds.{IsPrintable};
-ghost use Rattle.run_rounds.specs.declared.engine.engine.Engine.{Engine};
-ghost use Rattle.run_rounds.specs.declared.engine.engine.EngineError.{EngineError};
-ghost use Rattle.run_rounds.specs.engine.Engines.{core_of, IsRight};
-ghost use Rattle.run_rounds.specs.engine.NodeFills.{FillsNode};
 ghost use Rattle.run_rounds.specs.engine.Runnable.{IsRunnable};
 ghost use Rattle.run_rounds.specs.engine.StreamTypes.{type_at};
 
@@ -29,12 +23,4 @@ pub fn stream_types_have_texts()
         → IsPrintable core.types (type_at core n) }
     ensures words { (core : Core) → IsRunnable core → (n : ℕ) → IsInputStream core n ⊎ IsOutputStream core n
         → size_of core.types (type_at core n) ≤ MAX_TYPE_WORDS }
-{}
-
-/// An engine that is right behind the bytes that were read of a port is so behind those that a fill reads.
-pub fn engines_stay_right()
-    ensures { (want : ℕ) (old new : Engine) (node : ℕ) (name : List ℕ) (olds news : List PortView) (result : Result (Unit {0}) EngineError)
-        → (fill : FillsNode want old new node name olds news result) → core_of new ≡ core_of old
-        → (read : List ℕ) (given : List Value) → IsRight old node read given
-        → IsRight new node (read ++ fill.bytes) (given ++ fill.values) }
 {}

@@ -1,4 +1,4 @@
-use Rattle.run_rounds.proofs.RunEnds.{has_inputs}
+use Rattle.run_rounds.proofs.Standings.{has_inputs}
 use Rattle.run_rounds.proofs.laws.each_run_has_inputs.Goals as goal
 
 pub returns : goal.returns

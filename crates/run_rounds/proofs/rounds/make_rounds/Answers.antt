@@ -1,49 +1,37 @@
-use Rattle.std.proofs.Common.{◌<◌, ◌∙◌, ap, arith, Ok}
-use Rattle.trace_print.specs.writes.Gathered.{writes_of}
+use Rattle.std.proofs.Common.{◌<◌, ◌∙◌, ap, arith, Ok, subst, sym}
 use Rattle.hume_net.specs.rounds.Rounds.{rounds_of}
-use Rattle.run_rounds.proofs.RoundEnds.{rounding_none, rounding_next, rounds_halted, rounds_ended, touched_too, stands_own, next_round, next_length, round_as}
+use Rattle.run_rounds.specs.Writes.{span_of}
+use Rattle.run_rounds.specs.engine.Runnable.{IsRunnable}
+use Rattle.run_rounds.specs.Streams.{ArePortsApart}
+use Rattle.run_rounds.proofs.RoundMaking.{rounding_none, rounding_next, rounds_halted, rounds_failed, rounds_over, stands_own, next_round}
 use Rattle.run_rounds.proofs.rounds.make_rounds.Goals as goal
 
 pub loop-done-init : goal.loop-done-init
-loop-done-init g c = rounding_none 64 c.args.steps c.args.places.now _ c.args.engine.now (writes_of c.args.writes.now) c.requires.stands
+loop-done-init g c = rounding_none c.args.traced c.args.steps _ c.args.engine.now _ c.requires.stands
+
+pub make_round-requires-clause-is : goal.make_round-requires-clause-is
+make_round-requires-clause-is g c =
+    next_round c.args.traced c.args.steps c.loop-done.done
+    (subst (λ count. c.loop-done.done < count) (c.div_ceil-done-end.ensures ∙ ap (λ span. rounds_of span c.args.steps) c.span.ensures) c.loop-done-test.true)
+
+pub make_round-requires-clause-stands : goal.make_round-requires-clause-stands
+make_round-requires-clause-stands g c =
+    (_, stands_own c.args.traced c.args.steps _ _ c.args.engine.now c.loop-done.engine _ _ c.loop-done.done c.loop-done.invariant)
 
 pub returns-in-Ok-Some-clause-ends : goal.returns-in-Ok-Some-clause-ends
 returns-in-Ok-Some-clause-ends g c =
-    let it = c.loop-done.invariant in
-    let less : c.loop-done.done < rounds_of 64 c.args.steps = omega (arith, c.loop-done-test.true, c.div_ceil-done-end.ensures) in
-    let is = next_round c.args.steps c.loop-done.done less in
-    let own = stands_own 64 c.args.steps c.args.places.now _ _ c.args.engine.now c.loop-done.engine (writes_of c.args.writes.now) _ c.loop-done.done it in
-    let ends = c.make_round.ensures.ends 64 c.args.steps c.loop-done.done _ it.same_names is (c.min-supersteps.ensures ∙ next_length c.args.steps c.loop-done.done) own in
-    rounds_halted 64 c.args.steps c.args.places.now _ _ c.args.engine.now c.loop-done.engine (writes_of c.args.writes.now) _ c.loop-done.done it _ c.make_round.new.engine _ c.in-Ok-Some.bad is
-    (round_as _ _ _ _ _ _ _ _ _ _ (c.in-Ok-Some.is ∙ ap Ok c.in-Ok-Some.field-0-is) ends)
-
-pub returns-in-Ok-Some-clause-untouched : goal.returns-in-Ok-Some-clause-untouched
-returns-in-Ok-Some-clause-untouched g c =
-    touched_too 64 c.args.steps c.args.places.now _ _ c.args.engine.now c.loop-done.engine (writes_of c.args.writes.now) _ c.loop-done.done c.loop-done.invariant _ c.make_round.new.engine
-    (writes_of c.make_round.new.writes) c.make_round.ensures.untouched
+    let own = stands_own c.args.traced c.args.steps _ _ c.args.engine.now c.loop-done.engine _ _ c.loop-done.done c.loop-done.invariant in
+    rounds_halted c.args.traced c.args.steps _ _ c.args.engine.now c.loop-done.engine _ _ c.loop-done.done c.loop-done.invariant _ c.make_round.new.engine c.make_round.new.chunk _
+    (c.make_round.ensures.ends _ own) c.in-Ok-Some.bad (c.in-Ok-Some.is ∙ ap Ok c.in-Ok-Some.field-0-is)
 
 pub returns-in-Err-clause-ends : goal.returns-in-Err-clause-ends
 returns-in-Err-clause-ends g c =
-    let it = c.loop-done.invariant in
-    let less : c.loop-done.done < rounds_of 64 c.args.steps = omega (arith, c.loop-done-test.true, c.div_ceil-done-end.ensures) in
-    let is = next_round c.args.steps c.loop-done.done less in
-    let own = stands_own 64 c.args.steps c.args.places.now _ _ c.args.engine.now c.loop-done.engine (writes_of c.args.writes.now) _ c.loop-done.done it in
-    let ends = c.make_round.ensures.ends 64 c.args.steps c.loop-done.done _ it.same_names is (c.min-supersteps.ensures ∙ next_length c.args.steps c.loop-done.done) own in
-    rounds_ended 64 c.args.steps c.args.places.now _ _ c.args.engine.now c.loop-done.engine (writes_of c.args.writes.now) _ c.loop-done.done it _ c.make_round.new.engine
-    (writes_of c.make_round.new.writes) c.in-Err.error (round_as _ _ _ _ _ _ _ _ _ _ c.in-Err.is ends)
-
-pub returns-in-Err-clause-untouched : goal.returns-in-Err-clause-untouched
-returns-in-Err-clause-untouched g c =
-    touched_too 64 c.args.steps c.args.places.now _ _ c.args.engine.now c.loop-done.engine (writes_of c.args.writes.now) _ c.loop-done.done c.loop-done.invariant _ c.make_round.new.engine
-    (writes_of c.make_round.new.writes) c.make_round.ensures.untouched
+    let own = stands_own c.args.traced c.args.steps _ _ c.args.engine.now c.loop-done.engine _ _ c.loop-done.done c.loop-done.invariant in
+    rounds_failed c.args.traced c.args.steps _ _ c.args.engine.now c.loop-done.engine _ _ c.loop-done.done c.loop-done.invariant _ c.make_round.new.engine c.make_round.new.chunk _
+    (c.make_round.ensures.ends _ own) c.in-Err.failed c.in-Err.is
 
 pub loop-done-preserved : goal.loop-done-preserved
 loop-done-preserved g c =
-    let it = c.loop-done.invariant in
-    let less : c.loop-done.done < rounds_of 64 c.args.steps = omega (arith, c.loop-done-test.true, c.div_ceil-done-end.ensures) in
-    let is = next_round c.args.steps c.loop-done.done less in
-    let own = stands_own 64 c.args.steps c.args.places.now _ _ c.args.engine.now c.loop-done.engine (writes_of c.args.writes.now) _ c.loop-done.done it in
-    let ends = c.make_round.ensures.ends 64 c.args.steps c.loop-done.done _ it.same_names is (c.min-supersteps.ensures ∙ next_length c.args.steps c.loop-done.done) own in
-    rounding_next 64 c.args.steps c.args.places.now _ _ c.args.engine.now c.loop-done.engine (writes_of c.args.writes.now) _ c.loop-done.done it _ c.make_round.new.engine
-    (writes_of c.make_round.new.writes) c.make_round.ensures.core c.make_round.ensures.span c.make_round.ensures.same_names c.make_round.ensures.untouched
-    (round_as _ _ _ _ _ _ _ _ _ _ (c.in-Ok-None.is ∙ ap Ok c.in-Ok-None.field-0-is) ends) c.make_round.ensures.places
+    let own = stands_own c.args.traced c.args.steps _ _ c.args.engine.now c.loop-done.engine _ _ c.loop-done.done c.loop-done.invariant in
+    rounding_next c.args.traced c.args.steps _ _ c.args.engine.now c.loop-done.engine _ _ c.loop-done.done c.loop-done.invariant _ c.make_round.new.engine c.make_round.new.chunk _
+    (c.make_round.ensures.ends _ own) (c.in-Ok-None.is ∙ ap Ok c.in-Ok-None.field-0-is) c.make_round.ensures.core c.make_round.ensures.same_names c.make_round.ensures.room

@@ -1,4 +1,4 @@
-use Rattle.run_rounds.proofs.engine_lemmas.Wires.{input_type, output_type}
+use Rattle.run_rounds.proofs.StreamWires.{input_type, output_type}
 use Rattle.run_rounds.proofs.engine.laws.stream_types_are_those_of_their_wires.Goals as goal
 
 pub returns-clause-inputs : goal.returns-clause-inputs

@@ -1,4 +1,4 @@
-use Rattle.run_rounds.proofs.engine_lemmas.Wires.{printable_type, small_type}
+use Rattle.run_rounds.proofs.StreamWires.{printable_type, small_type}
 use Rattle.run_rounds.proofs.engine.laws.stream_types_have_texts.Goals as goal
 
 pub returns-clause-texts : goal.returns-clause-texts

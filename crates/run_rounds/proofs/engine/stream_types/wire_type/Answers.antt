@@ -2,7 +2,7 @@ use Rattle.std.proofs.Common.{◌≡◌, Option, None, Some, sym, ap, ◌∙◌}
 use Rattle.std.specs.List.{find}
 use Rattle.hume_model.specs.declared.core_tree.WireC.{WireC}
 use Rattle.run_rounds.specs.engine.StreamTypes.{joins}
-use Rattle.run_rounds.proofs.engine_lemmas.Wires.{stream_wire, first_wire}
+use Rattle.run_rounds.proofs.StreamWires.{stream_wire, first_wire}
 use Rattle.run_rounds.proofs.engine.stream_types.wire_type.Goals as goal
 
 pub unreachable-requires : goal.unreachable-requires

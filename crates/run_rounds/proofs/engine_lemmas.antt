@@ -1,6 +1,0 @@
-pub mod Supersteps
-pub mod Wires
-pub mod FirstQueues
-pub mod Giving
-pub mod Endings
-pub mod Filled
