@@ -13,11 +13,15 @@ use Rattle.hume_model.specs.declared.core_tree.Core.{Core}
 use Rattle.hume_ports.specs.Ports.{other_names, place_of}
 use Rattle.hume_ports.proofs.Names.{bytes_eq-self, same_name}
 use Rattle.port_acts.specs.Places.{IsPlace, IsPlaceOf, name_at}
-use Rattle.hume_run.specs.inner.Places.{names_at}
+use Rattle.port_acts.specs.Acts.{AreNamed}
 use Rattle.run_rounds.specs.Streams.{ArePlacesOf, output_of, ports_of, std_out}
 use Rattle.hume_run.specs.Owed.{run_finishes}
 use Rattle.hume_run.specs.inner.FoundPlaces.{finish_at}
 use Rattle.hume_run.proofs.Fitting.{up_to}
+
+-- the names of the ports at these places
+abbrev names_at : List (List ℕ) → List ℕ → List (List ℕ)
+names_at names places = map (name_at names) places
 
 abbrev outputs_in : List NodeC → List StreamC
 outputs_in nodes = filter_map output_of nodes
@@ -139,13 +143,23 @@ module _ (core : Core) (places : List ℕ) (out : ℕ) (finishes after : List �
         (finished_place names out last (output_of node) at (place_of_output names are node there)));
   }
 
--- and the report's port last
+-- places of ports are named by the names there
+are_named : (names : List (List ℕ)) (places : List ℕ) → All (IsPlace names) places → AreNamed names places (names_at names places)
+are_named names [] all = tt
+are_named names (at ∷ places) all =
+    let later : All (IsPlace names) places = λ k d less. all (suc k) d (omega (arith, less)) in
+    let here : IsPlace names at = all zero 0 (omega arith) in
+    (here.first, are_named names places later)
+
+-- and `std_out` last
 pub finishing_over : (core : Core) (places : List ℕ) (out : ℕ) (finishes after : List ℕ) (count : ℕ) → length core.nodes ≤ count → after ≡ finishes ++ out ∷ []
     → Finishing core places out finishes count → (names : List (List ℕ)) → ArePlacesOf core names places → IsPlaceOf std_out names out
-    → (names_at names after ≡ run_finishes core) × All (IsPlace names) after
-finishing_over core places out finishes after count past added it names are last = (
-  ap (names_at names) added ∙ map-append (name_at names) finishes (out ∷ [])
-      ∙ ap (λ earlier. earlier ++ name_at names out ∷ []) (it.named names are last ∙ ap (λ nodes. other_names std_out (ports_of (outputs_in nodes))) (take_all count core.nodes past))
-      ∙ ap (λ name. other_names std_out (ports_of (outputs_in core.nodes)) ++ name ∷ []) last.named,
-  subst (All (IsPlace names)) (sym added) (all_append (IsPlace names) finishes (out ∷ []) (it.places_there names are last) (one_there (IsPlace names) out last.place)),
-)
+    → AreNamed names after (run_finishes core) × All (λ at. at < length names) after
+finishing_over core places out finishes after count past added it names are last =
+    let named : names_at names after ≡ run_finishes core =
+    ap (names_at names) added ∙ map-append (name_at names) finishes (out ∷ [])
+    ∙ ap (λ earlier. earlier ++ name_at names out ∷ []) (it.named names are last ∙ ap (λ nodes. other_names std_out (ports_of (outputs_in nodes))) (take_all count core.nodes past))
+    ∙ ap (λ name. other_names std_out (ports_of (outputs_in core.nodes)) ++ name ∷ []) last.named in
+    let all : All (IsPlace names) after =
+    subst (All (IsPlace names)) (sym added) (all_append (IsPlace names) finishes (out ∷ []) (it.places_there names are last) (one_there (IsPlace names) out last.place)) in
+    (subst (AreNamed names after) named (are_named names after all), λ k d less. (all k d less).within)

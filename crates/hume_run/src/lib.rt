@@ -11,18 +11,14 @@
 #![tactic(auto)]
 
 mod check;
-mod finishes;
 mod laws;
 mod lines;
-mod numbers;
 mod order;
 mod refuse;
-mod report;
 mod run;
-mod settle;
 mod source;
 mod status;
-mod streams;
+mod stub;
 mod top;
 mod words;
 

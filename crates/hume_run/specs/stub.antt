@@ -1,0 +1,5 @@
+pub mod TraceLinesStub
+pub mod Writes
+pub mod RunActs
+pub mod Runs
+pub mod Opened
