@@ -97,8 +97,8 @@ module _ (source text : List ℕ) (accepted : Accepted) (is_accepted : IsAccepte
       let other = apart name count refl in
       let same : bytes_for name taken ≡ bytes_for name ((source, text) ∷ taken) = rw other refl in
       record {
-        source = λ here. absurd (true≢false (sym here ∙ other));
-        streams = λ second also.
+        of_source = λ here. absurd (true≢false (sym here ∙ other));
+        of_streams = λ second also.
             let core : accepted.core ≡ second.core = one_accepted_core text accepted second is_accepted also in
             subst (λ (c : Core). run_few c name count (bytes_for name ((source, text) ∷ taken))) core
             (subst (λ (bytes : List ℕ). run_few accepted.core name count bytes) same is);

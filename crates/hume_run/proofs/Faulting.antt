@@ -7,15 +7,16 @@ use Rattle.hume_base.specs.declared.types.Value.{Value}
 use Rattle.hume_model.specs.declared.core_tree.Core.{Core}
 use Rattle.hume_streams.specs.Good.{IsGoodUntil}
 use Rattle.hume_streams.specs.Lines.{whole_lines}
-use Rattle.hume_ports.specs.Port.{PortView}
+use Rattle.hume_ports.specs.Port.{PortView, Rose}
+use Rattle.hume_ports.specs.Ports.{of_first}
 use Rattle.hume_ports.specs.Delivery.{Pairs, Delivered, bytes_for}
 use Rattle.hume_ports.proofs.Names.{bytes_eq-self, same_name}
-use Rattle.port_acts.specs.Acts.{Act, wants, name_of, written, finished, finished_by, write_each, finish_each, FinishesLast}
+use Rattle.port_acts.specs.Acts.{Act, wants, name_of, count_of, written, finished, finished_by, write_each, finish_each, FinishesLast}
 use Rattle.port_acts.specs.Early.{after_reads}
 use Rattle.port_acts.specs.Ends.{Fails, NoneRose, Owed}
 use Rattle.port_acts.proofs.ActLists.{written-append}
 use Rattle.port_acts.proofs.Each.{all_written, finishes_write_nothing, writes_finish_nothing, finishes_are_last}
-use Rattle.port_acts.proofs.Failing.{HasRisen, failure_since, read_tells, finish_tells}
+use Rattle.port_acts.proofs.Failing.{failure_since, read_tells, finish_tells}
 use Rattle.hume_front.specs.declared.acceptance.Accepted.{Accepted}
 use Rattle.hume_front.specs.Accepted.{IsAccepted}
 use Rattle.run_rounds.specs.engine.StreamTypes.{type_at}
@@ -135,6 +136,10 @@ first_or_behind source most owed (act ∷ before) later name count e =
     let wrote : written (act ∷ before) ≡ written before = ap (λ (a : Act). written (a ∷ before)) (sym same) in
     (λ apart. (before, wrote, tails), λ none. absurd (none before tails))
 
+-- a count of the act's port has risen
+abbrev HasRisen : Act → List PortView → List PortView → Type 0
+HasRisen act olds news = Rose (of_first 0 (count_of act) (name_of act) olds) (of_first 0 (count_of act) (name_of act) news)
+
 -- the failed want's count rose
 want_rose : (act : Act) (name : List ℕ) (count : ℕ) (olds news : List PortView) → act ≡ wants name count → HasRisen act olds news → ReadRose name olds news
 want_rose act name count olds news is rose = subst (λ (a : Act). HasRisen a olds news) is rose
@@ -192,6 +197,6 @@ module _ (source text : List ℕ) (accepted : Accepted) (is_accepted : IsAccepte
             let bytes : List ℕ → List ℕ = λ n. bytes_for n (f.taken ++ f.read) in
             let here : IsGoodUntil core.types (type_at core reads.node) (whole_lines (bytes want.0)) good bad =
             subst (λ (n : List ℕ). IsGoodUntil core.types (type_at core reads.node) (whole_lines (bytes n)) good bad) (sym reads.is_port) is in
-            let less : length good < want.1 = want.3.streams accepted is_accepted reads.node reads.stream reads.at (sym reads.is_port) good bad here in
+            let less : length good < want.1 = want.3.of_streams accepted is_accepted reads.node reads.stream reads.at (sym reads.is_port) good bad here in
             subst (λ (k : ℕ). length good < k) reads.is_needed less;
       }

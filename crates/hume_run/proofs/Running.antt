@@ -1,5 +1,5 @@
 -- The parts of a run in turn: the table, its rounds, the finishes.
-use Rattle.std.proofs.Common.{◌≡◌, ℕ, Bool, true, false, List, [], ◌∷◌, ◌++◌, Option, None, Some, Result, Ok, Err, refl, ap, sym, ◌∙◌, subst, inl, inr}
+use Rattle.std.proofs.Common.{◌≡◌, ℕ, Bool, true, false, List, [], ◌∷◌, ◌++◌, Option, None, Some, Result, Ok, Err, if◌then◌else◌, refl, ap, sym, ◌∙◌, subst, inl, inr}
 use Rattle.std.specs.Option.{is_some}
 use Rattle.std.specs.List.{All}
 use Rattle.hume_ports.specs.declared.port.Failed.{Failed}
@@ -80,26 +80,25 @@ module _ (traced : Bool) (steps : ℕ) (core : Core) where
 
   -- the answer, by how the run ended
 
-  answered : (o : Option ℕ) → (blocked : Bool) → blocked ≡ is_some o → (status : Status) → status ≡ run_status (if_blocked blocked) → status ≡ run_status o
-    where
-      if_blocked : Bool → Option ℕ
-      if_blocked true = Some 0
-      if_blocked false = None
-  answered None true is status same = cc
-  answered None false is status same = same
-  answered (Some round) true is status same = same
-  answered (Some round) false is status same = cc
+  answered : (o : Option ℕ) (blocked : Bool) → blocked ≡ is_some o → run_status (if blocked then Some 0 else None) ≡ run_status o
+  answered None true is = cc
+  answered None false is = refl
+  answered (Some round) true is = refl
+  answered (Some round) false is = cc
 
-  pub run_blocked : (olds news : List PortView) → RunEnds traced steps core olds news (Ok true) → RunsCore traced steps core olds news BadValue
-  run_blocked olds news e = record {
+  abbrev Ended : List PortView → List PortView → Result Bool Failed → Type 0
+  Ended olds news result = RunEnds traced steps core olds news result
+
+  pub run_blocked : (olds news : List PortView) (result : Result Bool Failed) → result ≡ Ok true → Ended olds news result → RunsCore traced steps core olds news BadValue
+  run_blocked olds news result is ends = let e = subst (Ended olds news) is ends in record {
     comes = e.comes;
-    ends = inl (answered (blocked_round core e.comes.inputs (span_of traced) steps) true e.blocked BadValue refl, e.taken, e.ends);
+    ends = inl (answered (blocked_round core e.comes.inputs (span_of traced) steps) true e.blocked, e.taken, e.ends);
   }
 
-  pub run_done : (olds news : List PortView) → RunEnds traced steps core olds news (Ok false) → RunsCore traced steps core olds news Done
-  run_done olds news e = record {
+  pub run_done : (olds news : List PortView) (result : Result Bool Failed) → result ≡ Ok false → Ended olds news result → RunsCore traced steps core olds news Done
+  run_done olds news result is ends = let e = subst (Ended olds news) is ends in record {
     comes = e.comes;
-    ends = inl (answered (blocked_round core e.comes.inputs (span_of traced) steps) false e.blocked Done refl, e.taken, e.ends);
+    ends = inl (answered (blocked_round core e.comes.inputs (span_of traced) steps) false e.blocked, e.taken, e.ends);
   }
 
   pub run_faulted : (olds news : List PortView) (failed : Failed) → RunEnds traced steps core olds news (Err failed) → RunsCore traced steps core olds news Fault

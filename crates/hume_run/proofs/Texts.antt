@@ -33,13 +33,13 @@ told_before (Some xs) None taken text none c told = absurd c
 told_before (Some xs) (Some ys) taken text none c told =
     let same : xs ≡ ys = subst (λ (front : List ℕ). Consumes (Some xs) (Some ys) front) none c in told ∙ sym same
 
-text_before : (olds mids : List PortView) (taken given : Pairs) → Progress olds mids taken given → (name text : List ℕ) → bytes_for name taken ≡ []
+pub text_before : (olds mids : List PortView) (taken given : Pairs) → Progress olds mids taken given → (name text : List ℕ) → bytes_for name taken ≡ []
     → IfSome (left_of name mids) (λ left. text ≡ left) → IfSome (left_of name olds) (λ left. text ≡ left)
 text_before olds mids taken given p name text none told =
     told_before (left_of name olds) (left_of name mids) (bytes_for name taken) text none (Drawn-first olds mids name taken p.same_names p.drawn) told
 
 -- what comes from ports after acts that read nothing comes from the ports before
-pub comes_before : (core : Core) (acts : List Act) (olds mids : List PortView) → Made acts [] olds mids → Comes core mids → Comes core olds
+abbrev pub comes_before : (core : Core) (acts : List Act) (olds mids : List PortView) → Made acts [] olds mids → Comes core mids → Comes core olds
 comes_before core acts olds mids m comes = record {
   texts = comes.texts;
   told = λ name. text_before olds mids [] _ m.progress name (comes.texts name) refl (comes.told name);
@@ -48,7 +48,7 @@ comes_before core acts olds mids m comes = record {
 }
 
 -- something comes from any ports
-pub some_comes : (core : Core) (ports : List PortView) → ((texts : List ℕ → List ℕ) → (inputs : Inputs) × AreInputs core texts inputs) → Comes core ports
+abbrev pub some_comes : (core : Core) (ports : List PortView) → ((texts : List ℕ → List ℕ) → (inputs : Inputs) × AreInputs core texts inputs) → Comes core ports
 some_comes core ports some =
     let inputs = some (told_texts ports) in
     record { texts = told_texts ports; told = told_by_all ports; inputs = inputs.0; are = inputs.1 }

@@ -12,8 +12,8 @@ source_few source name count bytes = bytes_eq name source ≡ true → length by
 
 -- Of the source the values are bytes, and of an input stream of the accepted core those of its whole lines.
 pub record CallFew (source text name : List ℕ) (count : ℕ) (bytes : List ℕ) : Type 0 where
-  pub source : source_few source name count bytes
-  pub streams : (accepted : Accepted) → IsAccepted text accepted → run_few accepted.core name count bytes
+  pub of_source : source_few source name count bytes
+  pub of_streams : (accepted : Accepted) → IsAccepted text accepted → run_few accepted.core name count bytes
 
 abbrev pub call_few : List ℕ → List ℕ → Few
 call_few source text name count bytes = CallFew source text name count bytes

@@ -28,7 +28,10 @@ ghost use Rattle.hume_run.specs.Few.{call_few};
 ghost use Rattle.hume_run.specs.Headline.{source_reads};
 ghost use Rattle.hume_run.specs.Faults.{FailedInput, ReadRose};
 
-use crate::stub::{runs_write_their_lines, wants_stand_before_rounds};
+use crate::stub::{
+    each_run_has_inputs, inputs_are_unique, inputs_have_types, runs_write_their_lines,
+    wants_stand_before_rounds,
+};
 
 /// Whatever comes to the run of an accepted source, each execute step of a box takes at most the heap, the stack and the work
 /// that the table of bounds has for it.
@@ -37,7 +40,9 @@ pub fn runs_keep_bounds()
         → (texts : List ℕ → List ℕ) (coming : Inputs) → AreInputs accepted.core texts coming
         → (k n : ℕ) (b : BoxC) → slice_get accepted.core.nodes n ≡ Some (Rules b)
         → IsAtMost (step_spent accepted.core (lockstep accepted.core (start accepted.core coming.good) k) n) (box_bound accepted.core b) }
-{}
+{
+    inputs_have_types();
+}
 
 /// What a call owes is one thing, whatever the words ask for, the source's text, the names of the ports and their texts.
 pub fn each_call_owes_one_thing()
@@ -45,7 +50,10 @@ pub fn each_call_owes_one_thing()
         → (owed : Owed Status) × IsOwed order source text names texts owed }
     ensures one { (order : Order) (source text : List ℕ) (names : List (List ℕ)) (texts : List ℕ → List ℕ) (first second : Owed Status)
         → IsOwed order source text names texts first → IsOwed order source text names texts second → first ≡ second }
-{}
+{
+    each_run_has_inputs();
+    inputs_are_unique();
+}
 
 /// A refused call writes its one line, a check the table, and a run the table and then what its inputs give.
 pub fn calls_write_their_lines()

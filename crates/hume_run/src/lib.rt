@@ -22,7 +22,10 @@ mod stub;
 mod top;
 mod words;
 
-pub use laws::{each_call_owes_one_thing, runs_keep_bounds};
+pub use laws::{
+    calls_write_their_lines, each_call_owes_one_thing, failed_inputs_tell_their_round,
+    faults_tell_what_was_written, runs_keep_bounds,
+};
 pub use order::Order;
 pub use status::Status;
 pub use top::hume;

@@ -22,7 +22,6 @@ use crate::stub::wants_stand_before_rounds;
 use hume_base::{Refusal, Rule};
 use hume_front::{Accepted, accept};
 use hume_ports::Port;
-use run_rounds::each_run_has_inputs;
 use std::alloc::Global;
 
 /// Runs a source of that text for `steps` supersteps. `out` is the place of `std_out`, and `source` the name of the source's port.

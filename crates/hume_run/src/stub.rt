@@ -17,7 +17,8 @@ ghost use Rattle.trace_print.specs.declared.space_lines.TheConstants.{LINE_BYTES
 ghost use Rattle.trace_print.specs.table.Table.{space_table};
 ghost use Rattle.run_rounds.specs.engine.Runnable.{IsRunnable};
 ghost use Rattle.run_rounds.specs.Streams.{ArePlacesOf, ArePortsApart, std_out};
-ghost use Rattle.run_rounds.specs.Inputs.{Inputs};
+ghost use Rattle.hume_net.specs.StateTyping.{ComingAreTyped};
+ghost use Rattle.run_rounds.specs.Inputs.{AreInputs, Inputs};
 ghost use Rattle.hume_run.specs.stub.RunActs.{run_acts, ReadsForRound};
 ghost use Rattle.hume_run.specs.stub.Writes.{writes};
 ghost use Rattle.hume_run.specs.stub.Runs.{EndsRun};
@@ -110,4 +111,18 @@ pub fn wants_stand_before_rounds()
 pub fn runs_write_their_lines()
     ensures writes { (core : AnyCore) (inputs : Inputs) (traced : Bool) (steps : ℕ) → written (run_acts core inputs traced steps) ≡ writes core inputs traced steps }
     ensures finishes { (core : AnyCore) (inputs : Inputs) (traced : Bool) (steps : ℕ) → finished (run_acts core inputs traced steps) ≡ [] }
+{}
+
+pub fn each_run_has_inputs()
+    ensures { (core : AnyCore) → IsRunnable core → (texts : List ℕ → List ℕ) → (inputs : Inputs) × AreInputs core texts inputs }
+{}
+
+pub fn inputs_have_types()
+    ensures { (core : AnyCore) → IsRunnable core → (texts : List ℕ → List ℕ) (inputs : Inputs) → AreInputs core texts inputs
+        → ComingAreTyped core inputs.good }
+{}
+
+pub fn inputs_are_unique()
+    ensures { (core : AnyCore) → IsRunnable core → (texts : List ℕ → List ℕ) (first second : Inputs)
+        → AreInputs core texts first → AreInputs core texts second → first ≡ second }
 {}

@@ -8,10 +8,9 @@ ghost use Rattle.hume_run.specs.inner.Opening.{IsOpen};
 
 use crate::run::opening::Opened;
 use crate::status::Status;
-use crate::stub::write_table;
+use crate::stub::{each_run_has_inputs, write_table};
 use hume_ports::{Failed, Port};
 use port_acts::finish_acts;
-use run_rounds::each_run_has_inputs;
 
 /// Makes an open run for `steps` supersteps. It takes no memory.
 pub fn run_opened(
