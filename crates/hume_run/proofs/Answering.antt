@@ -157,14 +157,17 @@ module _ (order : Order) (source text : List ℕ) (olds mids news : List PortVie
   whole_ends owed (inr (is, f)) = inr (is, Fails-on (call_few source text) [] ((source, text) ∷ []) (read_each (source_reads source)) owed.acts olds mids news m f)
 
   pub from_text : IfSome (left_of source olds) (λ left. text ≡ source_text left) → EndsText order source text mids news status → Ended order source olds news status
-  from_text told (inl out) = inl (inl (out.0, record {
-    before = read_each (source_reads source);
-    later = [];
-    in_order = refl;
-    unwritten = refl;
-    taken = (source, text) ∷ [];
-    made = subst (λ (ports : List PortView). Made (read_each (source_reads source)) ((source, text) ∷ []) olds ports) (sym out.1) m;
-  }))
+  from_text told (inl out) = inl (inl (
+    out.0,
+    record {
+      before = read_each (source_reads source);
+      later = [];
+      in_order = refl;
+      unwritten = refl;
+      taken = (source, text) ∷ [];
+      made = subst (λ (ports : List PortView). Made (read_each (source_reads source)) ((source, text) ∷ []) olds ports) (sym out.1) m;
+    },
+  ))
   from_text told (inr owes) = inr (record {
     text = text;
     told = told;
@@ -180,14 +183,17 @@ pub source_unread : (order : Order) (source : List ℕ) (olds news : List PortVi
 source_unread order source olds news at place failed = inl (inr (refl, failed source (meant source (names olds) at place)))
 
 pub source_unstarted : (order : Order) (source : List ℕ) (olds news : List PortView) → news ≡ olds → Ended order source olds news NoMemory
-source_unstarted order source olds news same = inl (inl (refl, record {
-  before = [];
-  later = read_each (source_reads source);
-  in_order = refl;
-  unwritten = refl;
-  taken = [];
-  made = subst (λ (ports : List PortView). Made [] [] olds ports) (sym same) (Made-start olds);
-}))
+source_unstarted order source olds news same = inl (inl (
+  refl,
+  record {
+    before = [];
+    later = read_each (source_reads source);
+    in_order = refl;
+    unwritten = refl;
+    taken = [];
+    made = subst (λ (ports : List PortView). Made [] [] olds ports) (sym same) (Made-start olds);
+  },
+))
 
 pub answers_from : (order : Order) (source text : List ℕ) (olds mids news : List PortView) (at : ℕ) (status : Status) → IsPlaceOf source (names olds) at
     → ForNameAt at olds (λ name. Made (read_each (source_reads name)) ((name, text) ∷ []) olds mids)

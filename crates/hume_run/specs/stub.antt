@@ -3,3 +3,4 @@ pub mod Writes
 pub mod RunActs
 pub mod Runs
 pub mod Opened
+pub mod InTurn

@@ -1,5 +1,5 @@
 //! Laws of the definitions, as contracts of functions that do nothing.
-ghost use Rattle.std.specs.Prelude.{◌≡◌, ◌++◌, ◌∷◌, [], ℕ, Bool, List, None, Some, false, slice_get};
+ghost use Rattle.std.specs.Prelude.{◌≡◌, ◌++◌, ◌∷◌, [], ℕ, Bool, List, None, Some, false, true, slice_get};
 ghost use Rattle.std.specs.Str.{bytes_eq};
 ghost use Rattle.hume_base.specs.declared.rule.Refusal.{Refusal};
 ghost use Rattle.hume_model.specs.declared.core_tree.BoxC.{BoxC};
@@ -11,19 +11,20 @@ ghost use Rattle.box_costs.specs.Costs.{IsAtMost};
 ghost use Rattle.box_costs.specs.Bounds.{box_bound};
 ghost use Rattle.net_costs.specs.Steps.{step_spent};
 ghost use Rattle.hume_ports.specs.Port.{PortView};
-ghost use Rattle.hume_ports.specs.Delivery.{Delivered};
-ghost use Rattle.port_acts.specs.Acts.{written};
+ghost use Rattle.hume_ports.specs.Ports.{is_among};
+ghost use Rattle.hume_ports.specs.Delivery.{Delivered, names_in};
+ghost use Rattle.port_acts.specs.Acts.{finished, wanted, written};
 ghost use Rattle.port_acts.specs.Early.{after_reads};
 ghost use Rattle.port_acts.specs.Ends.{Fails, NoneRose, Owed};
 ghost use Rattle.hume_front.specs.declared.acceptance.Accepted.{Accepted};
 ghost use Rattle.hume_front.specs.Accepted.{IsAccepted};
 ghost use Rattle.run_rounds.specs.Inputs.{Inputs, AreInputs};
-ghost use Rattle.run_rounds.specs.Streams.{std_out, streams};
+ghost use Rattle.run_rounds.specs.Streams.{inputs, ports_of, std_out, streams};
 ghost use Rattle.hume_run.specs.stub.Writes.{writes};
 ghost use Rattle.hume_run.specs.declared.order.Order.{Order};
 ghost use Rattle.hume_run.specs.declared.status.Status.{Status};
 ghost use Rattle.hume_run.specs.Streams.{unfit_line};
-ghost use Rattle.hume_run.specs.Owed.{IsOwed, owed_refused, owed_check, owed_run, refused_line, table_writes};
+ghost use Rattle.hume_run.specs.Owed.{IsOwed, owed_refused, owed_check, owed_run, refused_line, run_finishes, table_writes};
 ghost use Rattle.hume_run.specs.Few.{call_few};
 ghost use Rattle.hume_run.specs.Headline.{source_reads};
 ghost use Rattle.hume_run.specs.Faults.{FailedInput, ReadRose};
@@ -63,6 +64,18 @@ pub fn calls_write_their_lines()
         → written (owed_run traced steps core coming).acts ≡ table_writes core ++ writes core coming traced steps }
 {
     runs_write_their_lines();
+}
+
+/// A run reads ports of input streams, writes to `std_out` and to ports of output streams, and finishes each of those.
+pub fn runs_touch_their_ports()
+    ensures reads { (core : Core) (coming : Inputs) (traced : Bool) (steps : ℕ) (name : List ℕ)
+        → is_among name (wanted (owed_run traced steps core coming).acts) ≡ true → is_among name (ports_of (inputs core)) ≡ true }
+    ensures writes { (core : Core) (coming : Inputs) (traced : Bool) (steps : ℕ) (name : List ℕ)
+        → is_among name (names_in (written (owed_run traced steps core coming).acts)) ≡ true → is_among name (run_finishes core) ≡ true }
+    ensures finishes { (core : Core) (coming : Inputs) (traced : Bool) (steps : ℕ) → finished (owed_run traced steps core coming).acts ≡ run_finishes core }
+{
+    runs_write_their_lines();
+    wants_stand_before_rounds();
 }
 
 /// A fault where only finish counts rose came when all was written. One where only the read count of the source's port rose came

@@ -24,7 +24,7 @@ mod words;
 
 pub use laws::{
     calls_write_their_lines, each_call_owes_one_thing, failed_inputs_tell_their_round,
-    faults_tell_what_was_written, runs_keep_bounds,
+    faults_tell_what_was_written, runs_keep_bounds, runs_touch_their_ports,
 };
 pub use order::Order;
 pub use status::Status;

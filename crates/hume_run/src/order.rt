@@ -13,7 +13,9 @@ pub enum Order {
         traced: bool,
     },
     /// Say whether the source whose port is named by the word at that place is accepted.
-    Check { source: u32 },
+    Check {
+        source: u32,
+    },
 }
 
 impl Order {

@@ -1,5 +1,5 @@
 //! Stands for calls of crates that are not merged yet.
-ghost use Rattle.std.specs.Prelude.{◌≡◌, ◌++◌, [], ◌∷◌, ℕ, Bool, List, None, map, IfOk};
+ghost use Rattle.std.specs.Prelude.{◌≡◌, ◌<◌, ◌≤◌, ◌++◌, [], ◌∷◌, ℕ, Bool, List, None, length, map, IfOk};
 ghost use Rattle.hume_base.specs.Least.{IsLeast};
 ghost use Rattle.hume_model.specs.WellFormed.{HasSoundFrame};
 ghost use Rattle.hume_model.specs.declared.core_tree.Core.{Core as AnyCore};
@@ -19,6 +19,7 @@ ghost use Rattle.run_rounds.specs.engine.Runnable.{IsRunnable};
 ghost use Rattle.run_rounds.specs.Streams.{ArePlacesOf, ArePortsApart, std_out};
 ghost use Rattle.hume_net.specs.StateTyping.{ComingAreTyped};
 ghost use Rattle.run_rounds.specs.Inputs.{AreInputs, Inputs};
+ghost use Rattle.hume_run.specs.stub.InTurn.{EndsLines};
 ghost use Rattle.hume_run.specs.stub.RunActs.{run_acts, ReadsForRound};
 ghost use Rattle.hume_run.specs.stub.Writes.{writes};
 ghost use Rattle.hume_run.specs.stub.Runs.{EndsRun};
@@ -94,11 +95,11 @@ pub fn write_table(
     requires frame { HasSoundFrame core.now }
     requires costs { AreCosts core.now costs.now }
     requires within { IsLeast (BreaksCosts core.now) None }
-    requires room { room_of chunk.old ≡ ROOM }
-    requires place { IsPlaceOf std_out (names (map view ports.old)) at }
-    ensures ends { ForNameAt at (map view ports.old) (λ name. Ends never [] (write_each (map (λ line. (name, line)) (space_table core.now))) []
-        (map view ports.old) (map view ports.new) result) }
+    requires room { ROOM ≤ room_of chunk.old }
+    requires place { at < length ports.old }
+    ensures ends { EndsLines at (space_table core.now) (map view ports.old) (map view ports.new) result }
     ensures same_names { names (map view ports.new) ≡ names (map view ports.old) }
+    ensures room { room_of chunk.new ≡ room_of chunk.old }
 {
     Ok(())
 }

@@ -13,12 +13,7 @@ use hume_ports::{Failed, Port};
 use port_acts::finish_acts;
 
 /// Makes an open run for `steps` supersteps. It takes no memory.
-pub fn run_opened(
-    mut opened: Opened,
-    ports: &mut [Box<dyn Port>],
-    steps: u32,
-    out: usize,
-) -> Status
+pub fn run_opened(mut opened: Opened, ports: &mut [Box<dyn Port>], steps: u32, out: usize) -> Status
     requires open { IsOpen out opened }
     requires places { ArePlacesOf (core_in opened.running) (names (map view ports.old)) opened.places.items }
     requires apart { ArePortsApart (core_in opened.running) }
