@@ -85,7 +85,8 @@ check_text place source text olds news status accepted is_accepted ends =
 
 -- What a run tells of its wants.
 abbrev pub WantsTell : Core → Inputs → Bool → ℕ → Type 0
-WantsTell core inputs traced steps = (before later : List Act) (name : List ℕ) (count : ℕ) → run_acts core inputs traced steps ≡ before ++ wants name count ∷ later
+WantsTell core inputs traced steps = (before later : List Act) (name : List ℕ) (count : ℕ)
+    → run_acts core inputs traced steps ≡ before ++ wants name count ∷ later
     → ReadsForRound core inputs.good traced steps before name count
 
 module _ (source text : List ℕ) (accepted : Accepted) (is_accepted : IsAccepted text accepted) where
@@ -109,10 +110,12 @@ module _ (source text : List ℕ) (accepted : Accepted) (is_accepted : IsAccepte
   module _ (ns : List (List ℕ)) (fit : unfit_line ns source [] (streams accepted.core) ≡ None) (traced : Bool) (steps : ℕ) (coming : Inputs)
       (tell : WantsTell accepted.core coming traced steps) where
     -- no want of a run is of the source's port
-    pub wants_apart : (before later : List Act) (name : List ℕ) (count : ℕ) → (owed_run traced steps accepted.core coming).acts ≡ before ++ wants name count ∷ later
+    pub wants_apart : (before later : List Act) (name : List ℕ) (count : ℕ)
+        → (owed_run traced steps accepted.core coming).acts ≡ before ++ wants name count ∷ later
         → bytes_eq name source ≡ false
     wants_apart before later name count e =
-        let inside = want_of_run (table_writes accepted.core) (run_acts accepted.core coming traced steps) (run_finishes accepted.core) before later name count e in
+        let inside = want_of_run (table_writes accepted.core) (run_acts accepted.core coming traced steps)
+            (run_finishes accepted.core) before later name count e in
         let reads = tell inside.0 inside.1 name count inside.3 in
         subst (λ (n : List ℕ). bytes_eq n source ≡ false) (sym reads.is_port)
         (apart_from_source ns source accepted.core.nodes [] fit reads.node reads.stream reads.at)
@@ -124,14 +127,16 @@ module _ (source text : List ℕ) (accepted : Accepted) (is_accepted : IsAccepte
         (few_of_act f.act (f.taken ++ f.read)
         (λ name count is. wants_apart f.before f.later name count (f.in_order ∙ ap (λ (act : Act). f.before ++ act ∷ f.later) is)) f.is_few)
 
-    call_after : (olds news : List PortView) (status : Status) → EndsAfter (run_few accepted.core) [] (owed_run traced steps accepted.core coming) olds news status
+    call_after : (olds news : List PortView) (status : Status)
+        → EndsAfter (run_few accepted.core) [] (owed_run traced steps accepted.core coming) olds news status
         → EndsAfter (call_few source text) ((source, text) ∷ []) (owed_run traced steps accepted.core coming) olds news status
     call_after olds news status (inl made) = inl made
     call_after olds news status (inr (is, f)) = inr (is, call_fails olds news f)
 
   pub run_text : (steps workers place : ℕ) (traced : Bool) (olds news : List PortView) (status : Status)
       → unfit_line (names olds) source [] (streams accepted.core) ≡ None → ((coming : Inputs) → WantsTell accepted.core coming traced steps)
-      → RunsOut olds news status ⊎ RunsCore traced steps accepted.core olds news status → EndsText (Run steps workers place traced) source text olds news status
+      → RunsOut olds news status ⊎ RunsCore traced steps accepted.core olds news status
+      → EndsText (Run steps workers place traced) source text olds news status
   run_text steps workers place traced olds news status fit tell (inl out) = inl out
   run_text steps workers place traced olds news status fit tell (inr runs) = inr (record {
     texts = runs.comes.texts;
@@ -153,10 +158,13 @@ module _ (order : Order) (source text : List ℕ) (olds mids news : List PortVie
   whole_ends : (owed : Owed Status) → EndsAfter (call_few source text) ((source, text) ∷ []) owed mids news status
       → ((status ≡ owed.answer) × (taken : Pairs) × Made (read_each (source_reads source) ++ owed.acts) taken olds news)
       ⊎ ((status ≡ Fault) × Fails (call_few source text) [] (read_each (source_reads source) ++ owed.acts) olds news)
-  whole_ends owed (inl (is, taken, made)) = inl (is, ((source, text) ∷ []) ++ taken, Made-on (read_each (source_reads source)) owed.acts ((source, text) ∷ []) taken olds mids news m made)
-  whole_ends owed (inr (is, f)) = inr (is, Fails-on (call_few source text) [] ((source, text) ∷ []) (read_each (source_reads source)) owed.acts olds mids news m f)
+  whole_ends owed (inl (is, taken, made)) = inl (is, ((source, text) ∷ []) ++ taken,
+      Made-on (read_each (source_reads source)) owed.acts ((source, text) ∷ []) taken olds mids news m made)
+  whole_ends owed (inr (is, f)) = inr (is,
+      Fails-on (call_few source text) [] ((source, text) ∷ []) (read_each (source_reads source)) owed.acts olds mids news m f)
 
-  pub from_text : IfSome (left_of source olds) (λ left. text ≡ source_text left) → EndsText order source text mids news status → Ended order source olds news status
+  pub from_text : IfSome (left_of source olds) (λ left. text ≡ source_text left) → EndsText order source text mids news status
+      → Ended order source olds news status
   from_text told (inl out) = inl (inl (
     out.0,
     record {

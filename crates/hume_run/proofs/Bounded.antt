@@ -21,7 +21,8 @@ use Rattle.hume_run.proofs.Runnable.{runnable}
 abbrev pub TypedInputs : Type 0
 TypedInputs = (core : Core) → IsRunnable core → (texts : List ℕ → List ℕ) (inputs : Inputs) → AreInputs core texts inputs → ComingAreTyped core inputs.good
 
-pub run_within : TypedInputs → (text : List ℕ) (accepted : Accepted) → IsAccepted text accepted → (texts : List ℕ → List ℕ) (coming : Inputs) → AreInputs accepted.core texts coming
+pub run_within : TypedInputs → (text : List ℕ) (accepted : Accepted) → IsAccepted text accepted → (texts : List ℕ → List ℕ) (coming : Inputs)
+    → AreInputs accepted.core texts coming
     → (k n : ℕ) (b : BoxC) → slice_get accepted.core.nodes n ≡ Some (Rules b)
     → IsAtMost (step_spent accepted.core (lockstep accepted.core (start accepted.core coming.good) k) n) (box_bound accepted.core b)
 run_within inputs_typed text accepted h texts coming are k n b is =

@@ -93,7 +93,8 @@ owed_finishes_last none (Check place) source text names texts owed (inl (refusal
 owed_finishes_last none (Check place) source text names texts owed (inr (accepted, is, same)) = subst Last (sym same) (check_finishes_last accepted.core)
 
 pub all_was_written : RunsFinishNothing → (order : Order) (source text : List ℕ) (names : List (List ℕ)) (texts : List ℕ → List ℕ) (owed : Owed Status)
-    (olds news : List PortView) → IsOwed order source text names texts owed → Fails (call_few source text) [] (after_reads (source_reads source) owed).acts olds news
+    (olds news : List PortView) → IsOwed order source text names texts owed
+    → Fails (call_few source text) [] (after_reads (source_reads source) owed).acts olds news
     → NoneRose (λ port. port.read_faults) olds news → NoneRose (λ port. port.write_faults) olds news → Delivered olds news (written owed.acts)
 all_was_written none order source text names texts owed olds news owes f no_read no_write =
     finish_tells (call_few source text) [] (after_reads (source_reads source) owed).acts olds news f no_read no_write
@@ -105,7 +106,8 @@ all_was_written none order source text names texts owed olds news owes f no_read
 abbrev WantsApart : List ℕ → Owed Status → Type 0
 WantsApart source owed = (before later : List Act) (name : List ℕ) (count : ℕ) → owed.acts ≡ before ++ wants name count ∷ later → bytes_eq name source ≡ false
 
-refused_apart : (source : List ℕ) (owed : Owed Status) (pairs : Pairs) (names : List (List ℕ)) → owed.acts ≡ write_each pairs ++ finish_each names → WantsApart source owed
+refused_apart : (source : List ℕ) (owed : Owed Status) (pairs : Pairs) (names : List (List ℕ)) → owed.acts ≡ write_each pairs ++ finish_each names
+    → WantsApart source owed
 refused_apart source owed pairs names is before later name count e = absurd (no_want_of_writes pairs names before later name count (sym is ∙ e))
 
 owed_apart : AllWantsTell → (order : Order) (source text : List ℕ) (names : List (List ℕ)) (texts : List ℕ → List ℕ) (owed : Owed Status)
@@ -124,8 +126,10 @@ abbrev Behind : List Act → List Act → Act → List Act → Type 0
 Behind owed before act later = (rest : List Act) × (written before ≡ written rest) × (owed ≡ rest ++ act ∷ later)
 
 -- the want is the source's read, or one of the owed acts
-first_or_behind : (source : List ℕ) (most : ℕ) (owed before later : List Act) (name : List ℕ) (count : ℕ) → wants source most ∷ owed ≡ before ++ wants name count ∷ later
-    → (bytes_eq name source ≡ false → Behind owed before (wants name count) later) × (((rest : List Act) → owed ≡ rest ++ wants name count ∷ later → ⊥) → written before ≡ [])
+first_or_behind : (source : List ℕ) (most : ℕ) (owed before later : List Act) (name : List ℕ) (count : ℕ)
+    → wants source most ∷ owed ≡ before ++ wants name count ∷ later
+    → (bytes_eq name source ≡ false → Behind owed before (wants name count) later) ×
+    (((rest : List Act) → owed ≡ rest ++ wants name count ∷ later → ⊥) → written before ≡ [])
 first_or_behind source most owed [] later name count e =
     let same : source ≡ name = cc in
     let whole : bytes_eq name source ≡ true = ap (λ (n : List ℕ). bytes_eq n source) (sym same) ∙ bytes_eq-self source in
@@ -145,7 +149,8 @@ want_rose : (act : Act) (name : List ℕ) (count : ℕ) (olds news : List PortVi
 want_rose act name count olds news is rose = subst (λ (a : Act). HasRisen a olds news) is rose
 
 pub nothing_was_written : AllWantsTell → (order : Order) (source text : List ℕ) (names : List (List ℕ)) (texts : List ℕ → List ℕ) (owed : Owed Status)
-    (olds news : List PortView) → IsOwed order source text names texts owed → Fails (call_few source text) [] (after_reads (source_reads source) owed).acts olds news
+    (olds news : List PortView) → IsOwed order source text names texts owed
+    → Fails (call_few source text) [] (after_reads (source_reads source) owed).acts olds news
     → NoneRose (λ port. port.write_faults) olds news → NoneRose (λ port. port.finish_faults) olds news
     → ((name : List ℕ) → bytes_eq name source ≡ false → ReadRose name olds news → ⊥) → Delivered olds news []
 nothing_was_written tell order source text names texts owed olds news owes f no_write no_finish only =
@@ -154,7 +159,8 @@ nothing_was_written tell order source text names texts owed olds news owes f no_
     let rose = want_rose f.act want.0 want.1 olds news want.2 (failure_since (call_few source text) [] acts olds news f).rose in
     let order_is : acts ≡ f.before ++ wants want.0 want.1 ∷ f.later = f.in_order ∙ ap (λ (act : Act). f.before ++ act ∷ f.later) want.2 in
     let places = first_or_behind source 262145 owed.acts f.before f.later want.0 want.1 order_is in
-    let none : written f.before ≡ [] = places.1 (λ rest e. only want.0 (owed_apart tell order source text names texts owed owes rest f.later want.0 want.1 e) rose) in
+    let none : written f.before ≡ [] =
+    places.1 (λ rest e. only want.0 (owed_apart tell order source text names texts owed owes rest f.later want.0 want.1 e) rose) in
     subst (λ (pairs : Pairs). Delivered olds news pairs) none want.4
 
 -- a failed read of an input stream

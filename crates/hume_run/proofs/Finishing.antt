@@ -30,14 +30,17 @@ last_more : (b : Bool) (last : List ℕ) → cond b [] (last ∷ []) ≡ [] ++ c
 last_more true last = refl
 last_more false last = refl
 
-first_more : (b : Bool) (first : List ℕ) (whole few more : List (List ℕ)) → whole ≡ few ++ more → cond b whole (first ∷ whole) ≡ cond b few (first ∷ few) ++ more
+first_more : (b : Bool) (first : List ℕ) (whole few more : List (List ℕ)) → whole ≡ few ++ more
+    → cond b whole (first ∷ whole) ≡ cond b few (first ∷ few) ++ more
 first_more true first whole few more is = is
 first_more false first whole few more is = ap (λ later. first ∷ later) is
 
-other_more : (name : List ℕ) (names : List (List ℕ)) (last : List ℕ) → other_names name (names ++ last ∷ []) ≡ other_names name names ++ cond (bytes_eq name last) [] (last ∷ [])
+other_more : (name : List ℕ) (names : List (List ℕ)) (last : List ℕ)
+    → other_names name (names ++ last ∷ []) ≡ other_names name names ++ cond (bytes_eq name last) [] (last ∷ [])
 other_more name [] last = last_more (bytes_eq name last) last
 other_more name (first ∷ names) last =
-    first_more (bytes_eq name first) first (other_names name (names ++ last ∷ [])) (other_names name names) (cond (bytes_eq name last) [] (last ∷ [])) (other_more name names last)
+    first_more (bytes_eq name first) first (other_names name (names ++ last ∷ [])) (other_names name names) (cond (bytes_eq name last) [] (last ∷ []))
+        (other_more name names last)
 
 one_there : (P : ℕ → Type 0) (x : ℕ) → P x → All P (x ∷ [])
 one_there P x holds zero d less = holds
@@ -70,7 +73,8 @@ module _ (names : List (List ℕ)) (out : ℕ) (last : IsPlaceOf std_out names o
           let no : false ≡ true = sym same ∙ eq-eqb at out equal in cc
 
   -- what is finished for one node
-  finished_name : (stream : StreamC) (at : ℕ) → IsPlaceOf stream.port names at → names_at names (finish_at (Some stream) at out) ≡ cond (bytes_eq std_out stream.port) [] (stream.port ∷ [])
+  finished_name : (stream : StreamC) (at : ℕ) → IsPlaceOf stream.port names at
+      → names_at names (finish_at (Some stream) at out) ≡ cond (bytes_eq std_out stream.port) [] (stream.port ∷ [])
   finished_name stream at place =
       by_same (at == out) ∙ ap (λ b. cond b [] (stream.port ∷ [])) (sym (same_port stream.port at place (at == out) refl))
     where
@@ -79,7 +83,8 @@ module _ (names : List (List ℕ)) (out : ℕ) (last : IsPlaceOf std_out names o
       by_same false = ap (λ name. name ∷ []) place.named
 
   -- all places are ports'
-  finished_place : (o : Option StreamC) (at : ℕ) → ((stream : StreamC) → o ≡ Some stream → IsPlaceOf stream.port names at) → All (IsPlace names) (finish_at o at out)
+  finished_place : (o : Option StreamC) (at : ℕ) → ((stream : StreamC) → o ≡ Some stream → IsPlaceOf stream.port names at)
+      → All (IsPlace names) (finish_at o at out)
   finished_place None at place = λ k d less. absurd (omega (arith, less))
   finished_place (Some stream) at place = by_same (at == out)
     where
@@ -113,15 +118,18 @@ module _ (core : Core) (places : List ℕ) (out : ℕ) (finishes after : List �
       → other_names std_out (ports_of (outputs_in (take count core.nodes)) ++ ports_of (filter_map output_of (n ∷ [])))
       ≡ other_names std_out (ports_of (outputs_in (take count core.nodes))) ++ names_at names (finish_at (output_of n) at out)
   adds names are last (Rules b) there =
-      ap (other_names std_out) (append-nil (ports_of (outputs_in (take count core.nodes)))) ∙ sym (append-nil (other_names std_out (ports_of (outputs_in (take count core.nodes)))))
+      ap (other_names std_out) (append-nil (ports_of (outputs_in (take count core.nodes))))
+          ∙ sym (append-nil (other_names std_out (ports_of (outputs_in (take count core.nodes)))))
   adds names are last (From stream) there =
-      ap (other_names std_out) (append-nil (ports_of (outputs_in (take count core.nodes)))) ∙ sym (append-nil (other_names std_out (ports_of (outputs_in (take count core.nodes)))))
+      ap (other_names std_out) (append-nil (ports_of (outputs_in (take count core.nodes))))
+          ∙ sym (append-nil (other_names std_out (ports_of (outputs_in (take count core.nodes)))))
   adds names are last (To stream) there =
       other_more std_out (ports_of (outputs_in (take count core.nodes))) stream.port
       ∙ ap (λ more. other_names std_out (ports_of (outputs_in (take count core.nodes))) ++ more)
       (sym (finished_name names out last stream at (are.each count at (To stream) stream there refl place_there)))
 
-  place_of_output : (names : List (List ℕ)) → ArePlacesOf core names places → (n : NodeC) → slice_get core.nodes count ≡ Some n → (stream : StreamC) → output_of n ≡ Some stream
+  place_of_output : (names : List (List ℕ)) → ArePlacesOf core names places → (n : NodeC) → slice_get core.nodes count ≡ Some n → (stream : StreamC)
+      → output_of n ≡ Some stream
       → IsPlaceOf stream.port names at
   place_of_output names are (Rules b) there stream of = cc
   place_of_output names are (From other) there stream of = cc
@@ -152,7 +160,8 @@ are_named names (at ∷ places) all =
     (here.first, are_named names places later)
 
 -- and `std_out` last
-pub finishing_over : (core : Core) (places : List ℕ) (out : ℕ) (finishes after : List ℕ) (count : ℕ) → length core.nodes ≤ count → after ≡ finishes ++ out ∷ []
+pub finishing_over : (core : Core) (places : List ℕ) (out : ℕ) (finishes after : List ℕ) (count : ℕ) → length core.nodes ≤ count
+    → after ≡ finishes ++ out ∷ []
     → Finishing core places out finishes count → (names : List (List ℕ)) → ArePlacesOf core names places → IsPlaceOf std_out names out
     → AreNamed names after (run_finishes core) × All (λ at. at < length names) after
 finishing_over core places out finishes after count past added it names are last =

@@ -24,7 +24,8 @@ abbrev pub SomeInputs : Type 0
 SomeInputs = (core : Core) → IsRunnable core → (texts : List ℕ → List ℕ) → (inputs : Inputs) × AreInputs core texts inputs
 
 abbrev pub OneInputs : Type 0
-OneInputs = (core : Core) → IsRunnable core → (texts : List ℕ → List ℕ) (first second : Inputs) → AreInputs core texts first → AreInputs core texts second → first ≡ second
+OneInputs = (core : Core) → IsRunnable core → (texts : List ℕ → List ℕ) (first second : Inputs) → AreInputs core texts first → AreInputs core texts second
+    → first ≡ second
 
 module _ (source text : List ℕ) (names : List (List ℕ)) (texts : List ℕ → List ℕ) where
   -- the line of the first unfit stream
@@ -47,7 +48,8 @@ module _ (source text : List ℕ) (names : List (List ℕ)) (texts : List ℕ �
   not_both _ b (broken r x) q fit = accepted_unbroken text b r q x
   not_both _ b (unfit a p n at) q fit = let both = sym at ∙ ap unfit_in (same_core a b p q) ∙ fit in cc
 
-  same_run : OneInputs → (traced : Bool) (steps : ℕ) (first second : Owed Status) → IsOwedRun traced steps source text names texts first → IsOwedRun traced steps source text names texts second → first ≡ second
+  same_run : OneInputs → (traced : Bool) (steps : ℕ) (first second : Owed Status) → IsOwedRun traced steps source text names texts first
+      → IsOwedRun traced steps source text names texts second → first ≡ second
   same_run one_inputs traced steps first second x y = elim x [
     | inl p ↦ elim y [
       | inl q ↦ p.2 ∙ ap owed_refused (same_refusal p.0 q.0 p.1 q.1) ∙ sym q.2
@@ -75,9 +77,11 @@ module _ (source text : List ℕ) (names : List (List ℕ)) (texts : List ℕ �
   ]
 
   -- a run of an accepted source owes something
-  some_accepted : SomeInputs → (traced : Bool) (steps : ℕ) (a : Accepted) → IsAccepted text a → (o : Option ℕ) → unfit_in a.core ≡ o → (owed : Owed Status) × IsOwedRun traced steps source text names texts owed
+  some_accepted : SomeInputs → (traced : Bool) (steps : ℕ) (a : Accepted) → IsAccepted text a → (o : Option ℕ) → unfit_in a.core ≡ o
+      → (owed : Owed Status) × IsOwedRun traced steps source text names texts owed
   some_accepted has_inputs traced steps a p (Some line) at = (_, inl (_, unfit a p line at, refl))
-  some_accepted has_inputs traced steps a p None fit = let coming = has_inputs a.core (runnable text a p) texts in (_, inr (a, p, fit, coming.0, coming.1, refl))
+  some_accepted has_inputs traced steps a p None fit = let coming = has_inputs a.core (runnable text a p) texts in
+      (_, inr (a, p, fit, coming.0, coming.1, refl))
 
   some_run : SomeInputs → (traced : Bool) (steps : ℕ) → (owed : Owed Status) × IsOwedRun traced steps source text names texts owed
   some_run has_inputs traced steps = elim (front.some_answer text) [
@@ -93,6 +97,7 @@ pub one_owed : OneInputs → (order : Order) (source text : List ℕ) (names : L
 one_owed one_inputs (Run steps workers place traced) source text names texts = same_run source text names texts one_inputs traced steps
 one_owed one_inputs (Check place) source text names texts = same_check source text names texts
 
-pub some_owed : SomeInputs → (order : Order) (source text : List ℕ) (names : List (List ℕ)) (texts : List ℕ → List ℕ) → (owed : Owed Status) × IsOwed order source text names texts owed
+pub some_owed : SomeInputs → (order : Order) (source text : List ℕ) (names : List (List ℕ)) (texts : List ℕ → List ℕ)
+    → (owed : Owed Status) × IsOwed order source text names texts owed
 some_owed has_inputs (Run steps workers place traced) source text names texts = some_run source text names texts has_inputs traced steps
 some_owed has_inputs (Check place) source text names texts = some_check source text names texts

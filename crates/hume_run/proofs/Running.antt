@@ -89,17 +89,20 @@ module _ (traced : Bool) (steps : ℕ) (core : Core) where
   abbrev Ended : List PortView → List PortView → Result Bool Failed → Type 0
   Ended olds news result = RunEnds traced steps core olds news result
 
-  pub run_blocked : (olds news : List PortView) (result : Result Bool Failed) → result ≡ Ok true → Ended olds news result → RunsCore traced steps core olds news BadValue
+  pub run_blocked : (olds news : List PortView) (result : Result Bool Failed) → result ≡ Ok true → Ended olds news result
+      → RunsCore traced steps core olds news BadValue
   run_blocked olds news result is ends = let e = subst (Ended olds news) is ends in record {
     comes = e.comes;
     ends = inl (answered (blocked_round core e.comes.inputs (span_of traced) steps) true e.blocked, e.taken, e.ends);
   }
 
-  pub run_done : (olds news : List PortView) (result : Result Bool Failed) → result ≡ Ok false → Ended olds news result → RunsCore traced steps core olds news Done
+  pub run_done : (olds news : List PortView) (result : Result Bool Failed) → result ≡ Ok false → Ended olds news result
+      → RunsCore traced steps core olds news Done
   run_done olds news result is ends = let e = subst (Ended olds news) is ends in record {
     comes = e.comes;
     ends = inl (answered (blocked_round core e.comes.inputs (span_of traced) steps) false e.blocked, e.taken, e.ends);
   }
 
-  pub run_faulted : (olds news : List PortView) (failed : Failed) → RunEnds traced steps core olds news (Err failed) → RunsCore traced steps core olds news Fault
+  pub run_faulted : (olds news : List PortView) (failed : Failed) → RunEnds traced steps core olds news (Err failed)
+      → RunsCore traced steps core olds news Fault
   run_faulted olds news failed e = record { comes = e.comes; ends = inr (refl, e.ends) }

@@ -35,15 +35,18 @@ module _ (olds : List PortView) (out : ℕ) (place : IsPlaceOf std_out (names ol
   -- the table
 
   pub table_made : (core : Core) (mids : List PortView)
-      → ForNameAt out olds (λ name. Made (write_each (map (λ line. (name, line)) (space_table core))) [] olds mids) → Made (write_each (table_writes core)) [] olds mids
+      → ForNameAt out olds (λ name. Made (write_each (map (λ line. (name, line)) (space_table core))) [] olds mids)
+      → Made (write_each (table_writes core)) [] olds mids
   table_made core mids made = made std_out (meant std_out (names olds) out place)
 
   pub table_fails : (core : Core) (news : List PortView)
-      → ForNameAt out olds (λ name. Fails never [] (write_each (map (λ line. (name, line)) (space_table core))) olds news) → Fails never [] (write_each (table_writes core)) olds news
+      → ForNameAt out olds (λ name. Fails never [] (write_each (map (λ line. (name, line)) (space_table core))) olds news)
+      → Fails never [] (write_each (table_writes core)) olds news
   table_fails core news fails = fails std_out (meant std_out (names olds) out place)
 
   pub check_fails : (core : Core) (news : List PortView)
-      → ForNameAt out olds (λ name. Fails never [] (write_each (map (λ line. (name, line)) (space_table core))) olds news) → Fails never [] (owed_check core).acts olds news
+      → ForNameAt out olds (λ name. Fails never [] (write_each (map (λ line. (name, line)) (space_table core))) olds news)
+      → Fails never [] (owed_check core).acts olds news
   check_fails core news fails = Fails-stop never [] (write_each (table_writes core)) (finishes std_out ∷ []) olds news (table_fails core news fails)
 
   pub check_ends : (core : Core) (mids news : List PortView) (result : Result (Unit {0}) Failed)

@@ -54,7 +54,8 @@ module _ (P : List ℕ → Type 0) where
   each_map name line holds (x ∷ xs) = (holds, each_map name line holds xs)
 
 -- a name of such pairs is one of the names
-each_among : (names : List (List ℕ)) (pairs : Pairs) → Each (λ name. is_among name names ≡ true) pairs → (name : List ℕ) → is_among name (names_in pairs) ≡ true
+each_among : (names : List (List ℕ)) (pairs : Pairs) → Each (λ name. is_among name names ≡ true) pairs → (name : List ℕ)
+    → is_among name (names_in pairs) ≡ true
     → is_among name names ≡ true
 each_among names [] all name among = cc
 each_among names (pair ∷ pairs) all name among = elim (cases_Bool (bytes_eq name pair.0)) [
@@ -88,7 +89,8 @@ module _ (core : Core) where
         (is_among-other_names port std_out (ports_of (outputs core)) ∙ rw isnt among)
   ]
 
-  outputs_among : (nodes : List NodeC) (n : ℕ) (stream : StreamC) → slice_get nodes n ≡ Some (To stream) → is_among stream.port (ports_of (filter_map output_of nodes)) ≡ true
+  outputs_among : (nodes : List NodeC) (n : ℕ) (stream : StreamC) → slice_get nodes n ≡ Some (To stream)
+      → is_among stream.port (ports_of (filter_map output_of nodes)) ≡ true
   outputs_among [] n stream at = cc
   outputs_among (Rules b ∷ nodes) zero stream at = cc
   outputs_among (Rules b ∷ nodes) (suc n) stream at = outputs_among nodes n stream at
@@ -96,11 +98,13 @@ module _ (core : Core) where
   outputs_among (From other ∷ nodes) (suc n) stream at = outputs_among nodes n stream at
   outputs_among (To other ∷ nodes) zero stream at =
       let same : other ≡ stream = cc in
-      subst (λ (s : StreamC). is_among s.port (ports_of (filter_map output_of (To other ∷ nodes))) ≡ true) same (first_among other.port (ports_of (filter_map output_of nodes)))
+      subst (λ (s : StreamC). is_among s.port (ports_of (filter_map output_of (To other ∷ nodes))) ≡ true) same
+          (first_among other.port (ports_of (filter_map output_of nodes)))
   outputs_among (To other ∷ nodes) (suc n) stream at =
       right_true (bytes_eq stream.port other.port) (is_among stream.port (ports_of (filter_map output_of nodes))) (outputs_among nodes n stream at)
 
-  inputs_among : (nodes : List NodeC) (n : ℕ) (stream : StreamC) → slice_get nodes n ≡ Some (From stream) → is_among stream.port (ports_of (filter_map input_of nodes)) ≡ true
+  inputs_among : (nodes : List NodeC) (n : ℕ) (stream : StreamC) → slice_get nodes n ≡ Some (From stream)
+      → is_among stream.port (ports_of (filter_map input_of nodes)) ≡ true
   inputs_among [] n stream at = cc
   inputs_among (Rules b ∷ nodes) zero stream at = cc
   inputs_among (Rules b ∷ nodes) (suc n) stream at = inputs_among nodes n stream at
@@ -108,7 +112,8 @@ module _ (core : Core) where
   inputs_among (To other ∷ nodes) (suc n) stream at = inputs_among nodes n stream at
   inputs_among (From other ∷ nodes) zero stream at =
       let same : other ≡ stream = cc in
-      subst (λ (s : StreamC). is_among s.port (ports_of (filter_map input_of (From other ∷ nodes))) ≡ true) same (first_among other.port (ports_of (filter_map input_of nodes)))
+      subst (λ (s : StreamC). is_among s.port (ports_of (filter_map input_of (From other ∷ nodes))) ≡ true) same
+          (first_among other.port (ports_of (filter_map input_of nodes)))
   inputs_among (From other ∷ nodes) (suc n) stream at =
       right_true (bytes_eq stream.port other.port) (is_among stream.port (ports_of (filter_map input_of nodes))) (inputs_among nodes n stream at)
 
@@ -128,7 +133,8 @@ module _ (core : Core) where
       each_map IsFinished stream.port (line_of core.types (type_at core n)) (output_finished stream.port (outputs_among core.nodes n stream at)) values
 
   nodes_each : (taken : ℕ → List Value) → Each IsFinished (writes_of_nodes core taken)
-  nodes_each taken = each_flat IsFinished (λ n. writes_of_node core n (slice_get core.nodes n) (taken n)) (λ n. node_each n (slice_get core.nodes n) refl (taken n)) _
+  nodes_each taken = each_flat IsFinished (λ n. writes_of_node core n (slice_get core.nodes n) (taken n))
+      (λ n. node_each n (slice_get core.nodes n) refl (taken n)) _
 
   trace_each : (good : List (List Value)) (traced : Bool) (steps round : ℕ) → Each IsFinished (trace_writes core good traced steps round)
   trace_each good true steps round =
@@ -137,23 +143,28 @@ module _ (core : Core) where
 
   rounds_each : (good : List (List Value)) (traced : Bool) (steps rounds : ℕ) → Each IsFinished (rounds_writes core good traced steps rounds)
   rounds_each good traced steps rounds = each_flat IsFinished (round_writes core good traced steps)
-      (λ round. each_append IsFinished (gained_writes core good (span_of traced) steps round) (trace_writes core good traced steps round) (nodes_each (gained (lockstep core (start core good) (begins (span_of traced) round)) (lockstep core (start core good) (ends (span_of traced) steps round)))) (trace_each good traced steps round)) _
+      (λ round. each_append IsFinished (gained_writes core good (span_of traced) steps round) (trace_writes core good traced steps round)
+      (nodes_each (gained (lockstep core (start core good) (begins (span_of traced) round)) (lockstep core (start core good) (ends (span_of traced) steps round)))) (trace_each good traced steps round)) _
 
   bad_each : (coming : Inputs) (o : Option ℕ) → Each IsFinished (bad_value_writes core coming o)
   bad_each coming None = tt
   bad_each coming (Some n) = (std_out_finished, tt)
 
   until_each : (coming : Inputs) (traced : Bool) (steps : ℕ) (o : Option ℕ) → Each IsFinished (writes_until core coming traced steps o)
-  until_each coming traced steps None = each_append IsFinished (rounds_writes core coming.good traced steps (rounds_of (span_of traced) steps)) (peak_writes core coming.good steps) (rounds_each coming.good traced steps (rounds_of (span_of traced) steps)) (told_each (peak_lines core (peaks core (start core coming.good) steps)))
+  until_each coming traced steps None = each_append IsFinished (rounds_writes core coming.good traced steps (rounds_of (span_of traced) steps))
+      (peak_writes core coming.good steps) (rounds_each coming.good traced steps (rounds_of (span_of traced) steps))
+      (told_each (peak_lines core (peaks core (start core coming.good) steps)))
   until_each coming traced steps (Some round) =
-      each_append IsFinished (rounds_writes core coming.good traced steps (round - 1)) (bad_value_writes core coming (blocked_by core coming traced steps round))
+      each_append IsFinished (rounds_writes core coming.good traced steps (round - 1))
+          (bad_value_writes core coming (blocked_by core coming traced steps round))
       (rounds_each coming.good traced steps (round - 1)) (bad_each coming (blocked_by core coming traced steps round))
 
   pub run_writes_to : RunsWrite → (coming : Inputs) (traced : Bool) (steps : ℕ) (name : List ℕ)
       → is_among name (names_in (written (owed_run traced steps core coming).acts)) ≡ true → is_among name (run_finishes core) ≡ true
   run_writes_to runs coming traced steps name among =
       each_among (run_finishes core) (table_writes core ++ writes core coming traced steps)
-      (each_append IsFinished (table_writes core) (writes core coming traced steps) (told_each (space_table core)) (until_each coming traced steps (blocked_round core coming (span_of traced) steps)))
+      (each_append IsFinished (table_writes core) (writes core coming traced steps) (told_each (space_table core))
+      (until_each coming traced steps (blocked_round core coming (span_of traced) steps)))
       name (subst (λ (pairs : Pairs). is_among name (names_in pairs) ≡ true) (run_written runs core coming traced steps) among)
 
   -- what is read is an input stream's port
@@ -188,7 +199,8 @@ module _ (core : Core) where
   all_finished [] = refl
   all_finished (name ∷ names) = ap (λ (others : List (List ℕ)). name ∷ others) (all_finished names)
 
-  pub run_finishes_each : RunsFinishNothing → (coming : Inputs) (traced : Bool) (steps : ℕ) → finished (owed_run traced steps core coming).acts ≡ run_finishes core
+  pub run_finishes_each : RunsFinishNothing → (coming : Inputs) (traced : Bool) (steps : ℕ)
+      → finished (owed_run traced steps core coming).acts ≡ run_finishes core
   run_finishes_each none coming traced steps =
       let table : List Act = write_each (table_writes core) in
       let run : List Act = run_acts core coming traced steps in

@@ -21,7 +21,8 @@ InFirst ps before act = (rest : List Act) × (ps ≡ before ++ act ∷ rest)
 abbrev pub InSecond : List Act → List Act → List Act → Act → List Act → Type 0
 InSecond ps qs before act later = (first : List Act) × (before ≡ ps ++ first) × (qs ≡ first ++ act ∷ later)
 
-pub split : (ps qs before : List Act) (act : Act) (later : List Act) → ps ++ qs ≡ before ++ act ∷ later → InFirst ps before act ⊎ InSecond ps qs before act later
+pub split : (ps qs before : List Act) (act : Act) (later : List Act) → ps ++ qs ≡ before ++ act ∷ later
+    → InFirst ps before act ⊎ InSecond ps qs before act later
 split [] qs before act later e = inr (before, refl, e)
 split (other ∷ ps) qs [] act later e =
     let same : other ≡ act = cc in
@@ -94,17 +95,21 @@ module _ (names : List (List ℕ)) (source : List ℕ) where
   same_stream first second e = cc
 
   -- where no port is unfit, no input stream's is the source's
-  pub apart_from_source : (nodes : List NodeC) (earlier : List (List ℕ)) → unfit_line names source earlier (filter_map stream_of nodes) ≡ None → (n : ℕ) → Apart nodes n
+  pub apart_from_source : (nodes : List NodeC) (earlier : List (List ℕ)) → unfit_line names source earlier (filter_map stream_of nodes) ≡ None → (n : ℕ)
+      → Apart nodes n
   apart_from_source [] earlier fit n stream at = cc
   apart_from_source (Rules b ∷ nodes) earlier fit zero stream at = cc
   apart_from_source (Rules b ∷ nodes) earlier fit (suc n) stream at = apart_from_source nodes earlier fit n stream at
   apart_from_source (To other ∷ nodes) earlier fit zero stream at = cc
   apart_from_source (To other ∷ nodes) earlier fit (suc n) stream at =
-      let f = fit_first (is_unfit names source earlier other.port) other.line (unfit_line names source (earlier ++ other.port ∷ []) (filter_map stream_of nodes)) fit in
+      let f = fit_first (is_unfit names source earlier other.port) other.line
+          (unfit_line names source (earlier ++ other.port ∷ []) (filter_map stream_of nodes)) fit in
       apart_from_source nodes (earlier ++ other.port ∷ []) f.1 n stream at
   apart_from_source (From other ∷ nodes) earlier fit zero stream at =
-      let f = fit_first (is_unfit names source earlier other.port) other.line (unfit_line names source (earlier ++ other.port ∷ []) (filter_map stream_of nodes)) fit in
+      let f = fit_first (is_unfit names source earlier other.port) other.line
+          (unfit_line names source (earlier ++ other.port ∷ []) (filter_map stream_of nodes)) fit in
       subst (λ (s : StreamC). bytes_eq s.port source ≡ false) (same_stream other stream at) (not_source earlier other.port f.0)
   apart_from_source (From other ∷ nodes) earlier fit (suc n) stream at =
-      let f = fit_first (is_unfit names source earlier other.port) other.line (unfit_line names source (earlier ++ other.port ∷ []) (filter_map stream_of nodes)) fit in
+      let f = fit_first (is_unfit names source earlier other.port) other.line
+          (unfit_line names source (earlier ++ other.port ∷ []) (filter_map stream_of nodes)) fit in
       apart_from_source nodes (earlier ++ other.port ∷ []) f.1 n stream at
