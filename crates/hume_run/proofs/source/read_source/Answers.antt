@@ -1,4 +1,4 @@
-use Rattle.std.proofs.Common.{arith, sym, Err}
+use Rattle.std.proofs.Common.{arith, sym}
 use Rattle.std.proofs.lemmas.Bool.{true≢false}
 use Rattle.hume_run.proofs.Sources.{kept, source_made, source_is, source_failed}
 use Rattle.hume_run.proofs.source.read_source.Goals as goal

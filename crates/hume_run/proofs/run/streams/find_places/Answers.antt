@@ -1,7 +1,4 @@
-use Rattle.std.proofs.Common.{◌≡◌, ◌≤◌, ◌∙◌, ap, sym, subst, refl, arith, List, length}
-use Rattle.std.proofs.lemmas.Option.{slice_get-get_or}
-use Rattle.hume_model.specs.declared.core_tree.NodeC.{NodeC}
-use Rattle.hume_run.proofs.Fitting.{placed_next, placed_read, all_placed, all_apart}
+use Rattle.hume_run.proofs.Fitting.{placed_read, all_placed, all_apart}
 use Rattle.hume_run.proofs.run.streams.find_places.Goals as goal
 
 pub loop-number-preserved : goal.loop-number-preserved
