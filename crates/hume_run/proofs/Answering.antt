@@ -115,7 +115,7 @@ module _ (source text : List ℕ) (accepted : Accepted) (is_accepted : IsAccepte
         → bytes_eq name source ≡ false
     wants_apart before later name count e =
         let inside = want_of_run (table_writes accepted.core) (run_acts accepted.core coming traced steps)
-            (run_finishes accepted.core) before later name count e in
+        (run_finishes accepted.core) before later name count e in
         let reads = tell inside.0 inside.1 name count inside.3 in
         subst (λ (n : List ℕ). bytes_eq n source ≡ false) (sym reads.is_port)
         (apart_from_source ns source accepted.core.nodes [] fit reads.node reads.stream reads.at)
@@ -158,10 +158,15 @@ module _ (order : Order) (source text : List ℕ) (olds mids news : List PortVie
   whole_ends : (owed : Owed Status) → EndsAfter (call_few source text) ((source, text) ∷ []) owed mids news status
       → ((status ≡ owed.answer) × (taken : Pairs) × Made (read_each (source_reads source) ++ owed.acts) taken olds news)
       ⊎ ((status ≡ Fault) × Fails (call_few source text) [] (read_each (source_reads source) ++ owed.acts) olds news)
-  whole_ends owed (inl (is, taken, made)) = inl (is, ((source, text) ∷ []) ++ taken,
-      Made-on (read_each (source_reads source)) owed.acts ((source, text) ∷ []) taken olds mids news m made)
-  whole_ends owed (inr (is, f)) = inr (is,
-      Fails-on (call_few source text) [] ((source, text) ∷ []) (read_each (source_reads source)) owed.acts olds mids news m f)
+  whole_ends owed (inl (is, taken, made)) = inl (
+    is,
+    ((source, text) ∷ []) ++ taken,
+    Made-on (read_each (source_reads source)) owed.acts ((source, text) ∷ []) taken olds mids news m made,
+  )
+  whole_ends owed (inr (is, f)) = inr (
+    is,
+    Fails-on (call_few source text) [] ((source, text) ∷ []) (read_each (source_reads source)) owed.acts olds mids news m f,
+  )
 
   pub from_text : IfSome (left_of source olds) (λ left. text ≡ source_text left) → EndsText order source text mids news status
       → Ended order source olds news status

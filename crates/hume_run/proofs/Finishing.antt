@@ -40,7 +40,7 @@ other_more : (name : List ℕ) (names : List (List ℕ)) (last : List ℕ)
 other_more name [] last = last_more (bytes_eq name last) last
 other_more name (first ∷ names) last =
     first_more (bytes_eq name first) first (other_names name (names ++ last ∷ [])) (other_names name names) (cond (bytes_eq name last) [] (last ∷ []))
-        (other_more name names last)
+    (other_more name names last)
 
 one_there : (P : ℕ → Type 0) (x : ℕ) → P x → All P (x ∷ [])
 one_there P x holds zero d less = holds
@@ -119,10 +119,10 @@ module _ (core : Core) (places : List ℕ) (out : ℕ) (finishes after : List �
       ≡ other_names std_out (ports_of (outputs_in (take count core.nodes))) ++ names_at names (finish_at (output_of n) at out)
   adds names are last (Rules b) there =
       ap (other_names std_out) (append-nil (ports_of (outputs_in (take count core.nodes))))
-          ∙ sym (append-nil (other_names std_out (ports_of (outputs_in (take count core.nodes)))))
+      ∙ sym (append-nil (other_names std_out (ports_of (outputs_in (take count core.nodes)))))
   adds names are last (From stream) there =
       ap (other_names std_out) (append-nil (ports_of (outputs_in (take count core.nodes))))
-          ∙ sym (append-nil (other_names std_out (ports_of (outputs_in (take count core.nodes)))))
+      ∙ sym (append-nil (other_names std_out (ports_of (outputs_in (take count core.nodes)))))
   adds names are last (To stream) there =
       other_more std_out (ports_of (outputs_in (take count core.nodes))) stream.port
       ∙ ap (λ more. other_names std_out (ports_of (outputs_in (take count core.nodes))) ++ more)

@@ -99,7 +99,7 @@ module _ (core : Core) where
   outputs_among (To other ∷ nodes) zero stream at =
       let same : other ≡ stream = cc in
       subst (λ (s : StreamC). is_among s.port (ports_of (filter_map output_of (To other ∷ nodes))) ≡ true) same
-          (first_among other.port (ports_of (filter_map output_of nodes)))
+      (first_among other.port (ports_of (filter_map output_of nodes)))
   outputs_among (To other ∷ nodes) (suc n) stream at =
       right_true (bytes_eq stream.port other.port) (is_among stream.port (ports_of (filter_map output_of nodes))) (outputs_among nodes n stream at)
 
@@ -113,7 +113,7 @@ module _ (core : Core) where
   inputs_among (From other ∷ nodes) zero stream at =
       let same : other ≡ stream = cc in
       subst (λ (s : StreamC). is_among s.port (ports_of (filter_map input_of (From other ∷ nodes))) ≡ true) same
-          (first_among other.port (ports_of (filter_map input_of nodes)))
+      (first_among other.port (ports_of (filter_map input_of nodes)))
   inputs_among (From other ∷ nodes) (suc n) stream at =
       right_true (bytes_eq stream.port other.port) (is_among stream.port (ports_of (filter_map input_of nodes))) (inputs_among nodes n stream at)
 
@@ -156,7 +156,7 @@ module _ (core : Core) where
       (told_each (peak_lines core (peaks core (start core coming.good) steps)))
   until_each coming traced steps (Some round) =
       each_append IsFinished (rounds_writes core coming.good traced steps (round - 1))
-          (bad_value_writes core coming (blocked_by core coming traced steps round))
+      (bad_value_writes core coming (blocked_by core coming traced steps round))
       (rounds_each coming.good traced steps (round - 1)) (bad_each coming (blocked_by core coming traced steps round))
 
   pub run_writes_to : RunsWrite → (coming : Inputs) (traced : Bool) (steps : ℕ) (name : List ℕ)

@@ -103,13 +103,13 @@ module _ (names : List (List ℕ)) (source : List ℕ) where
   apart_from_source (To other ∷ nodes) earlier fit zero stream at = cc
   apart_from_source (To other ∷ nodes) earlier fit (suc n) stream at =
       let f = fit_first (is_unfit names source earlier other.port) other.line
-          (unfit_line names source (earlier ++ other.port ∷ []) (filter_map stream_of nodes)) fit in
+      (unfit_line names source (earlier ++ other.port ∷ []) (filter_map stream_of nodes)) fit in
       apart_from_source nodes (earlier ++ other.port ∷ []) f.1 n stream at
   apart_from_source (From other ∷ nodes) earlier fit zero stream at =
       let f = fit_first (is_unfit names source earlier other.port) other.line
-          (unfit_line names source (earlier ++ other.port ∷ []) (filter_map stream_of nodes)) fit in
+      (unfit_line names source (earlier ++ other.port ∷ []) (filter_map stream_of nodes)) fit in
       subst (λ (s : StreamC). bytes_eq s.port source ≡ false) (same_stream other stream at) (not_source earlier other.port f.0)
   apart_from_source (From other ∷ nodes) earlier fit (suc n) stream at =
       let f = fit_first (is_unfit names source earlier other.port) other.line
-          (unfit_line names source (earlier ++ other.port ∷ []) (filter_map stream_of nodes)) fit in
+      (unfit_line names source (earlier ++ other.port ∷ []) (filter_map stream_of nodes)) fit in
       apart_from_source nodes (earlier ++ other.port ∷ []) f.1 n stream at

@@ -27,7 +27,7 @@ ghost use Rattle.hume_run.specs.Streams.{unfit_line};
 ghost use Rattle.hume_run.specs.Owed.{IsOwed, owed_refused, owed_check, owed_run, refused_line, run_finishes, table_writes};
 ghost use Rattle.hume_run.specs.Few.{call_few};
 ghost use Rattle.hume_run.specs.Headline.{source_reads};
-ghost use Rattle.hume_run.specs.Faults.{FailedInput, ReadRose};
+ghost use Rattle.hume_run.specs.Faults.{FailedInput, HasFault, ReadRose};
 
 use crate::stub::{
     each_run_has_inputs, inputs_are_unique, inputs_have_types, runs_write_their_lines,
@@ -77,6 +77,12 @@ pub fn runs_touch_their_ports()
     runs_write_their_lines();
     wants_stand_before_rounds();
 }
+
+/// A fault comes only where a count of one of the call's ports rose.
+pub fn faults_come_from_their_ports()
+    ensures { (source text : List ℕ) (owed : Owed Status) (old new : List PortView)
+        → Fails (call_few source text) [] (after_reads (source_reads source) owed).acts old new → HasFault source owed old new }
+{}
 
 /// A fault where only finish counts rose came when all was written. One where only the read count of the source's port rose came
 /// when nothing was written.

@@ -10,7 +10,7 @@ returns-in-Ok-fill_at-clause-made g c =
 pub returns-in-Ok-fill_at-clause-text : goal.returns-in-Ok-fill_at-clause-text
 returns-in-Ok-fill_at-clause-text g c =
     source_is _ _ _ _ _ (kept _ _ _ _ _ c.truncate.ensures.items (omega (arith, c.in-Ok.ensures.len)))
-        (omega (arith, c.in-Ok.ensures.len)) c.in-Ok-fill_at.ensures.front
+    (omega (arith, c.in-Ok.ensures.len)) c.in-Ok-fill_at.ensures.front
 
 pub returns-in-Err-clause-failed : goal.returns-in-Err-clause-failed
 returns-in-Err-clause-failed g c is = source_failed _ _ _ _ (omega (arith, c.in-Ok.ensures.len)) c.in-Err.ensures.failed
