@@ -13,11 +13,15 @@ use Rattle.hume_model.specs.declared.core_tree.Core.{Core}
 use Rattle.hume_ports.specs.Ports.{other_names, place_of}
 use Rattle.hume_ports.proofs.Names.{bytes_eq-self, same_name}
 use Rattle.port_acts.specs.Places.{IsPlace, IsPlaceOf, name_at}
-use Rattle.hume_run.specs.inner.Places.{names_at}
+use Rattle.port_acts.specs.Acts.{AreNamed}
 use Rattle.run_rounds.specs.Streams.{ArePlacesOf, output_of, ports_of, std_out}
 use Rattle.hume_run.specs.Owed.{run_finishes}
 use Rattle.hume_run.specs.inner.FoundPlaces.{finish_at}
 use Rattle.hume_run.proofs.Fitting.{up_to}
+
+-- the names of the ports at these places
+abbrev names_at : List (List ℕ) → List ℕ → List (List ℕ)
+names_at names places = map (name_at names) places
 
 abbrev outputs_in : List NodeC → List StreamC
 outputs_in nodes = filter_map output_of nodes
@@ -26,14 +30,17 @@ last_more : (b : Bool) (last : List ℕ) → cond b [] (last ∷ []) ≡ [] ++ c
 last_more true last = refl
 last_more false last = refl
 
-first_more : (b : Bool) (first : List ℕ) (whole few more : List (List ℕ)) → whole ≡ few ++ more → cond b whole (first ∷ whole) ≡ cond b few (first ∷ few) ++ more
+first_more : (b : Bool) (first : List ℕ) (whole few more : List (List ℕ)) → whole ≡ few ++ more
+    → cond b whole (first ∷ whole) ≡ cond b few (first ∷ few) ++ more
 first_more true first whole few more is = is
 first_more false first whole few more is = ap (λ later. first ∷ later) is
 
-other_more : (name : List ℕ) (names : List (List ℕ)) (last : List ℕ) → other_names name (names ++ last ∷ []) ≡ other_names name names ++ cond (bytes_eq name last) [] (last ∷ [])
+other_more : (name : List ℕ) (names : List (List ℕ)) (last : List ℕ)
+    → other_names name (names ++ last ∷ []) ≡ other_names name names ++ cond (bytes_eq name last) [] (last ∷ [])
 other_more name [] last = last_more (bytes_eq name last) last
 other_more name (first ∷ names) last =
-    first_more (bytes_eq name first) first (other_names name (names ++ last ∷ [])) (other_names name names) (cond (bytes_eq name last) [] (last ∷ [])) (other_more name names last)
+    first_more (bytes_eq name first) first (other_names name (names ++ last ∷ [])) (other_names name names) (cond (bytes_eq name last) [] (last ∷ []))
+    (other_more name names last)
 
 one_there : (P : ℕ → Type 0) (x : ℕ) → P x → All P (x ∷ [])
 one_there P x holds zero d less = holds
@@ -66,7 +73,8 @@ module _ (names : List (List ℕ)) (out : ℕ) (last : IsPlaceOf std_out names o
           let no : false ≡ true = sym same ∙ eq-eqb at out equal in cc
 
   -- what is finished for one node
-  finished_name : (stream : StreamC) (at : ℕ) → IsPlaceOf stream.port names at → names_at names (finish_at (Some stream) at out) ≡ cond (bytes_eq std_out stream.port) [] (stream.port ∷ [])
+  finished_name : (stream : StreamC) (at : ℕ) → IsPlaceOf stream.port names at
+      → names_at names (finish_at (Some stream) at out) ≡ cond (bytes_eq std_out stream.port) [] (stream.port ∷ [])
   finished_name stream at place =
       by_same (at == out) ∙ ap (λ b. cond b [] (stream.port ∷ [])) (sym (same_port stream.port at place (at == out) refl))
     where
@@ -75,7 +83,8 @@ module _ (names : List (List ℕ)) (out : ℕ) (last : IsPlaceOf std_out names o
       by_same false = ap (λ name. name ∷ []) place.named
 
   -- all places are ports'
-  finished_place : (o : Option StreamC) (at : ℕ) → ((stream : StreamC) → o ≡ Some stream → IsPlaceOf stream.port names at) → All (IsPlace names) (finish_at o at out)
+  finished_place : (o : Option StreamC) (at : ℕ) → ((stream : StreamC) → o ≡ Some stream → IsPlaceOf stream.port names at)
+      → All (IsPlace names) (finish_at o at out)
   finished_place None at place = λ k d less. absurd (omega (arith, less))
   finished_place (Some stream) at place = by_same (at == out)
     where
@@ -109,15 +118,18 @@ module _ (core : Core) (places : List ℕ) (out : ℕ) (finishes after : List �
       → other_names std_out (ports_of (outputs_in (take count core.nodes)) ++ ports_of (filter_map output_of (n ∷ [])))
       ≡ other_names std_out (ports_of (outputs_in (take count core.nodes))) ++ names_at names (finish_at (output_of n) at out)
   adds names are last (Rules b) there =
-      ap (other_names std_out) (append-nil (ports_of (outputs_in (take count core.nodes)))) ∙ sym (append-nil (other_names std_out (ports_of (outputs_in (take count core.nodes)))))
+      ap (other_names std_out) (append-nil (ports_of (outputs_in (take count core.nodes))))
+      ∙ sym (append-nil (other_names std_out (ports_of (outputs_in (take count core.nodes)))))
   adds names are last (From stream) there =
-      ap (other_names std_out) (append-nil (ports_of (outputs_in (take count core.nodes)))) ∙ sym (append-nil (other_names std_out (ports_of (outputs_in (take count core.nodes)))))
+      ap (other_names std_out) (append-nil (ports_of (outputs_in (take count core.nodes))))
+      ∙ sym (append-nil (other_names std_out (ports_of (outputs_in (take count core.nodes)))))
   adds names are last (To stream) there =
       other_more std_out (ports_of (outputs_in (take count core.nodes))) stream.port
       ∙ ap (λ more. other_names std_out (ports_of (outputs_in (take count core.nodes))) ++ more)
       (sym (finished_name names out last stream at (are.each count at (To stream) stream there refl place_there)))
 
-  place_of_output : (names : List (List ℕ)) → ArePlacesOf core names places → (n : NodeC) → slice_get core.nodes count ≡ Some n → (stream : StreamC) → output_of n ≡ Some stream
+  place_of_output : (names : List (List ℕ)) → ArePlacesOf core names places → (n : NodeC) → slice_get core.nodes count ≡ Some n → (stream : StreamC)
+      → output_of n ≡ Some stream
       → IsPlaceOf stream.port names at
   place_of_output names are (Rules b) there stream of = cc
   place_of_output names are (From other) there stream of = cc
@@ -139,13 +151,24 @@ module _ (core : Core) (places : List ℕ) (out : ℕ) (finishes after : List �
         (finished_place names out last (output_of node) at (place_of_output names are node there)));
   }
 
--- and the report's port last
-pub finishing_over : (core : Core) (places : List ℕ) (out : ℕ) (finishes after : List ℕ) (count : ℕ) → length core.nodes ≤ count → after ≡ finishes ++ out ∷ []
+-- places of ports are named by the names there
+are_named : (names : List (List ℕ)) (places : List ℕ) → All (IsPlace names) places → AreNamed names places (names_at names places)
+are_named names [] all = tt
+are_named names (at ∷ places) all =
+    let later : All (IsPlace names) places = λ k d less. all (suc k) d (omega (arith, less)) in
+    let here : IsPlace names at = all zero 0 (omega arith) in
+    (here.first, are_named names places later)
+
+-- and `std_out` last
+pub finishing_over : (core : Core) (places : List ℕ) (out : ℕ) (finishes after : List ℕ) (count : ℕ) → length core.nodes ≤ count
+    → after ≡ finishes ++ out ∷ []
     → Finishing core places out finishes count → (names : List (List ℕ)) → ArePlacesOf core names places → IsPlaceOf std_out names out
-    → (names_at names after ≡ run_finishes core) × All (IsPlace names) after
-finishing_over core places out finishes after count past added it names are last = (
-  ap (names_at names) added ∙ map-append (name_at names) finishes (out ∷ [])
-      ∙ ap (λ earlier. earlier ++ name_at names out ∷ []) (it.named names are last ∙ ap (λ nodes. other_names std_out (ports_of (outputs_in nodes))) (take_all count core.nodes past))
-      ∙ ap (λ name. other_names std_out (ports_of (outputs_in core.nodes)) ++ name ∷ []) last.named,
-  subst (All (IsPlace names)) (sym added) (all_append (IsPlace names) finishes (out ∷ []) (it.places_there names are last) (one_there (IsPlace names) out last.place)),
-)
+    → AreNamed names after (run_finishes core) × All (λ at. at < length names) after
+finishing_over core places out finishes after count past added it names are last =
+    let named : names_at names after ≡ run_finishes core =
+    ap (names_at names) added ∙ map-append (name_at names) finishes (out ∷ [])
+    ∙ ap (λ earlier. earlier ++ name_at names out ∷ []) (it.named names are last ∙ ap (λ nodes. other_names std_out (ports_of (outputs_in nodes))) (take_all count core.nodes past))
+    ∙ ap (λ name. other_names std_out (ports_of (outputs_in core.nodes)) ++ name ∷ []) last.named in
+    let all : All (IsPlace names) after =
+    subst (All (IsPlace names)) (sym added) (all_append (IsPlace names) finishes (out ∷ []) (it.places_there names are last) (one_there (IsPlace names) out last.place)) in
+    (subst (AreNamed names after) named (are_named names after all), λ k d less. (all k d less).within)

@@ -8,10 +8,11 @@ use Rattle.hume_run.specs.declared.order.Order.{Order}
 use Rattle.hume_run.specs.declared.order.Order.TheVariants.{Run, Check}
 use Rattle.hume_run.specs.inner.Places.{source_place}
 use Rattle.hume_run.specs.Words.{order_of, source_of}
-use Rattle.hume_run.specs.Headline.{EndsEarly, AnswersFrom, Headline}
+use Rattle.hume_run.specs.Headline.{Headline}
+use Rattle.hume_run.proofs.Answering.{Ended}
 
 source_at : (words : List (List ℕ)) (order : Order) → source_of words order ≡ slice_index_or words (source_place order) []
-source_at words (Run steps place) = refl
+source_at words (Run steps workers place traced) = refl
 source_at words (Check place) = refl
 
 -- the word at the order's place is the source's name
@@ -22,8 +23,7 @@ source_named bytes_of words order place word name same within is named =
     ∙ sym (get_or-map bytes_of words (source_place order) word [] within) ∙ sym (source_at (map bytes_of words) order)
 
 pub headlined : (words : List (List ℕ)) (order : Order) (name : List ℕ) (olds news : List PortView) (status : Status) → Some order ≡ order_of words
-    → name ≡ source_of words order → EndsEarly name olds news status ⊎ AnswersFrom order name olds news status → Headline words olds news status
+    → name ≡ source_of words order → Ended order name olds news status → Headline words olds news status
 headlined words order name olds news status asked named ends =
-    let Ended : Order → List ℕ → Type 0 = λ o n. EndsEarly n olds news status ⊎ AnswersFrom o n olds news status in
-    let Promise : Option Order → Type 0 = λ asks. IfSome asks (λ o. (status ≡ Usage → ⊥) → Ended o (source_of words o)) in
-    subst Promise asked (λ form. subst (Ended order) named ends)
+    let Promise : Option Order → Type 0 = λ asks. IfSome asks (λ o. (status ≡ Usage → ⊥) → Ended o (source_of words o) olds news status) in
+    subst Promise asked (λ form. subst (λ n. Ended order n olds news status) named ends)

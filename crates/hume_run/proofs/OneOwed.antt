@@ -1,5 +1,5 @@
 -- A call owes one thing.
-use Rattle.std.proofs.Common.{◌≡◌, ℕ, List, [], Option, None, Some, inl, inr, refl, sym, ap, ◌∙◌, subst}
+use Rattle.std.proofs.Common.{◌≡◌, ℕ, Bool, List, [], Option, None, Some, inl, inr, refl, sym, ap, ◌∙◌, subst}
 use Rattle.hume_base.specs.declared.rule.Refusal.{Refusal}
 use Rattle.hume_base.specs.declared.rule.Rule.TheVariants.{C55}
 use Rattle.hume_model.specs.declared.core_tree.Core.{Core}
@@ -9,14 +9,23 @@ use Rattle.hume_front.proofs.OneRefusal.{one_refusal, accepted_unbroken}
 use Rattle.hume_front.proofs.Sources.{one_accepted_core}
 use Rattle.hume_front.proofs.SomeAnswer as front
 use Rattle.run_rounds.specs.Streams.{streams}
-use Rattle.run_rounds.specs.Inputs.{AreInputs}
-use Rattle.run_rounds.proofs.RunEnds.{has_inputs}
-use Rattle.run_rounds.proofs.OneInputs.{one_inputs}
+use Rattle.run_rounds.specs.Inputs.{Inputs, AreInputs}
+use Rattle.run_rounds.specs.engine.Runnable.{IsRunnable}
 use Rattle.hume_run.specs.declared.order.Order.{Order}
 use Rattle.hume_run.specs.declared.order.Order.TheVariants.{Run, Check}
 use Rattle.hume_run.specs.Streams.{unfit_line}
-use Rattle.hume_run.specs.Owed.{Owed, IsRefusal, broken, unfit, IsOwedRun, IsOwedCheck, IsOwed, owed_refused, owed_run, owed_accepted}
+use Rattle.port_acts.specs.Ends.{Owed}
+use Rattle.hume_run.specs.declared.status.Status.{Status}
+use Rattle.hume_run.specs.Owed.{IsRefusal, broken, unfit, IsOwedRun, IsOwedCheck, IsOwed, owed_refused, owed_run, owed_check}
 use Rattle.hume_run.proofs.Runnable.{runnable}
+
+-- Something comes from any texts, and one thing.
+abbrev pub SomeInputs : Type 0
+SomeInputs = (core : Core) → IsRunnable core → (texts : List ℕ → List ℕ) → (inputs : Inputs) × AreInputs core texts inputs
+
+abbrev pub OneInputs : Type 0
+OneInputs = (core : Core) → IsRunnable core → (texts : List ℕ → List ℕ) (first second : Inputs) → AreInputs core texts first → AreInputs core texts second
+    → first ≡ second
 
 module _ (source text : List ℕ) (names : List (List ℕ)) (texts : List ℕ → List ℕ) where
   -- the line of the first unfit stream
@@ -39,52 +48,56 @@ module _ (source text : List ℕ) (names : List (List ℕ)) (texts : List ℕ �
   not_both _ b (broken r x) q fit = accepted_unbroken text b r q x
   not_both _ b (unfit a p n at) q fit = let both = sym at ∙ ap unfit_in (same_core a b p q) ∙ fit in cc
 
-  same_run : (steps : ℕ) (first second : Owed) → IsOwedRun steps source text names texts first → IsOwedRun steps source text names texts second → first ≡ second
-  same_run steps first second x y = elim x [
+  same_run : OneInputs → (traced : Bool) (steps : ℕ) (first second : Owed Status) → IsOwedRun traced steps source text names texts first
+      → IsOwedRun traced steps source text names texts second → first ≡ second
+  same_run one_inputs traced steps first second x y = elim x [
     | inl p ↦ elim y [
-      | inl q ↦ p.2 ∙ ap (owed_refused source) (same_refusal p.0 q.0 p.1 q.1) ∙ sym q.2
+      | inl q ↦ p.2 ∙ ap owed_refused (same_refusal p.0 q.0 p.1 q.1) ∙ sym q.2
       | inr q ↦ absurd (not_both p.0 q.0 p.1 q.1 q.2)
     ]
     | inr p ↦ elim y [
       | inl q ↦ absurd (not_both q.0 p.0 q.1 p.1 p.2)
       | inr q ↦
           let core : q.0.core ≡ p.0.core = same_core q.0 p.0 q.1 p.1 in
-          let coming : p.3 ≡ q.3 = one_inputs p.0.core (runnable text p.0 p.1).names texts p.3 q.3 p.4 (subst (λ c. AreInputs c texts q.3) core q.4) in
-          p.5 ∙ (λ i. owed_run steps source (sym core i) (coming i)) ∙ sym q.5
+          let coming : p.3 ≡ q.3 = one_inputs p.0.core (runnable text p.0 p.1) texts p.3 q.3 p.4 (subst (λ c. AreInputs c texts q.3) core q.4) in
+          p.5 ∙ (λ i. owed_run traced steps (sym core i) (coming i)) ∙ sym q.5
     ]
   ]
 
-  same_check : (first second : Owed) → IsOwedCheck source text first → IsOwedCheck source text second → first ≡ second
+  same_check : (first second : Owed Status) → IsOwedCheck text first → IsOwedCheck text second → first ≡ second
   same_check first second x y = elim x [
     | inl p ↦ elim y [
-      | inl q ↦ p.2 ∙ ap (owed_refused source) (one_refusal text p.0 q.0 p.1 q.1) ∙ sym q.2
+      | inl q ↦ p.2 ∙ ap owed_refused (one_refusal text p.0 q.0 p.1 q.1) ∙ sym q.2
       | inr q ↦ absurd (accepted_unbroken text q.0 p.0 q.1 p.1)
     ]
     | inr p ↦ elim y [
       | inl q ↦ absurd (accepted_unbroken text p.0 q.0 p.1 q.1)
-      | inr q ↦ p.2 ∙ ap (owed_accepted source) (same_core p.0 q.0 p.1 q.1) ∙ sym q.2
+      | inr q ↦ p.2 ∙ ap owed_check (same_core p.0 q.0 p.1 q.1) ∙ sym q.2
     ]
   ]
 
   -- a run of an accepted source owes something
-  some_accepted : (steps : ℕ) (a : Accepted) → IsAccepted text a → (o : Option ℕ) → unfit_in a.core ≡ o → (owed : Owed) × IsOwedRun steps source text names texts owed
-  some_accepted steps a p (Some line) at = (_, inl (_, unfit a p line at, refl))
-  some_accepted steps a p None fit = let coming = has_inputs a.core (runnable text a p) texts in (_, inr (a, p, fit, coming.0, coming.1, refl))
+  some_accepted : SomeInputs → (traced : Bool) (steps : ℕ) (a : Accepted) → IsAccepted text a → (o : Option ℕ) → unfit_in a.core ≡ o
+      → (owed : Owed Status) × IsOwedRun traced steps source text names texts owed
+  some_accepted has_inputs traced steps a p (Some line) at = (_, inl (_, unfit a p line at, refl))
+  some_accepted has_inputs traced steps a p None fit = let coming = has_inputs a.core (runnable text a p) texts in
+      (_, inr (a, p, fit, coming.0, coming.1, refl))
 
-  some_run : (steps : ℕ) → (owed : Owed) × IsOwedRun steps source text names texts owed
-  some_run steps = elim (front.some_answer text) [
-    | inl a ↦ some_accepted steps a.0 a.1 _ refl
+  some_run : SomeInputs → (traced : Bool) (steps : ℕ) → (owed : Owed Status) × IsOwedRun traced steps source text names texts owed
+  some_run has_inputs traced steps = elim (front.some_answer text) [
+    | inl a ↦ some_accepted has_inputs traced steps a.0 a.1 _ refl
     | inr r ↦ (_, inl (r.0, broken r.0 r.1, refl))
   ]
 
-  some_check : (owed : Owed) × IsOwedCheck source text owed
+  some_check : (owed : Owed Status) × IsOwedCheck text owed
   some_check = elim (front.some_answer text) [ inl a ↦ (_, inr (a.0, a.1, refl)) | inr r ↦ (_, inl (r.0, r.1, refl)) ]
 
-pub one_owed : (order : Order) (source text : List ℕ) (names : List (List ℕ)) (texts : List ℕ → List ℕ) (first second : Owed)
+pub one_owed : OneInputs → (order : Order) (source text : List ℕ) (names : List (List ℕ)) (texts : List ℕ → List ℕ) (first second : Owed Status)
     → IsOwed order source text names texts first → IsOwed order source text names texts second → first ≡ second
-one_owed (Run steps place) source text names texts = same_run source text names texts steps
-one_owed (Check place) source text names texts = same_check source text names texts
+one_owed one_inputs (Run steps workers place traced) source text names texts = same_run source text names texts one_inputs traced steps
+one_owed one_inputs (Check place) source text names texts = same_check source text names texts
 
-pub some_owed : (order : Order) (source text : List ℕ) (names : List (List ℕ)) (texts : List ℕ → List ℕ) → (owed : Owed) × IsOwed order source text names texts owed
-some_owed (Run steps place) source text names texts = some_run source text names texts steps
-some_owed (Check place) source text names texts = some_check source text names texts
+pub some_owed : SomeInputs → (order : Order) (source text : List ℕ) (names : List (List ℕ)) (texts : List ℕ → List ℕ)
+    → (owed : Owed Status) × IsOwed order source text names texts owed
+some_owed has_inputs (Run steps workers place traced) source text names texts = some_run source text names texts has_inputs traced steps
+some_owed has_inputs (Check place) source text names texts = some_check source text names texts

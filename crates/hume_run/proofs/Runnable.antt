@@ -1,8 +1,9 @@
 -- The core of an accepted source can be run, and keeps its bounds.
 use Rattle.std.proofs.Common.{ℕ, List}
+use Rattle.hume_net.specs.StatePlaces.{BoxesHandleAll}
 use Rattle.hume_front.specs.Accepted.{IsAccepted}
 use Rattle.hume_front.specs.declared.acceptance.Accepted.{Accepted}
-use Rattle.hume_front.proofs.Sources.{fine_check, formed, wired, within}
+use Rattle.hume_front.proofs.Sources.{fine_check, formed, wired, within, handled}
 use Rattle.run_rounds.specs.engine.Runnable.{IsRunnable}
 use Rattle.hume_run.specs.inner.Bounds.{KeepsBounds}
 use Rattle.hume_front.proofs.printable_lemmas.NamedConstructors.{have_names}
@@ -21,3 +22,6 @@ runnable text accepted h =
 
 pub bounded : (text : List ℕ) (accepted : Accepted) → IsAccepted text accepted → KeepsBounds accepted.core accepted.costs
 bounded text accepted h = record { frame = (formed text accepted h).frame; are = h.costs; within = within text accepted h }
+
+pub handles : (text : List ℕ) (accepted : Accepted) → IsAccepted text accepted → BoxesHandleAll accepted.core
+handles text accepted h = handled text accepted h

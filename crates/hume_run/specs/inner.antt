@@ -1,5 +1,5 @@
-pub mod Reports
 pub mod Bounds
 pub mod Places
-pub mod CoreRuns
 pub mod FoundPlaces
+pub mod Ended
+pub mod Opening

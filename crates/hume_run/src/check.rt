@@ -1,39 +1,40 @@
-ghost use Rattle.std.specs.Prelude.{◌≡◌, ◌⊎◌, ℕ, List, map, IfOk};
+ghost use Rattle.std.specs.Prelude.{◌≡◌, ℕ, List, [], map};
 ghost use Rattle.hume_ports.specs.Ports.{names};
-ghost use Rattle.hume_run.specs.declared.order.Order.TheVariants.{Check};
-ghost use Rattle.hume_run.specs.Headline.{Ends, EndsEarly, Answers};
-ghost use Rattle.run_rounds.specs.Streams.{std_out};
-ghost use Rattle.hume_run.specs.Owed.{owed_accepted};
+ghost use Rattle.hume_text.specs.Chunks.{room_of};
+ghost use Rattle.port_acts.specs.Ends.{Ends, never};
 ghost use Rattle.port_acts.specs.Places.{IsPlaceOf};
+ghost use Rattle.trace_print.specs.declared.space_lines.TheConstants.{LINE_BYTES as ROOM};
+ghost use Rattle.run_rounds.specs.Streams.{std_out};
+ghost use Rattle.hume_run.specs.declared.order.Order.TheVariants.{Check};
+ghost use Rattle.hume_run.specs.Owed.{owed_check};
 ghost use Rattle.hume_run.specs.inner.Bounds.{KeepsBounds};
-ghost use Rattle.hume_run.specs.inner.Reports.{IsReport};
+ghost use Rattle.hume_run.specs.inner.Ended.{EndsOwed, EndsText};
 
 use crate::refuse::end_unaccepted;
-use crate::report::{Report, one_place};
-use crate::settle::settle;
 use crate::status::Status;
+use crate::stub::write_table;
 use hume_front::accept;
 use hume_model::Core;
-use hume_ports::Port;
-use trace_print::writes::Writes;
+use hume_ports::{Failed, Port};
+use hume_text::Chunk;
+use port_acts::finish_act;
 use space_costs::Costs;
-use std::alloc::{AllocError, Global};
-use trace_print::table::gather_table;
+use std::alloc::Global;
+use trace_print::LINE_BYTES;
 
-/// Says whether a source of that text is accepted. The port of the report is given by its place.
+/// Says whether a source of that text is accepted, and what its boxes may take. `out` is the place of `std_out`.
 pub fn check_text(alloc: Global, ports: &mut [Box<dyn Port>], text: &[u8], out: usize) -> Status
     requires { IsPlaceOf std_out (names (map view ports.old)) out }
-    ensures { (place : ℕ) (source : List ℕ) → EndsEarly source (map view ports.old) (map view ports.new) result
-        ⊎ Answers (Check place) source text.now (map view ports.old) (map view ports.new) result }
+    ensures { (place : ℕ) (source : List ℕ) → EndsText (Check place) source text.now (map view ports.old) (map view ports.new) result }
 {
-    let accepted = match accept(alloc, text) {
-        Ok(accepted) => accepted,
-        Err(error) => return end_unaccepted(alloc, ports, out, error),
-    };
-    report_accepted(alloc, ports, &accepted.core, &accepted.costs, out)
+    match accept(alloc, text) {
+        Ok(accepted) => check_accepted(alloc, ports, &accepted.core, &accepted.costs, out),
+        Err(error) => end_unaccepted(alloc, ports, out, error),
+    }
 }
 
-fn report_accepted(
+// Memory is taken before the first byte is written.
+fn check_accepted(
     alloc: Global,
     ports: &mut [Box<dyn Port>],
     core: &Core,
@@ -42,28 +43,33 @@ fn report_accepted(
 ) -> Status
     requires bounds { KeepsBounds core.now costs.now }
     requires out { IsPlaceOf std_out (names (map view ports.old)) out }
-    ensures { (source : List ℕ) → Ends (owed_accepted source core.now) (map view ports.old) (map view ports.new) result }
+    ensures { EndsOwed (owed_check core.now) (map view ports.old) (map view ports.new) result }
 {
-    match accepted_report(alloc, core, costs, out) {
-        Ok(report) => settle(ports, &report),
-        Err(_) => Status::NoMemory,
+    let Ok(mut chunk) = Chunk::make(alloc, LINE_BYTES) else {
+        return Status::NoMemory;
+    };
+    match tell_table(core, costs, &mut chunk, ports, out) {
+        Ok(()) => Status::Done,
+        Err(Failed) => Status::Fault,
     }
 }
 
-fn accepted_report(
-    alloc: Global,
+// Writes the table, and finishes the port.
+fn tell_table(
     core: &Core,
     costs: &Costs,
+    chunk: &mut Chunk,
+    ports: &mut [Box<dyn Port>],
     out: usize,
-) -> Result<Report, AllocError>
+) -> Result<(), Failed>
     requires bounds { KeepsBounds core.now costs.now }
-    ensures { IfOk result (λ report. (names : List (List ℕ)) → IsPlaceOf std_out names out
-        → (source : List ℕ) → IsReport (owed_accepted source core.now) names report) }
+    requires room { room_of chunk.old ≡ ROOM }
+    requires out { IsPlaceOf std_out (names (map view ports.old)) out }
+    ensures { Ends never [] (owed_check core.now).acts [] (map view ports.old) (map view ports.new) result }
 {
-    Ok(Report {
-        status: Status::Done,
-        table: gather_table(alloc, core, costs, out)?,
-        writes: Writes::new(alloc),
-        finishes: one_place(alloc, out)?,
-    })
+    match write_table(core, costs, chunk, ports, out) {
+        Ok(()) => {}
+        Err(failed) => return Err(failed),
+    }
+    finish_act(ports, out)
 }

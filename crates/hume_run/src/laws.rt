@@ -1,17 +1,38 @@
 //! Laws of the definitions, as contracts of functions that do nothing.
-ghost use Rattle.std.specs.Prelude.{◌≡◌, ℕ, List, Some, slice_get};
+ghost use Rattle.std.specs.Prelude.{◌≡◌, ◌++◌, ◌∷◌, [], ℕ, Bool, List, None, Some, false, true, slice_get};
+ghost use Rattle.std.specs.Str.{bytes_eq};
+ghost use Rattle.hume_base.specs.declared.rule.Refusal.{Refusal};
 ghost use Rattle.hume_model.specs.declared.core_tree.BoxC.{BoxC};
+ghost use Rattle.hume_model.specs.declared.core_tree.Core.{Core};
 ghost use Rattle.hume_model.specs.declared.core_tree.NodeC.TheVariants.{Rules};
 ghost use Rattle.hume_net.specs.Lockstep.{lockstep};
 ghost use Rattle.hume_net.specs.Start.{start};
 ghost use Rattle.box_costs.specs.Costs.{IsAtMost};
 ghost use Rattle.box_costs.specs.Bounds.{box_bound};
 ghost use Rattle.net_costs.specs.Steps.{step_spent};
+ghost use Rattle.hume_ports.specs.Port.{PortView};
+ghost use Rattle.hume_ports.specs.Ports.{is_among};
+ghost use Rattle.hume_ports.specs.Delivery.{Delivered, names_in};
+ghost use Rattle.port_acts.specs.Acts.{finished, wanted, written};
+ghost use Rattle.port_acts.specs.Early.{after_reads};
+ghost use Rattle.port_acts.specs.Ends.{Fails, NoneRose, Owed};
 ghost use Rattle.hume_front.specs.declared.acceptance.Accepted.{Accepted};
 ghost use Rattle.hume_front.specs.Accepted.{IsAccepted};
 ghost use Rattle.run_rounds.specs.Inputs.{Inputs, AreInputs};
+ghost use Rattle.run_rounds.specs.Streams.{inputs, ports_of, std_out, streams};
+ghost use Rattle.hume_run.specs.stub.Writes.{writes};
 ghost use Rattle.hume_run.specs.declared.order.Order.{Order};
-ghost use Rattle.hume_run.specs.Owed.{Owed, IsOwed};
+ghost use Rattle.hume_run.specs.declared.status.Status.{Status};
+ghost use Rattle.hume_run.specs.Streams.{unfit_line};
+ghost use Rattle.hume_run.specs.Owed.{IsOwed, owed_refused, owed_check, owed_run, refused_line, run_finishes, table_writes};
+ghost use Rattle.hume_run.specs.Few.{call_few};
+ghost use Rattle.hume_run.specs.Headline.{source_reads};
+ghost use Rattle.hume_run.specs.Faults.{FailedInput, HasFault, ReadRose};
+
+use crate::stub::{
+    each_run_has_inputs, inputs_are_unique, inputs_have_types, runs_write_their_lines,
+    wants_stand_before_rounds,
+};
 
 /// Whatever comes to the run of an accepted source, each execute step of a box takes at most the heap, the stack and the work
 /// that the table of bounds has for it.
@@ -20,12 +41,72 @@ pub fn runs_keep_bounds()
         → (texts : List ℕ → List ℕ) (coming : Inputs) → AreInputs accepted.core texts coming
         → (k n : ℕ) (b : BoxC) → slice_get accepted.core.nodes n ≡ Some (Rules b)
         → IsAtMost (step_spent accepted.core (lockstep accepted.core (start accepted.core coming.good) k) n) (box_bound accepted.core b) }
-{}
+{
+    inputs_have_types();
+}
 
 /// What a call owes is one thing, whatever the words ask for, the source's text, the names of the ports and their texts.
 pub fn each_call_owes_one_thing()
     ensures some { (order : Order) (source text : List ℕ) (names : List (List ℕ)) (texts : List ℕ → List ℕ)
-        → (owed : Owed) × IsOwed order source text names texts owed }
-    ensures one { (order : Order) (source text : List ℕ) (names : List (List ℕ)) (texts : List ℕ → List ℕ) (first second : Owed)
+        → (owed : Owed Status) × IsOwed order source text names texts owed }
+    ensures one { (order : Order) (source text : List ℕ) (names : List (List ℕ)) (texts : List ℕ → List ℕ) (first second : Owed Status)
         → IsOwed order source text names texts first → IsOwed order source text names texts second → first ≡ second }
+{
+    each_run_has_inputs();
+    inputs_are_unique();
+}
+
+/// A refused call writes its one line, a check the table, and a run the table and then what its inputs give.
+pub fn calls_write_their_lines()
+    ensures refused { (refusal : Refusal) → written (owed_refused refusal).acts ≡ (std_out, refused_line refusal) ∷ [] }
+    ensures check { (core : Core) → written (owed_check core).acts ≡ table_writes core }
+    ensures run { (core : Core) (coming : Inputs) (traced : Bool) (steps : ℕ)
+        → written (owed_run traced steps core coming).acts ≡ table_writes core ++ writes core coming traced steps }
+{
+    runs_write_their_lines();
+}
+
+/// A run reads ports of input streams, writes to `std_out` and to ports of output streams, and finishes each of those.
+pub fn runs_touch_their_ports()
+    ensures reads { (core : Core) (coming : Inputs) (traced : Bool) (steps : ℕ) (name : List ℕ)
+        → is_among name (wanted (owed_run traced steps core coming).acts) ≡ true → is_among name (ports_of (inputs core)) ≡ true }
+    ensures writes { (core : Core) (coming : Inputs) (traced : Bool) (steps : ℕ) (name : List ℕ)
+        → is_among name (names_in (written (owed_run traced steps core coming).acts)) ≡ true → is_among name (run_finishes core) ≡ true }
+    ensures finishes { (core : Core) (coming : Inputs) (traced : Bool) (steps : ℕ) → finished (owed_run traced steps core coming).acts ≡ run_finishes core }
+{
+    runs_write_their_lines();
+    wants_stand_before_rounds();
+}
+
+/// A fault comes only where a count of one of the call's ports rose.
+pub fn faults_come_from_their_ports()
+    ensures { (source text : List ℕ) (owed : Owed Status) (old new : List PortView)
+        → Fails (call_few source text) [] (after_reads (source_reads source) owed).acts old new → HasFault source owed old new }
 {}
+
+/// A fault where only finish counts rose came when all was written. One where only the read count of the source's port rose came
+/// when nothing was written.
+pub fn faults_tell_what_was_written()
+    ensures finishes { (order : Order) (source text : List ℕ) (names : List (List ℕ)) (texts : List ℕ → List ℕ) (owed : Owed Status) (old new : List PortView)
+        → IsOwed order source text names texts owed → Fails (call_few source text) [] (after_reads (source_reads source) owed).acts old new
+        → NoneRose (λ port. port.read_faults) old new → NoneRose (λ port. port.write_faults) old new → Delivered old new (written owed.acts) }
+    ensures source { (order : Order) (source text : List ℕ) (names : List (List ℕ)) (texts : List ℕ → List ℕ) (owed : Owed Status) (old new : List PortView)
+        → IsOwed order source text names texts owed → Fails (call_few source text) [] (after_reads (source_reads source) owed).acts old new
+        → NoneRose (λ port. port.write_faults) old new → NoneRose (λ port. port.finish_faults) old new
+        → ((name : List ℕ) → bytes_eq name source ≡ false → ReadRose name old new → ⊥) → Delivered old new [] }
+{
+    runs_write_their_lines();
+    wants_stand_before_rounds();
+}
+
+/// A fault of a run where only read counts rose, and not that of the source's port, came before a round, when exactly the rounds
+/// before it were written, and some input stream had brought too few values for the round.
+pub fn failed_inputs_tell_their_round()
+    ensures { (source text : List ℕ) (accepted : Accepted) (names : List (List ℕ)) (traced : Bool) (steps : ℕ) (coming : Inputs) (old new : List PortView)
+        → IsAccepted text accepted → unfit_line names source [] (streams accepted.core) ≡ None
+        → Fails (call_few source text) [] (after_reads (source_reads source) (owed_run traced steps accepted.core coming)).acts old new
+        → NoneRose (λ port. port.write_faults) old new → NoneRose (λ port. port.finish_faults) old new → (ReadRose source old new → ⊥)
+        → FailedInput accepted.core coming traced steps old new }
+{
+    wants_stand_before_rounds();
+}

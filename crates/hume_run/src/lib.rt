@@ -3,30 +3,34 @@
 //! Main call: `hume`. Its contract is the promise of the tool: `Headline.antt` defines it, over what a call owes (`Owed.antt`).
 //! `docs/PROMISE.md` lists every definition that it rests on.
 //!
-//! Proved: `hume` keeps the promise, which `docs/PROOFS.md` explains clause by clause. Laws: for given words, names and texts
-//! a call owes one thing (`each_call_owes_one_thing`); whatever values come to the run of an accepted source, each execute step of
-//! a box takes at most the heap, stack and work that the table gives it (`runs_keep_bounds`).
+//! Proved: `hume` keeps the promise, which `docs/PROOFS.md` explains clause by clause. Memory can run out only before the first
+//! byte is written. Laws: for given words, names and texts a call owes one thing (`each_call_owes_one_thing`), whose writes are
+//! the lines that its definition lists (`calls_write_their_lines`) and whose ports are those of the program's streams and
+//! `std_out` (`runs_touch_their_ports`). A fault comes from one of those ports or the source's (`faults_come_from_their_ports`),
+//! and tells by the counts that rose how far the call had come (`faults_tell_what_was_written`,
+//! `failed_inputs_tell_their_round`). Each execute step of a box in a run of an accepted source takes at most the heap, stack and
+//! work that the table gives it (`runs_keep_bounds`).
 //!
 //! It knows ports, words and what is owed to them. It doesn't know files, command lines or exit statuses.
 #![tactic(auto)]
 
 mod check;
-mod finishes;
 mod laws;
 mod lines;
-mod numbers;
 mod order;
 mod refuse;
-mod report;
 mod run;
-mod settle;
 mod source;
 mod status;
-mod streams;
+mod stub;
 mod top;
 mod words;
 
-pub use laws::{each_call_owes_one_thing, runs_keep_bounds};
+pub use laws::{
+    calls_write_their_lines, each_call_owes_one_thing, failed_inputs_tell_their_round,
+    faults_come_from_their_ports, faults_tell_what_was_written, runs_keep_bounds,
+    runs_touch_their_ports,
+};
 pub use order::Order;
 pub use status::Status;
 pub use top::hume;

@@ -4,10 +4,18 @@ ghost use Rattle.hume_run.specs.inner.Places.{source_place};
 /// What the words of a call ask for.
 #[derive(Clone, Copy, Debug, PartialEq, Eq)]
 pub enum Order {
-    /// Run the source whose port is named by the word at that place for so many supersteps.
-    Run { steps: u32, source: u32 },
+    /// Run the source whose port is named by the word at the place `source` for `steps` supersteps, on `workers` workers.
+    Run {
+        steps: u32,
+        workers: u32,
+        source: u32,
+        /// Whether all wires are told after each superstep.
+        traced: bool,
+    },
     /// Say whether the source whose port is named by the word at that place is accepted.
-    Check { source: u32 },
+    Check {
+        source: u32,
+    },
 }
 
 impl Order {

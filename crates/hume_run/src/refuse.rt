@@ -1,24 +1,21 @@
-ghost use Rattle.std.specs.Prelude.{◌≡◌, ◌⊎◌, ℕ, List, map, IfOk};
+ghost use Rattle.std.specs.Prelude.{◌≡◌, ℕ, List, map};
 ghost use Rattle.hume_front.specs.Accepted.{IsUnaccepted};
 ghost use Rattle.hume_ports.specs.Ports.{names};
-ghost use Rattle.run_rounds.specs.Streams.{std_out};
-ghost use Rattle.hume_run.specs.Owed.{owed_refused};
-ghost use Rattle.hume_run.specs.declared.order.Order.{Order};
-ghost use Rattle.hume_run.specs.Headline.{Ends, EndsEarly, Answers};
 ghost use Rattle.port_acts.specs.Places.{IsPlaceOf};
-ghost use Rattle.hume_run.specs.inner.Reports.{IsReport};
+ghost use Rattle.run_rounds.specs.Streams.{std_out};
+ghost use Rattle.hume_run.specs.declared.order.Order.{Order};
+ghost use Rattle.hume_run.specs.Owed.{owed_refused};
+ghost use Rattle.hume_run.specs.inner.Ended.{EndsOwed, EndsText};
 
 use crate::lines::refused_line;
-use crate::report::{Report, one_place, one_write};
-use crate::settle::settle;
 use crate::status::Status;
 use hume_base::Refusal;
 use hume_front::FrontError;
-use hume_ports::Port;
-use trace_print::writes::Writes;
-use std::alloc::{AllocError, Global};
+use hume_ports::{Failed, Port};
+use port_acts::write_and_finish;
+use std::alloc::Global;
 
-/// Ends a call of a source that isn't accepted: a rule that it breaks is told, and want of memory ends it early.
+/// Ends a call of a source that isn't accepted: a rule that it breaks is told, unless memory ran out.
 pub fn end_unaccepted(
     alloc: Global,
     ports: &mut [Box<dyn Port>],
@@ -27,8 +24,7 @@ pub fn end_unaccepted(
 ) -> Status
     requires { IsPlaceOf std_out (names (map view ports.old)) out }
     ensures { (order : Order) (source text : List ℕ) → IsUnaccepted text error
-        → EndsEarly source (map view ports.old) (map view ports.new) result
-        ⊎ Answers order source text (map view ports.old) (map view ports.new) result }
+        → EndsText order source text (map view ports.old) (map view ports.new) result }
 {
     match error {
         FrontError::Refused(refusal) => refuse(alloc, ports, out, refusal),
@@ -39,23 +35,13 @@ pub fn end_unaccepted(
 /// Tells which rule the source breaks.
 pub fn refuse(alloc: Global, ports: &mut [Box<dyn Port>], out: usize, refusal: Refusal) -> Status
     requires { IsPlaceOf std_out (names (map view ports.old)) out }
-    ensures { (source : List ℕ) → Ends (owed_refused source refusal) (map view ports.old) (map view ports.new) result }
+    ensures { EndsOwed (owed_refused refusal) (map view ports.old) (map view ports.new) result }
 {
-    match refusal_report(alloc, out, refusal) {
-        Ok(report) => settle(ports, &report),
-        Err(_) => Status::NoMemory,
+    let Ok(line) = refused_line(alloc, refusal) else {
+        return Status::NoMemory;
+    };
+    match write_and_finish(ports, out, &line) {
+        Ok(()) => Status::Refused,
+        Err(Failed) => Status::Fault,
     }
-}
-
-fn refusal_report(alloc: Global, out: usize, refusal: Refusal) -> Result<Report, AllocError>
-    ensures { IfOk result (λ report. (names : List (List ℕ)) → IsPlaceOf std_out names out
-        → (source : List ℕ) → IsReport (owed_refused source refusal) names report) }
-{
-    let line = refused_line(alloc, refusal)?;
-    Ok(Report {
-        status: Status::Refused,
-        table: Writes::new(alloc),
-        writes: one_write(alloc, out, &line)?,
-        finishes: one_place(alloc, out)?,
-    })
 }

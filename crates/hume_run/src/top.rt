@@ -1,7 +1,11 @@
 ghost use Rattle.std.specs.Prelude.{◌≡◌, ◌↔◌, ◌⊎◌, map, string_bytes};
 ghost use Rattle.hume_ports.specs.Ports.{names};
-ghost use Rattle.hume_run.specs.Headline.{Headline, IsUsage, EndsEarly, Answers, AnswersFrom};
+ghost use Rattle.port_acts.specs.Early.{EndsEarly};
 ghost use Rattle.port_acts.specs.Places.{IsPlaceOf};
+ghost use Rattle.hume_run.specs.declared.status.Status.TheVariants.{Fault, NoMemory};
+ghost use Rattle.hume_run.specs.Few.{source_few};
+ghost use Rattle.hume_run.specs.Headline.{Headline, IsUsage, AnswersFrom, source_reads};
+ghost use Rattle.hume_run.specs.inner.Ended.{EndsText};
 ghost use Rattle.run_rounds.specs.Streams.{std_out};
 
 use crate::check::check_text;
@@ -32,6 +36,7 @@ pub fn hume(alloc: Global, words: &[String], ports: &mut [Box<dyn Port>]) -> Sta
     answer(alloc, ports, order, name, at, out)
 }
 
+// Reads the source from the port at the place `at`, and goes on by the words.
 fn answer(
     alloc: Global,
     ports: &mut [Box<dyn Port>],
@@ -42,7 +47,7 @@ fn answer(
 ) -> Status
     requires source { IsPlaceOf name.now (names (map view ports.old)) at }
     requires out { IsPlaceOf std_out (names (map view ports.old)) out }
-    ensures { EndsEarly name.now (map view ports.old) (map view ports.new) result
+    ensures { EndsEarly (source_few name.now) (source_reads name.now) NoMemory Fault (map view ports.old) (map view ports.new) result
         ⊎ AnswersFrom order name.now (map view ports.old) (map view ports.new) result }
 {
     match read_source(alloc, ports, at) {
@@ -61,11 +66,12 @@ fn answer_text(
     out: usize,
 ) -> Status
     requires { IsPlaceOf std_out (names (map view ports.old)) out }
-    ensures { EndsEarly source.now (map view ports.old) (map view ports.new) result
-        ⊎ Answers order source.now text.now (map view ports.old) (map view ports.new) result }
+    ensures { EndsText order source.now text.now (map view ports.old) (map view ports.new) result }
 {
     match order {
-        Order::Run { steps, .. } => run_text(alloc, ports, steps, source, text, out),
+        Order::Run { steps, traced, .. } => {
+            run_text(alloc, ports, steps, traced, source, text, out)
+        }
         Order::Check { .. } => check_text(alloc, ports, text, out),
     }
 }

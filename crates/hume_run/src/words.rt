@@ -1,51 +1,5 @@
-ghost use Rattle.std.specs.Prelude.{◌≡◌, ◌<◌, ◌≤◌, length, map, IfSome, Some, string_bytes};
-ghost use Rattle.hume_run.specs.Words.{order_of, number_of, run_of as asked_run, steps_of};
-ghost use Rattle.hume_run.specs.inner.Places.{source_place};
+// The words of a call.
+mod numbers;
+mod reading;
 
-use crate::numbers::{is_number, value};
-use crate::order::Order;
-use hume_base::limits::{MAX_SUPERSTEPS, MAX_WORKERS};
-
-/// The place of the source's name among the words of a run.
-const RUN_SOURCE: u32 = 3;
-
-/// The same among those of a check.
-const CHECK_SOURCE: u32 = 1;
-
-/// What the words of a call ask for, if they have a form.
-pub fn read_words(words: &[String]) -> Option<Order>
-    ensures order { result ≡ order_of (map string_bytes words.now) }
-    ensures steps { IfSome result (λ order. steps_of order ≤ MAX_SUPERSTEPS) }
-    ensures source { IfSome result (λ order. source_place order < length words.now) }
-{
-    match words {
-        [command, _] if command.as_str() == "check" => Some(Order::Check {
-            source: CHECK_SOURCE,
-        }),
-        [command, steps, workers, _, ..] if command.as_str() == "run" => {
-            run_of(number(steps)?, number(workers)?)
-        }
-        _ => None,
-    }
-}
-
-fn number(word: &str) -> Option<u32>
-    ensures { result ≡ number_of word.now }
-{
-    if is_number(word.as_bytes()) {
-        return Some(value(word.as_bytes()));
-    }
-    None
-}
-
-fn run_of(steps: u32, workers: u32) -> Option<Order>
-    ensures { result ≡ asked_run (Some steps) (Some workers) }
-{
-    if steps <= MAX_SUPERSTEPS && 1 <= workers && workers <= MAX_WORKERS {
-        return Some(Order::Run {
-            steps,
-            source: RUN_SOURCE,
-        });
-    }
-    None
-}
+pub use reading::read_words;

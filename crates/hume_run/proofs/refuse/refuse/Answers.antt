@@ -1,15 +1,9 @@
-use Rattle.std.proofs.Common.{[]}
-use Rattle.hume_ports.proofs.Progress.{Progress-start}
-use Rattle.hume_ports.proofs.Untouched.{Untouched-start}
-use Rattle.hume_run.specs.Owed.{owed_refused}
-use Rattle.hume_run.proofs.Ending.{ends_without_memory}
+use Rattle.std.proofs.Common.{◌∙◌}
+use Rattle.hume_run.proofs.Telling.{refusal_told, refusal_failed}
 use Rattle.hume_run.proofs.refuse.refuse.Goals as goal
 
-pub settle-requires : goal.settle-requires
-settle-requires g c = (owed_refused [] c.args.refusal, c.in-Ok.ensures _ c.requires [])
+pub returns-in-Ok-write_and_finish : goal.returns-in-Ok-write_and_finish
+returns-in-Ok-write_and_finish g c = refusal_told _ _ c.requires _ _ _ (c.deref.ensures.value ∙ c.in-Ok.ensures) c.in-Ok-write_and_finish.ensures.ends
 
-pub returns-in-Ok : goal.returns-in-Ok
-returns-in-Ok g c source = c.settle.ensures (owed_refused source c.args.refusal) (c.in-Ok.ensures _ c.requires source)
-
-pub returns-in-Err : goal.returns-in-Err
-returns-in-Err g c source = ends_without_memory (owed_refused source c.args.refusal) _ _ [] (Progress-start _) (Untouched-start _ _)
+pub returns : goal.returns
+returns g c = refusal_failed _ _ c.requires _ _ _ (c.deref.ensures.value ∙ c.in-Ok.ensures) c.in-Err.ensures.ends

@@ -1,16 +1,14 @@
 use Rattle.std.proofs.Common.{ap, ◌∙◌, Err}
-use Rattle.hume_run.proofs.Running.{answers_from, same_answers, source_unread, source_unstarted}
+use Rattle.hume_run.proofs.Answering.{answers_from, same_text, source_unread, source_unstarted}
 use Rattle.hume_run.proofs.top.answer.Goals as goal
 
 pub returns-in-Ok : goal.returns-in-Ok
-returns-in-Ok g c = answers_from _ _ _ _ _ _ _ _ c.requires.source c.in-Ok.ensures.taken c.in-Ok.ensures.text c.in-Ok.ensures.untouched
-    (same_answers _ _ _ _ _ _ _ _ c.as_bytes.ensures.value c.deref.ensures.value c.answer_text.ensures)
+returns-in-Ok g c = answers_from _ _ _ _ _ _ _ _ c.requires.source c.in-Ok.ensures.made c.in-Ok.ensures.text
+    (same_text _ _ _ _ _ _ _ _ c.as_bytes.ensures.value c.deref.ensures.value c.answer_text.ensures)
 
 pub returns-in-Err-Failed : goal.returns-in-Err-Failed
 returns-in-Err-Failed g c = source_unread _ _ _ _ _ c.requires.source
     (c.read_source.ensures.failed (c.in-Err-Failed.is ∙ ap Err c.in-Err-Failed.field-0-is))
-    (λ roomy. c.read_source.ensures.roomy roomy (c.in-Err-Failed.is ∙ ap Err c.in-Err-Failed.field-0-is))
-    c.in-Err-Failed.ensures.untouched
 
 pub returns-in-Err-NoMemory : goal.returns-in-Err-NoMemory
 returns-in-Err-NoMemory g c = source_unstarted _ _ _ _ (c.read_source.ensures.memory (c.in-Err-NoMemory.is ∙ ap Err c.in-Err-NoMemory.field-0-is))

@@ -1,0 +1,8 @@
+use Rattle.hume_run.proofs.Faulting.{check_written, run_written}
+use Rattle.hume_run.proofs.laws.calls_write_their_lines.Goals as goal
+
+pub returns-clause-check : goal.returns-clause-check
+returns-clause-check c = check_written
+
+pub returns-clause-run : goal.returns-clause-run
+returns-clause-run c = run_written c.runs_write_their_lines.ensures.writes
