@@ -21,7 +21,7 @@ use Rattle.hume_front.specs.Accepted.{IsAccepted, Breaks}
 use Rattle.hume_front.proofs.Sources.{one_accepted_core}
 use Rattle.run_rounds.specs.Inputs.{Inputs}
 use Rattle.run_rounds.specs.Streams.{streams}
-use Rattle.hume_run.specs.stub.RunActs.{run_acts, run_few, ReadsForRound}
+use Rattle.run_rounds.specs.RunActs.{run_acts, run_few, ReadsForRound}
 use Rattle.hume_run.specs.declared.status.Status.{Status}
 use Rattle.hume_run.specs.declared.status.Status.TheVariants.{Fault, NoMemory}
 use Rattle.hume_run.specs.declared.order.Order.{Order}

@@ -12,7 +12,7 @@ use Rattle.net_costs.proofs.StepBounds.{lockstep_within}
 use Rattle.hume_front.specs.declared.acceptance.Accepted.{Accepted}
 use Rattle.hume_front.specs.Accepted.{IsAccepted}
 use Rattle.run_rounds.specs.Inputs.{Inputs, AreInputs}
-use Rattle.run_rounds.specs.engine.Runnable.{IsRunnable}
+use Rattle.phase_workers.specs.Runnable.{IsRunnable}
 use Rattle.hume_net.specs.StateTyping.{ComingAreTyped}
 use Rattle.hume_model.specs.declared.core_tree.Core.{Core}
 use Rattle.hume_run.proofs.Runnable.{runnable}

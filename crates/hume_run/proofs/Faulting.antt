@@ -19,11 +19,11 @@ use Rattle.port_acts.proofs.Each.{all_written, finishes_write_nothing, writes_fi
 use Rattle.port_acts.proofs.Failing.{failure_since, read_tells, finish_tells}
 use Rattle.hume_front.specs.declared.acceptance.Accepted.{Accepted}
 use Rattle.hume_front.specs.Accepted.{IsAccepted}
-use Rattle.run_rounds.specs.engine.StreamTypes.{type_at}
+use Rattle.phase_workers.specs.StreamTypes.{type_at}
 use Rattle.run_rounds.specs.Inputs.{Inputs}
 use Rattle.run_rounds.specs.Streams.{std_out, streams}
-use Rattle.hume_run.specs.stub.Writes.{writes, rounds_writes}
-use Rattle.hume_run.specs.stub.RunActs.{run_acts, needed}
+use Rattle.run_rounds.specs.Writes.{writes, rounds_writes}
+use Rattle.run_rounds.specs.RunActs.{run_acts, needed}
 use Rattle.hume_run.specs.declared.order.Order.{Order}
 use Rattle.hume_run.specs.declared.order.Order.TheVariants.{Run, Check}
 use Rattle.hume_run.specs.declared.status.Status.{Status}

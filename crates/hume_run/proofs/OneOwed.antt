@@ -10,7 +10,7 @@ use Rattle.hume_front.proofs.Sources.{one_accepted_core}
 use Rattle.hume_front.proofs.SomeAnswer as front
 use Rattle.run_rounds.specs.Streams.{streams}
 use Rattle.run_rounds.specs.Inputs.{Inputs, AreInputs}
-use Rattle.run_rounds.specs.engine.Runnable.{IsRunnable}
+use Rattle.phase_workers.specs.Runnable.{IsRunnable}
 use Rattle.hume_run.specs.declared.order.Order.{Order}
 use Rattle.hume_run.specs.declared.order.Order.TheVariants.{Run, Check}
 use Rattle.hume_run.specs.Streams.{unfit_line}

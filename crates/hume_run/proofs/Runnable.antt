@@ -4,7 +4,7 @@ use Rattle.hume_net.specs.StatePlaces.{BoxesHandleAll}
 use Rattle.hume_front.specs.Accepted.{IsAccepted}
 use Rattle.hume_front.specs.declared.acceptance.Accepted.{Accepted}
 use Rattle.hume_front.proofs.Sources.{fine_check, formed, wired, within, handled}
-use Rattle.run_rounds.specs.engine.Runnable.{IsRunnable}
+use Rattle.phase_workers.specs.Runnable.{IsRunnable}
 use Rattle.hume_run.specs.inner.Bounds.{KeepsBounds}
 use Rattle.hume_front.proofs.printable_lemmas.NamedConstructors.{have_names}
 use Rattle.hume_front.proofs.printable_lemmas.Printable.{printable}

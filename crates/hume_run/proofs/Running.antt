@@ -10,9 +10,9 @@ use Rattle.port_acts.specs.Acts.{Act, write_each, finish_each}
 use Rattle.port_acts.specs.Ends.{Few, never, Made, Fails, Ends}
 use Rattle.port_acts.proofs.Failing.{Fails-on, Fails-stop, Fails-any, Ends-on, Ends-any}
 use Rattle.run_rounds.specs.Inputs.{Inputs, AreInputs}
-use Rattle.hume_run.specs.stub.RunActs.{run_acts, run_few}
-use Rattle.hume_run.specs.stub.Writes.{span_of, blocked_round}
-use Rattle.hume_run.specs.stub.Runs.{Comes, RunsTo, FailsToRun}
+use Rattle.run_rounds.specs.RunActs.{run_acts, run_few}
+use Rattle.run_rounds.specs.Writes.{span_of, blocked_round}
+use Rattle.run_rounds.specs.Runs.{Comes, RunsTo, FailsToRun}
 use Rattle.hume_run.specs.declared.status.Status.{Status}
 use Rattle.hume_run.specs.declared.status.Status.TheVariants.{Done, BadValue, Fault}
 use Rattle.hume_run.specs.Owed.{owed_run, table_writes, run_finishes, run_status}

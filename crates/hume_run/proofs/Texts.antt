@@ -11,7 +11,7 @@ use Rattle.hume_ports.proofs.Progress.{Drawn-first}
 use Rattle.port_acts.specs.Acts.{Act}
 use Rattle.port_acts.specs.Ends.{Made}
 use Rattle.run_rounds.specs.Inputs.{Inputs, AreInputs}
-use Rattle.hume_run.specs.stub.Runs.{Comes}
+use Rattle.run_rounds.specs.Runs.{Comes}
 use Rattle.hume_run.specs.Headline.{IsText}
 
 -- what each port tells, or else nothing

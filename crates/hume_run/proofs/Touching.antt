@@ -21,15 +21,15 @@ use Rattle.hume_net.specs.rounds.Rounds.{begins, ends, rounds_of}
 use Rattle.hume_net.specs.rounds.Streams.{gained}
 use Rattle.net_costs.specs.Steps.{peaks}
 use Rattle.trace_print.specs.table.Table.{space_table}
-use Rattle.hume_run.specs.stub.TraceLinesStub.{peak_lines}
+use Rattle.trace_print.specs.TraceLines.{peak_lines}
 use Rattle.hume_streams.specs.Logs.{line_of}
 use Rattle.port_acts.specs.Acts.{Act, wants, writes as write_to, finishes, wanted, wanted_by, written, finished, finished_by, write_each, finish_each}
 use Rattle.port_acts.proofs.Each.{writes_finish_nothing}
-use Rattle.run_rounds.specs.engine.StreamTypes.{type_at}
+use Rattle.phase_workers.specs.StreamTypes.{type_at}
 use Rattle.run_rounds.specs.Streams.{std_out, input_of, inputs, output_of, outputs, ports_of}
 use Rattle.run_rounds.specs.Inputs.{Inputs}
-use Rattle.hume_run.specs.stub.Writes.{writes_of_node, writes_of_nodes, superstep_lines, trace_writes, gained_writes, round_writes, rounds_writes, peak_writes, bad_value_writes, writes_until, writes, blocked_round, span_of, blocked_by, told}
-use Rattle.hume_run.specs.stub.RunActs.{run_acts}
+use Rattle.run_rounds.specs.Writes.{writes_of_node, writes_of_nodes, superstep_lines, trace_writes, gained_writes, round_writes, rounds_writes, peak_writes, bad_value_writes, writes_until, writes, blocked_round, span_of, blocked_by, told}
+use Rattle.run_rounds.specs.RunActs.{run_acts}
 use Rattle.hume_run.specs.Owed.{owed_run, table_writes, run_finishes}
 use Rattle.hume_run.proofs.Wanting.{want_of_run}
 use Rattle.hume_run.proofs.Answering.{WantsTell}

@@ -13,10 +13,10 @@ use Rattle.hume_ports.specs.Delivery.{Pairs, Delivered, Drawn, bytes_for, names_
 use Rattle.port_acts.specs.Acts.{wanted, written, finished}
 use Rattle.port_acts.specs.Ends.{Owed}
 use Rattle.hume_run.specs.declared.status.Status.{Status}
-use Rattle.run_rounds.specs.engine.StreamTypes.{type_at}
+use Rattle.phase_workers.specs.StreamTypes.{type_at}
 use Rattle.run_rounds.specs.Inputs.{Inputs}
-use Rattle.hume_run.specs.stub.Writes.{span_of, rounds_writes}
-use Rattle.hume_run.specs.stub.RunActs.{needed}
+use Rattle.run_rounds.specs.Writes.{span_of, rounds_writes}
+use Rattle.run_rounds.specs.RunActs.{needed}
 use Rattle.hume_run.specs.Owed.{table_writes}
 
 -- That count of the name's port has risen.

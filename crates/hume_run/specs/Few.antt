@@ -4,7 +4,7 @@ use Rattle.std.specs.Str.{bytes_eq}
 use Rattle.port_acts.specs.Ends.{Few}
 use Rattle.hume_front.specs.declared.acceptance.Accepted.{Accepted}
 use Rattle.hume_front.specs.Accepted.{IsAccepted}
-use Rattle.hume_run.specs.stub.RunActs.{run_few}
+use Rattle.run_rounds.specs.RunActs.{run_few}
 
 -- Of the source the values are bytes.
 abbrev pub source_few : List ℕ → Few

@@ -1,7 +1,6 @@
 pub mod Statuses
 pub mod Words
 pub mod Streams
-pub mod stub
 pub mod Owed
 pub mod Few
 pub mod Headline

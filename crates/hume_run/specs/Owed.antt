@@ -12,8 +12,8 @@ use Rattle.hume_front.specs.declared.acceptance.Accepted.{Accepted}
 use Rattle.hume_front.specs.Accepted.{IsAccepted, Breaks}
 use Rattle.run_rounds.specs.Streams.{std_out, streams, outputs, ports_of}
 use Rattle.run_rounds.specs.Inputs.{Inputs, AreInputs}
-use Rattle.hume_run.specs.stub.Writes.{span_of, blocked_round}
-use Rattle.hume_run.specs.stub.RunActs.{run_acts}
+use Rattle.run_rounds.specs.Writes.{span_of, blocked_round}
+use Rattle.run_rounds.specs.RunActs.{run_acts}
 use Rattle.trace_print.specs.table.Table.{space_table}
 use Rattle.hume_run.specs.declared.status.Status.{Status}
 use Rattle.hume_run.specs.declared.status.Status.TheVariants.{Done, Refused, BadValue}

@@ -12,7 +12,6 @@ ghost use Rattle.hume_run.specs.inner.Ended.{EndsOwed, EndsText};
 
 use crate::refuse::end_unaccepted;
 use crate::status::Status;
-use crate::stub::write_table;
 use hume_front::accept;
 use hume_model::Core;
 use hume_ports::{Failed, Port};
@@ -21,6 +20,7 @@ use port_acts::finish_act;
 use space_costs::Costs;
 use std::alloc::Global;
 use trace_print::LINE_BYTES;
+use trace_print::table::write_table;
 
 /// Says whether a source of that text is accepted, and what its boxes may take. `out` is the place of `std_out`.
 pub fn check_text(alloc: Global, ports: &mut [Box<dyn Port>], text: &[u8], out: usize) -> Status

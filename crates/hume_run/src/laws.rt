@@ -20,7 +20,7 @@ ghost use Rattle.hume_front.specs.declared.acceptance.Accepted.{Accepted};
 ghost use Rattle.hume_front.specs.Accepted.{IsAccepted};
 ghost use Rattle.run_rounds.specs.Inputs.{Inputs, AreInputs};
 ghost use Rattle.run_rounds.specs.Streams.{inputs, ports_of, std_out, streams};
-ghost use Rattle.hume_run.specs.stub.Writes.{writes};
+ghost use Rattle.run_rounds.specs.Writes.{writes};
 ghost use Rattle.hume_run.specs.declared.order.Order.{Order};
 ghost use Rattle.hume_run.specs.declared.status.Status.{Status};
 ghost use Rattle.hume_run.specs.Streams.{unfit_line};
@@ -29,7 +29,7 @@ ghost use Rattle.hume_run.specs.Few.{call_few};
 ghost use Rattle.hume_run.specs.Headline.{source_reads};
 ghost use Rattle.hume_run.specs.Faults.{FailedInput, HasFault, ReadRose};
 
-use crate::stub::{
+use run_rounds::{
     each_run_has_inputs, inputs_are_unique, inputs_have_types, runs_write_their_lines,
     wants_stand_before_rounds,
 };

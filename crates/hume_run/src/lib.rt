@@ -22,7 +22,6 @@ mod refuse;
 mod run;
 mod source;
 mod status;
-mod stub;
 mod top;
 mod words;
 

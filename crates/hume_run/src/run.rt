@@ -18,10 +18,10 @@ use crate::run::making::run_opened;
 use crate::run::opening::open;
 use crate::run::streams::{PlacesError, find_places};
 use crate::status::Status;
-use crate::stub::wants_stand_before_rounds;
 use hume_base::{Refusal, Rule};
 use hume_front::{Accepted, accept};
 use hume_ports::Port;
+use run_rounds::wants_stand_before_rounds;
 use std::alloc::Global;
 
 /// Runs a source of that text for `steps` supersteps. `out` is the place of `std_out`, and `source` the name of the source's port.

@@ -26,9 +26,9 @@ use Rattle.port_acts.specs.Ends.{Ends, Fails, Made, never}
 use Rattle.port_acts.specs.Places.{IsPlaceOf}
 use Rattle.port_acts.proofs.Failing.{Fails-on, Fails-stop}
 use Rattle.port_acts.proofs.Making.{Made-on, Made-start}
-use Rattle.run_rounds.specs.declared.engine.engine.Engine.{Engine}
-use Rattle.run_rounds.specs.engine.Engines.{core_of, queue_at, span_of, state_of, ArePeaksKept}
-use Rattle.run_rounds.specs.engine.StreamTypes.{type_at}
+use Rattle.phase_workers.specs.Engines.{EngineView as Engine}
+use Rattle.phase_workers.specs.Engines.{core_of, queue_at, span_of, state_of, ArePeaksKept}
+use Rattle.phase_workers.specs.StreamTypes.{type_at}
 use Rattle.run_rounds.specs.Streams.{ArePlacesOf}
 use Rattle.run_rounds.specs.Writes.{writes_of_node, writes_of_nodes}
 use Rattle.run_rounds.specs.inner.Clearing.{Clears, ClearsNode}
@@ -180,7 +180,7 @@ draining_none ports engine chunk parts = record {
   is_core = refl;
   is_span = refl;
   queues = λ n. refl;
-  peaks = λ n. (refl, refl);
+  peaks = record { heap = λ n. refl; stack = λ n. refl };
   same_names = refl;
   room = refl;
   most = omega arith;
@@ -231,7 +231,7 @@ module _ (before mids news : List PortView) (first engine new : Engine) (old mid
     is_core = same_core ∙ it.is_core;
     is_span = same_span ∙ it.is_span;
     queues = λ n. queues n ∙ it.queues n;
-    peaks = λ n. ((peaks n).0 ∙ (it.peaks n).0, (peaks n).1 ∙ (it.peaks n).1);
+    peaks = record { heap = λ n. peaks.heap n ∙ it.peaks.heap n; stack = λ n. peaks.stack n ∙ it.peaks.stack n };
     same_names = same ∙ it.same_names;
     room = room ∙ it.room;
     most = omega (arith, within);

@@ -15,7 +15,7 @@ use Rattle.hume_ports.specs.Delivery.{Pairs, bytes_for}
 use Rattle.hume_text.specs.Names.{HaveNames}
 use Rattle.hume_streams.specs.Queues.{QueueView}
 use Rattle.hume_streams.proofs.GoodOnce.{queue_front}
-use Rattle.run_rounds.specs.engine.StreamTypes.{type_at}
+use Rattle.phase_workers.specs.StreamTypes.{type_at}
 use Rattle.hume_net.specs.rounds.Pieces.{listed}
 use Rattle.run_rounds.specs.Inputs.{Inputs}
 use Rattle.run_rounds.specs.inner.Reading.{HasRead, MayCome, later_of}

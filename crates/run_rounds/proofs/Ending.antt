@@ -26,7 +26,7 @@ use Rattle.hume_text.specs.Names.{HaveNames}
 use Rattle.hume_streams.specs.Good.{IsGoodUntil}
 use Rattle.hume_streams.specs.Queues.{QueueView}
 use Rattle.hume_streams.proofs.GoodAlways.{good_always}
-use Rattle.run_rounds.specs.engine.StreamTypes.{type_at}
+use Rattle.phase_workers.specs.StreamTypes.{type_at}
 use Rattle.hume_net.specs.rounds.Pieces.{listed}
 use Rattle.run_rounds.specs.Inputs.{Inputs, AreInputs, ComesTo}
 use Rattle.run_rounds.specs.inner.Reading.{MayCome}

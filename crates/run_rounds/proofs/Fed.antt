@@ -18,7 +18,7 @@ use Rattle.hume_ports.proofs.Names.{bytes_for-append, bytes_for-one, same_name}
 use Rattle.hume_text.specs.Names.{HaveNames}
 use Rattle.hume_streams.specs.Good.{IsGoodUntil}
 use Rattle.hume_streams.specs.Queues.{QueueView, IsQueueOf}
-use Rattle.run_rounds.specs.engine.StreamTypes.{type_at}
+use Rattle.phase_workers.specs.StreamTypes.{type_at}
 use Rattle.hume_net.specs.rounds.Pieces.{IsPieceOf, listed, only}
 use Rattle.hume_net.proofs.rounds_lemmas.OneNode.{fed_one}
 use Rattle.run_rounds.specs.Streams.{ArePortsApart}

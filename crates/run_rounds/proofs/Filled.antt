@@ -19,7 +19,7 @@ use Rattle.hume_text.specs.Names.{HaveNames}
 use Rattle.hume_streams.specs.Good.{IsGoodUntil}
 use Rattle.hume_streams.specs.Queues.{QueueView, IsQueueOf}
 use Rattle.hume_streams.proofs.GoodOnce.{good_once}
-use Rattle.run_rounds.specs.engine.StreamTypes.{type_at}
+use Rattle.phase_workers.specs.StreamTypes.{type_at}
 use Rattle.hume_net.specs.rounds.Blocked.{blocks}
 use Rattle.hume_net.specs.rounds.Streams.{asserted_between}
 use Rattle.hume_net.specs.rounds.Pieces.{IsFilled, IsPieceOf, listed}

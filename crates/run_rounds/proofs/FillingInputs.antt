@@ -17,11 +17,11 @@ use Rattle.hume_streams.specs.declared.queue.FillError.{FillError}
 use Rattle.hume_streams.specs.declared.queue.FillError.TheVariants.{BadValue}
 use Rattle.hume_streams.specs.Good.{IsGoodUntil}
 use Rattle.hume_streams.specs.Queues.{IsQueueOf}
-use Rattle.run_rounds.specs.declared.engine.engine.Engine.{Engine}
-use Rattle.run_rounds.specs.engine.Engines.{core_of, coming_at, queue_at, state_of, span_of as room_of, ArePeaksKept}
-use Rattle.run_rounds.specs.engine.NodeFills.{FillsNode, HasEnough, HasReadAll}
-use Rattle.run_rounds.specs.engine.Runnable.{IsRunnable}
-use Rattle.run_rounds.specs.engine.StreamTypes.{type_at}
+use Rattle.phase_workers.specs.Engines.{EngineView as Engine}
+use Rattle.phase_workers.specs.Engines.{core_of, coming_at, queue_at, state_of, span_of as room_of, ArePeaksKept}
+use Rattle.phase_workers.specs.NodeFills.{FillsNode, HasEnough, HasReadAll}
+use Rattle.phase_workers.specs.Runnable.{IsRunnable}
+use Rattle.phase_workers.specs.StreamTypes.{type_at}
 use Rattle.run_rounds.specs.RunActs.{round_wants, rounds_acts, wants_of_node}
 use Rattle.run_rounds.specs.Streams.{ArePlacesOf, ArePortsApart}
 use Rattle.run_rounds.specs.Writes.{span_of}

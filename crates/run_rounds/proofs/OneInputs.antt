@@ -8,7 +8,7 @@ use Rattle.hume_model.specs.declared.core_tree.NodeC.TheVariants.{Rules, From, T
 use Rattle.hume_model.specs.declared.core_tree.Core.{Core}
 use Rattle.hume_text.specs.Names.{HaveNames}
 use Rattle.hume_streams.proofs.GoodOnce.{good_once}
-use Rattle.run_rounds.specs.engine.StreamTypes.{type_at}
+use Rattle.phase_workers.specs.StreamTypes.{type_at}
 use Rattle.hume_net.specs.rounds.Pieces.{listed}
 use Rattle.run_rounds.specs.Inputs.{Inputs, AreInputs, ComesTo}
 

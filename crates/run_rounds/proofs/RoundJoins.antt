@@ -10,9 +10,9 @@ use Rattle.hume_ports.specs.declared.port.Failed.{Failed}
 use Rattle.hume_ports.specs.Port.{PortView}
 use Rattle.port_acts.specs.Acts.{write_each}
 use Rattle.port_acts.specs.Ends.{Ends, never}
-use Rattle.run_rounds.specs.declared.engine.engine.Engine.{Engine}
-use Rattle.run_rounds.specs.engine.Engines.{core_of, queue_at, span_of as room_of, state_of}
-use Rattle.run_rounds.specs.engine.Runnable.{IsRunnable}
+use Rattle.phase_workers.specs.Engines.{EngineView as Engine}
+use Rattle.phase_workers.specs.Engines.{core_of, queue_at, span_of as room_of, state_of}
+use Rattle.phase_workers.specs.Runnable.{IsRunnable}
 use Rattle.run_rounds.specs.Runs.{FailsToRun}
 use Rattle.run_rounds.specs.Writes.{span_of}
 use Rattle.run_rounds.specs.inner.Clearing.{Clears}

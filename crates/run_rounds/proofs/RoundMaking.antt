@@ -19,9 +19,9 @@ use Rattle.port_acts.specs.Acts.{Act, write_each}
 use Rattle.port_acts.specs.Ends.{Ends, Fails, Made, never}
 use Rattle.port_acts.proofs.Failing.{Ends-on, Fails-stop}
 use Rattle.run_rounds.specs.declared.bad_line.BadLine.{BadLine}
-use Rattle.run_rounds.specs.declared.engine.engine.Engine.{Engine}
-use Rattle.run_rounds.specs.engine.Engines.{core_of, heap_peak_at, stack_peak_at, state_of, ArePeaksKept}
-use Rattle.run_rounds.specs.TraceLinesStub.{step_line}
+use Rattle.phase_workers.specs.Engines.{EngineView as Engine}
+use Rattle.phase_workers.specs.Engines.{core_of, heap_peak_at, stack_peak_at, state_of, ArePeaksKept}
+use Rattle.trace_print.specs.TraceLines.{step_line}
 use Rattle.run_rounds.specs.Writes.{span_of, told, writes_of_nodes}
 use Rattle.run_rounds.specs.inner.Clearing.{Clears}
 use Rattle.run_rounds.specs.inner.Rounding.{PeaksGrow, told_now, wires_now}
@@ -103,7 +103,7 @@ module _ (first rounded : Engine) (steps : ℕ) (same_core : core_of rounded ≡
   pub peaks_over : (drained : Engine) → ((n : ℕ) → heap_peak_at rounded n ≡ max (heap_peak_at first n) (peaks core (state_of first) steps n).heap)
       → ((n : ℕ) → stack_peak_at rounded n ≡ max (stack_peak_at first n) (peaks core (state_of first) steps n).stack) → ArePeaksKept rounded drained
       → PeaksGrow first steps drained
-  peaks_over drained heap stack kept = record { heap = λ n. (kept n).0 ∙ heap n; stack = λ n. (kept n).1 ∙ stack n }
+  peaks_over drained heap stack kept = record { heap = λ n. kept.heap n ∙ heap n; stack = λ n. kept.stack n ∙ stack n }
 
 -- rounds
 

@@ -27,13 +27,13 @@ use Rattle.port_acts.proofs.Failing.{Fails-any, Fails-on, Fails-stop}
 use Rattle.port_acts.proofs.Making.{Made-on}
 use Rattle.box_costs.specs.declared.cost.Cost.{Cost}
 use Rattle.net_costs.specs.Steps.{peaks}
-use Rattle.run_rounds.specs.declared.engine.engine.Engine.{Engine}
-use Rattle.run_rounds.specs.engine.Engines.{core_of, queue_at, state_of, span_of as room_of, heap_peak_at, stack_peak_at}
-use Rattle.run_rounds.specs.engine.Runnable.{IsRunnable}
+use Rattle.phase_workers.specs.Engines.{EngineView as Engine}
+use Rattle.phase_workers.specs.Engines.{core_of, queue_at, state_of, span_of as room_of, heap_peak_at, stack_peak_at}
+use Rattle.phase_workers.specs.Runnable.{IsRunnable}
 use Rattle.run_rounds.specs.Inputs.{Inputs, is_bad}
 use Rattle.run_rounds.specs.RunActs.{reading, rounds_acts, run_acts, run_few}
 use Rattle.run_rounds.specs.Runs.{FailsToRun}
-use Rattle.run_rounds.specs.TraceLinesStub.{line_there, step_line, wire_lines}
+use Rattle.trace_print.specs.TraceLines.{line_there, step_line, wire_lines}
 use Rattle.run_rounds.specs.Writes.{gained_writes, round_writes, span_of, told, trace_writes, writes_of_node, writes_of_nodes}
 use Rattle.run_rounds.specs.inner.Beginning.{MayBegin}
 use Rattle.run_rounds.specs.inner.Clearing.{Clears}

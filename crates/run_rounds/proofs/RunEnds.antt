@@ -31,15 +31,15 @@ use Rattle.port_acts.specs.Ends.{Ends, Fails, Made, never}
 use Rattle.port_acts.proofs.Failing.{Fails-any, Fails-on}
 use Rattle.port_acts.proofs.Making.{Made-on}
 use Rattle.run_rounds.specs.declared.bad_line.BadLine.{BadLine}
-use Rattle.run_rounds.specs.declared.engine.engine.Engine.{Engine}
-use Rattle.run_rounds.specs.engine.Engines.{coming_at, queue_at, state_of}
-use Rattle.run_rounds.specs.engine.Runnable.{IsRunnable}
-use Rattle.run_rounds.specs.engine.StreamTypes.{type_at}
+use Rattle.phase_workers.specs.Engines.{EngineView as Engine}
+use Rattle.phase_workers.specs.Engines.{coming_at, queue_at, state_of}
+use Rattle.phase_workers.specs.Runnable.{IsRunnable}
+use Rattle.phase_workers.specs.StreamTypes.{type_at}
 use Rattle.run_rounds.specs.Inputs.{Inputs, is_bad}
 use Rattle.run_rounds.specs.RunActs.{acts_until, blocked_acts, round_wants, rounds_acts, run_acts, run_few}
 use Rattle.run_rounds.specs.Runs.{Comes, FailsToRun, RunsTo}
 use Rattle.run_rounds.specs.Streams.{std_out}
-use Rattle.run_rounds.specs.TraceLinesStub.{peak_line, peak_lines, peak_there}
+use Rattle.trace_print.specs.TraceLines.{peak_line, peak_lines, peak_there}
 use Rattle.run_rounds.specs.Writes.{bad_value_line, blocked_by, blocked_round, name_of, peak_writes, span_of, told}
 use Rattle.run_rounds.specs.inner.Reading.{MayCome, later_of}
 use Rattle.run_rounds.specs.inner.Steps.{EndsRounds, HaltsBefore, LacksAt, Stands, StandsAfter, StandsBlocked, filling_acts}

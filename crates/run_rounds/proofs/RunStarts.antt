@@ -19,8 +19,8 @@ use Rattle.net_costs.specs.Steps.{peaks}
 use Rattle.net_costs.proofs.Peaks.{no_peak}
 use Rattle.box_costs.specs.declared.cost.Cost.{Cost}
 use Rattle.port_acts.proofs.Making.{Made-start}
-use Rattle.run_rounds.specs.declared.engine.engine.Engine.{Engine}
-use Rattle.run_rounds.specs.engine.Engines.{queue_at, state_of}
+use Rattle.phase_workers.specs.Engines.{EngineView as Engine}
+use Rattle.phase_workers.specs.Engines.{queue_at, state_of}
 use Rattle.run_rounds.specs.Inputs.{Inputs}
 use Rattle.run_rounds.specs.Opened.{IsFresh}
 use Rattle.run_rounds.specs.Writes.{span_of}

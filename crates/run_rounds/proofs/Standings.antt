@@ -18,10 +18,10 @@ use Rattle.hume_net.proofs.rounds_lemmas.RoundCounts.{begins_made}
 use Rattle.hume_ports.specs.Port.{PortView}
 use Rattle.hume_text.specs.Bounds.{IsPrintable}
 use Rattle.port_acts.specs.Acts.{Act}
-use Rattle.run_rounds.specs.declared.engine.engine.Engine.{Engine}
-use Rattle.run_rounds.specs.engine.Engines.{coming_at, queue_at, state_of}
-use Rattle.run_rounds.specs.engine.Runnable.{IsRunnable}
-use Rattle.run_rounds.specs.engine.StreamTypes.{type_at}
+use Rattle.phase_workers.specs.Engines.{EngineView as Engine}
+use Rattle.phase_workers.specs.Engines.{coming_at, queue_at, state_of}
+use Rattle.phase_workers.specs.Runnable.{IsRunnable}
+use Rattle.phase_workers.specs.StreamTypes.{type_at}
 use Rattle.run_rounds.specs.Inputs.{Inputs, AreInputs, is_bad}
 use Rattle.run_rounds.specs.RunActs.{needed}
 use Rattle.run_rounds.specs.Runs.{Comes}

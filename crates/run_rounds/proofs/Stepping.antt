@@ -18,7 +18,7 @@ use Rattle.hume_ports.proofs.Progress.{Drawn-first}
 use Rattle.hume_text.specs.Names.{HaveNames}
 use Rattle.hume_streams.specs.Good.{IsGoodUntil}
 use Rattle.hume_streams.specs.Queues.{QueueView, IsQueueOf}
-use Rattle.run_rounds.specs.engine.StreamTypes.{type_at}
+use Rattle.phase_workers.specs.StreamTypes.{type_at}
 use Rattle.run_rounds.specs.Streams.{ArePortsApart}
 use Rattle.run_rounds.specs.Inputs.{Inputs}
 use Rattle.run_rounds.specs.inner.Reading.{HasRead, MayCome}

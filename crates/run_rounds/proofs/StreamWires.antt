@@ -12,8 +12,8 @@ use Rattle.hume_model.specs.declared.core_tree.Core.{Core}
 use Rattle.hume_model.specs.Wiring.{inputs_of, outputs_of, leads_to, comes_from}
 use Rattle.hume_net.specs.Nodes.{IsInput, IsOutput, IsInputStream, IsOutputStream}
 use Rattle.hume_text.specs.Bounds.{IsPrintable}
-use Rattle.run_rounds.specs.engine.Runnable.{IsRunnable}
-use Rattle.run_rounds.specs.engine.StreamTypes.{joins, type_at, type_of_found}
+use Rattle.phase_workers.specs.Runnable.{IsRunnable}
+use Rattle.phase_workers.specs.StreamTypes.{joins, type_at, type_of_found}
 
 -- the first that passes is there and passes
 pub record Found {X : Type 0} (test : X → Bool) (xs : List X) : Type 0 where

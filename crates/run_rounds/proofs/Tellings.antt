@@ -16,7 +16,7 @@ use Rattle.port_acts.specs.Places.{IsPlaceOf}
 use Rattle.port_acts.proofs.Failing.{Ends-on, Fails-on, Fails-stop}
 use Rattle.port_acts.proofs.Making.{Made-on, Made-start}
 use Rattle.run_rounds.specs.Streams.{std_out}
-use Rattle.run_rounds.specs.TraceLinesStub.{line_there, wire_line}
+use Rattle.trace_print.specs.TraceLines.{line_there, wire_line}
 use Rattle.run_rounds.specs.Writes.{told}
 use Rattle.run_rounds.proofs.Clearings.{each_append}
 use Rattle.run_rounds.proofs.Ranges.{flat_more, flat_within}

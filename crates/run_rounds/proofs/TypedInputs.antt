@@ -6,8 +6,8 @@ use Rattle.hume_model.specs.declared.core_tree.NodeC.TheVariants.{From}
 use Rattle.hume_model.specs.declared.core_tree.Core.{Core}
 use Rattle.hume_net.specs.Nodes.{IsInput}
 use Rattle.hume_net.specs.StateTyping.{ComingAreTyped}
-use Rattle.run_rounds.specs.engine.Runnable.{IsRunnable}
-use Rattle.run_rounds.specs.engine.StreamTypes.{type_at}
+use Rattle.phase_workers.specs.Runnable.{IsRunnable}
+use Rattle.phase_workers.specs.StreamTypes.{type_at}
 use Rattle.run_rounds.proofs.StreamWires.{input_type}
 use Rattle.hume_net.specs.rounds.Pieces.{listed}
 use Rattle.run_rounds.specs.Inputs.{AreInputs, Inputs}

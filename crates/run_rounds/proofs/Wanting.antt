@@ -29,11 +29,11 @@ use Rattle.hume_streams.specs.Good.{IsGoodUntil}
 use Rattle.hume_streams.specs.Queues.{IsQueueOf}
 use Rattle.hume_streams.proofs.GoodOnce.{good_once}
 use Rattle.hume_streams.proofs.WholeLines.{taken_given}
-use Rattle.run_rounds.specs.declared.engine.engine.Engine.{Engine}
-use Rattle.run_rounds.specs.engine.Engines.{core_of, coming_at, queue_at, state_of, span_of as room_of, ArePeaksKept}
-use Rattle.run_rounds.specs.engine.NodeFills.{FillsNode, fed_at}
-use Rattle.run_rounds.specs.engine.Runnable.{IsRunnable}
-use Rattle.run_rounds.specs.engine.StreamTypes.{type_at}
+use Rattle.phase_workers.specs.Engines.{EngineView as Engine}
+use Rattle.phase_workers.specs.Engines.{core_of, coming_at, queue_at, state_of, span_of as room_of, ArePeaksKept}
+use Rattle.phase_workers.specs.NodeFills.{FillsNode, fed_at}
+use Rattle.phase_workers.specs.Runnable.{IsRunnable}
+use Rattle.phase_workers.specs.StreamTypes.{type_at}
 use Rattle.run_rounds.specs.Inputs.{Inputs}
 use Rattle.run_rounds.specs.RunActs.{needed, round_wants, rounds_acts, run_acts, run_few, wants_of_node}
 use Rattle.run_rounds.specs.Runs.{FailsToRun}
@@ -134,7 +134,7 @@ module _ (traced : Bool) (steps done want : ℕ) (olds mids news : List PortView
         → IsPeak core others.good (after_rounds (span_of traced) steps done) new m
     peak_now others can m node there =
         let was = stands.peaks others (earlier_may others can) m node there in
-        record { heap = (kept m).0 ∙ was.heap; stack = (kept m).1 ∙ was.stack }
+        record { heap = kept.heap m ∙ was.heap; stack = kept.stack m ∙ was.stack }
 
     pub stands_wanted : Stands core traced steps done (filling_acts core traced steps done (n + 1)) olds news new
     stands_wanted = record {

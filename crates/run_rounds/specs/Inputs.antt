@@ -6,7 +6,7 @@ use Rattle.hume_model.specs.declared.core_tree.NodeC.{NodeC}
 use Rattle.hume_model.specs.declared.core_tree.NodeC.TheVariants.{From}
 use Rattle.hume_model.specs.declared.core_tree.Core.{Core}
 use Rattle.hume_streams.specs.Good.{IsGoodUntil}
-use Rattle.run_rounds.specs.engine.StreamTypes.{type_at}
+use Rattle.phase_workers.specs.StreamTypes.{type_at}
 use Rattle.hume_net.specs.rounds.Pieces.{listed}
 
 -- for each node the values that come to it, and the number of the line behind them, if that is bad

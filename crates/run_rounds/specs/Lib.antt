@@ -1,9 +1,7 @@
 pub mod Streams
 pub mod Inputs
-pub mod TraceLinesStub
 pub mod Writes
 pub mod RunActs
 pub mod Runs
 pub mod Opened
 pub mod inner
-pub mod engine

@@ -5,10 +5,10 @@ use Rattle.hume_model.specs.declared.core_tree.Core.{Core}
 use Rattle.hume_net.specs.Nodes.{IsInputStream}
 use Rattle.hume_net.specs.Start.{start, no_values}
 use Rattle.hume_streams.specs.Queues.{first_view, IsQueueOf}
-use Rattle.run_rounds.specs.declared.engine.engine.Engine.{Engine}
+use Rattle.phase_workers.specs.Engines.{EngineView as Engine}
 use Rattle.run_rounds.specs.declared.run.Running.{Running}
-use Rattle.run_rounds.specs.engine.Engines.{core_of, span_of as room_of, state_of, queue_at, heap_peak_at, stack_peak_at}
-use Rattle.run_rounds.specs.engine.StreamTypes.{type_at}
+use Rattle.phase_workers.specs.Engines.{core_of, span_of as room_of, state_of, queue_at, heap_peak_at, stack_peak_at}
+use Rattle.phase_workers.specs.StreamTypes.{type_at}
 use Rattle.run_rounds.specs.Writes.{span_of}
 
 -- the core that it runs

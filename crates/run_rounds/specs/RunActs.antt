@@ -15,7 +15,7 @@ use Rattle.hume_streams.specs.Lines.{whole_lines}
 use Rattle.port_acts.specs.Acts.{Act, wants, write_each, written}
 use Rattle.port_acts.specs.Ends.{Few}
 use Rattle.port_acts.specs.Rounds.{round_acts}
-use Rattle.run_rounds.specs.engine.StreamTypes.{type_at}
+use Rattle.phase_workers.specs.StreamTypes.{type_at}
 use Rattle.run_rounds.specs.Inputs.{Inputs}
 use Rattle.run_rounds.specs.Writes.{span_of, round_writes, rounds_writes, peak_writes, bad_value_writes, blocked_by, blocked_round}
 

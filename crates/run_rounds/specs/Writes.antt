@@ -16,9 +16,9 @@ use Rattle.hume_net.specs.rounds.Streams.{gained}
 use Rattle.hume_ports.specs.Delivery.{Pairs}
 use Rattle.hume_streams.specs.places.LineWrites.{line_writes}
 use Rattle.net_costs.specs.Steps.{peaks}
-use Rattle.run_rounds.specs.TraceLinesStub.{step_line, wire_lines, peak_lines}
+use Rattle.trace_print.specs.TraceLines.{step_line, wire_lines, peak_lines}
 use Rattle.run_rounds.specs.declared.rounds.TheConstants.{SPAN}
-use Rattle.run_rounds.specs.engine.StreamTypes.{type_at}
+use Rattle.phase_workers.specs.StreamTypes.{type_at}
 use Rattle.run_rounds.specs.Streams.{std_out}
 use Rattle.run_rounds.specs.Inputs.{Inputs, is_bad}
 

@@ -9,16 +9,16 @@ ghost use Rattle.hume_text.specs.Chunks.{bytes_in, room_of};
 ghost use Rattle.port_acts.specs.Acts.{write_each};
 ghost use Rattle.port_acts.specs.Ends.{Ends, never};
 ghost use Rattle.port_acts.specs.Places.{IsPlaceOf};
-ghost use Rattle.run_rounds.specs.engine.Engines.{core_of, queue_at, span_of, state_of, ArePeaksKept};
-ghost use Rattle.run_rounds.specs.engine.Runnable.{IsRunnable};
+ghost use Rattle.phase_workers.specs.Engines.{core_of, queue_at, span_of, state_of, ArePeaksKept};
+ghost use Rattle.phase_workers.specs.Runnable.{IsRunnable};
 ghost use Rattle.run_rounds.specs.Streams.{ArePlacesOf};
 ghost use Rattle.run_rounds.specs.Writes.{writes_of_node, writes_of_nodes};
 ghost use Rattle.run_rounds.specs.inner.Clearing.{Clears, ClearsNode};
 
-use crate::engine::{Engine, stream_types_have_texts};
 use crate::nodes::is_output;
 use hume_ports::{Failed, Port};
 use hume_text::Chunk;
+use phase_workers::{Engine, stream_types_have_texts};
 
 /// Writes each value that output streams have taken, in source order, and forgets them. The ports are given by their places, one for
 /// each node.

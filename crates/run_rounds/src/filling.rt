@@ -5,16 +5,16 @@ ghost use Rattle.hume_model.specs.declared.core_tree.StreamC.{StreamC};
 ghost use Rattle.hume_ports.specs.Port.{PortView};
 ghost use Rattle.hume_ports.specs.Ports.{names};
 ghost use Rattle.port_acts.specs.Places.{IsPlaceOf};
-ghost use Rattle.run_rounds.specs.engine.Engines.{core_of, span_of};
-ghost use Rattle.run_rounds.specs.engine.Runnable.{IsRunnable};
+ghost use Rattle.phase_workers.specs.Engines.{core_of, span_of};
+ghost use Rattle.phase_workers.specs.Runnable.{IsRunnable};
 ghost use Rattle.run_rounds.specs.Streams.{ArePlacesOf, ArePortsApart};
 ghost use Rattle.run_rounds.specs.inner.Steps.{StandsFilling, EndsFills, EndsNode};
 
 use crate::bad_line::BadLine;
-use crate::engine::Engine;
 use crate::nodes::is_input;
 use hume_ports::{Failed, Port};
 use hume_streams::FillError;
+use phase_workers::Engine;
 
 /// Fills each input stream, in source order, until as many values come to it as are wanted. The ports are given by their
 /// places, one for each node. Answers the first stream whose next line is bad before it has what is wanted.

@@ -2,7 +2,7 @@
 ghost use Rattle.std.specs.Prelude.{◌≡◌, ℕ, ◌++◌, ◌∷◌, [], Bool, List};
 ghost use Rattle.hume_model.specs.declared.core_tree.Core.{Core};
 ghost use Rattle.hume_net.specs.StateTyping.{ComingAreTyped};
-ghost use Rattle.run_rounds.specs.engine.Runnable.{IsRunnable};
+ghost use Rattle.phase_workers.specs.Runnable.{IsRunnable};
 ghost use Rattle.port_acts.specs.Acts.{Act, wants, written, finished};
 ghost use Rattle.run_rounds.specs.Inputs.{AreInputs, Inputs};
 ghost use Rattle.run_rounds.specs.RunActs.{run_acts, ReadsForRound};

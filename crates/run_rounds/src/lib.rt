@@ -17,14 +17,12 @@
 
 mod bad_line;
 mod draining;
-pub mod engine;
 mod filling;
 mod laws;
 mod nodes;
 mod rounds;
 mod run;
 mod telling;
-mod trace_stub;
 
 pub use laws::{
     each_run_has_inputs, inputs_are_unique, inputs_have_types, runs_write_their_lines,

@@ -11,10 +11,10 @@ ghost use Rattle.hume_text.specs.Chunks.{room_of};
 ghost use Rattle.port_acts.specs.Acts.{write_each};
 ghost use Rattle.port_acts.specs.Ends.{Ends, never};
 ghost use Rattle.port_acts.specs.Places.{IsPlaceOf};
-ghost use Rattle.run_rounds.specs.engine.Engines.{core_of, queue_at, state_of, span_of as room_in};
-ghost use Rattle.run_rounds.specs.engine.Runnable.{IsRunnable};
+ghost use Rattle.phase_workers.specs.Engines.{core_of, queue_at, state_of, span_of as room_in};
+ghost use Rattle.phase_workers.specs.Runnable.{IsRunnable};
 ghost use Rattle.run_rounds.specs.Streams.{ArePlacesOf, ArePortsApart, std_out};
-ghost use Rattle.run_rounds.specs.TraceLinesStub.{line_room};
+ghost use Rattle.trace_print.specs.Rooms.{line_room};
 ghost use Rattle.run_rounds.specs.Writes.{span_of, writes_of_nodes};
 ghost use Rattle.run_rounds.specs.inner.Clearing.{Clears};
 ghost use Rattle.run_rounds.specs.inner.Rounding.{told_now, wires_now, PeaksGrow};
@@ -22,11 +22,11 @@ ghost use Rattle.run_rounds.specs.inner.Steps.{StandsAfter, EndsRound, EndsRound
 
 use crate::bad_line::BadLine;
 use crate::draining::drain_outputs;
-use crate::engine::Engine;
 use crate::filling::fill_inputs;
 use crate::telling::tell_superstep;
 use hume_ports::{Failed, Port};
 use hume_text::Chunk;
+use phase_workers::Engine;
 
 /// How many supersteps a round has, but for the last, where not all wires are told after each superstep.
 pub const SPAN: u32 = 64;

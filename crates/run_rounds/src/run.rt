@@ -8,23 +8,23 @@ ghost use Rattle.port_acts.specs.Places.{IsPlaceOf};
 ghost use Rattle.wiring_check.specs.Wires.{IsWiringOf};
 ghost use Rattle.box_compile.specs.Programs.{AreProgramsOf};
 ghost use Rattle.box_costs.specs.CostRules.{BreaksCosts};
-ghost use Rattle.run_rounds.specs.engine.Engines.{core_of};
-ghost use Rattle.run_rounds.specs.engine.Runnable.{IsRunnable};
+ghost use Rattle.phase_workers.specs.Engines.{core_of};
+ghost use Rattle.phase_workers.specs.Runnable.{IsRunnable};
 ghost use Rattle.run_rounds.specs.Streams.{ArePlacesOf, ArePortsApart, std_out};
-ghost use Rattle.run_rounds.specs.TraceLinesStub.{line_room};
+ghost use Rattle.trace_print.specs.Rooms.{line_room};
 ghost use Rattle.run_rounds.specs.Runs.{EndsRun};
 
-use crate::engine::Engine;
 use crate::rounds::{make_rounds, span};
 use crate::telling::{tell_bad_line, tell_peaks};
-use crate::trace_stub::line_bound;
 use box_code::BoxProgram;
 use hume_base::List;
 use hume_base::limits::MAX_TYPE_WORDS;
 use hume_model::Core;
 use hume_ports::{Failed, Port};
 use hume_text::Chunk;
+use phase_workers::Engine;
 use std::alloc::{AllocError, Global};
+use trace_print::line_bound;
 use wiring_check::Wiring;
 
 // No text of a value is longer than so many bytes for each of its words.

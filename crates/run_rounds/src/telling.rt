@@ -6,20 +6,21 @@ ghost use Rattle.hume_text.specs.Chunks.{bytes_in, room_of};
 ghost use Rattle.port_acts.specs.Acts.{writes, write_each};
 ghost use Rattle.port_acts.specs.Ends.{Ends, never};
 ghost use Rattle.port_acts.specs.Places.{IsPlaceOf};
-ghost use Rattle.run_rounds.specs.engine.Engines.{core_of, state_of, heap_peak_at, stack_peak_at};
-ghost use Rattle.run_rounds.specs.engine.Runnable.{IsRunnable};
+ghost use Rattle.phase_workers.specs.Engines.{core_of, state_of, heap_peak_at, stack_peak_at};
+ghost use Rattle.phase_workers.specs.Runnable.{IsRunnable};
 ghost use Rattle.run_rounds.specs.Streams.{std_out};
-ghost use Rattle.run_rounds.specs.TraceLinesStub.{step_line as line_of_step, line_there, line_room, peak_there, peak_lines, wire_lines};
+ghost use Rattle.trace_print.specs.TraceLines.{step_line as line_of_step, line_there, peak_there, peak_lines, wire_lines};
+ghost use Rattle.trace_print.specs.Rooms.{line_room};
 ghost use Rattle.run_rounds.specs.Writes.{told, superstep_lines, bad_value_line, name_of};
 ghost use Rattle.run_rounds.specs.inner.Telling.{tops};
 
 use crate::bad_line::{BadLine, put_bad_line};
-use crate::engine::Engine;
-use crate::trace_stub::{lines_are_short, peak_line, step_line, wire_line};
 use hume_model::{Core, NodeC};
 use hume_ports::{Failed, Port};
 use hume_text::Chunk;
+use phase_workers::Engine;
 use port_acts::write_act;
+use trace_print::{lines_are_short, peak_line, step_line, wire_line};
 
 /// Tells a superstep, counted from 1, and what is on each wire after it.
 pub fn tell_superstep(

@@ -7,9 +7,9 @@ use Rattle.hume_ports.specs.Ports.{names}
 use Rattle.hume_ports.specs.Delivery.{Pairs}
 use Rattle.port_acts.specs.Ends.{Few, never, Made, Fails, Ends, Owed}
 use Rattle.hume_model.specs.declared.core_tree.Core.{Core}
-use Rattle.hume_run.specs.stub.Writes.{span_of, blocked_round}
-use Rattle.hume_run.specs.stub.RunActs.{run_few}
-use Rattle.hume_run.specs.stub.Runs.{Comes}
+use Rattle.run_rounds.specs.Writes.{span_of, blocked_round}
+use Rattle.run_rounds.specs.RunActs.{run_few}
+use Rattle.run_rounds.specs.Runs.{Comes}
 use Rattle.hume_run.specs.declared.status.Status.{Status}
 use Rattle.hume_run.specs.declared.status.Status.TheVariants.{Fault, NoMemory}
 use Rattle.hume_run.specs.declared.order.Order.{Order}

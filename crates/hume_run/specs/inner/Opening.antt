@@ -5,9 +5,9 @@ use Rattle.hume_text.specs.Chunks.{room_of}
 use Rattle.trace_print.specs.declared.space_lines.TheConstants.{LINE_BYTES}
 use Rattle.port_acts.specs.Acts.{AreNamed}
 use Rattle.port_acts.specs.Places.{IsPlaceOf}
-use Rattle.run_rounds.specs.engine.Runnable.{IsRunnable}
+use Rattle.phase_workers.specs.Runnable.{IsRunnable}
 use Rattle.run_rounds.specs.Streams.{ArePlacesOf, std_out}
-use Rattle.hume_run.specs.stub.Opened.{core_in, traced_in, IsOpened}
+use Rattle.run_rounds.specs.Opened.{core_in, traced_in, IsOpened}
 use Rattle.hume_run.specs.declared.run.opening.Opened.{Opened}
 use Rattle.hume_run.specs.Owed.{run_finishes}
 use Rattle.hume_run.specs.inner.Bounds.{KeepsBounds}

@@ -2,15 +2,16 @@ ghost use Rattle.std.specs.Prelude.{◌≡◌, map};
 ghost use Rattle.hume_ports.specs.Ports.{names};
 ghost use Rattle.port_acts.specs.Places.{IsPlaceOf};
 ghost use Rattle.run_rounds.specs.Streams.{ArePlacesOf, ArePortsApart, std_out};
-ghost use Rattle.hume_run.specs.stub.Opened.{core_in, traced_in};
+ghost use Rattle.run_rounds.specs.Opened.{core_in, traced_in};
 ghost use Rattle.hume_run.specs.inner.Ended.{RunEnds, RunsCore};
 ghost use Rattle.hume_run.specs.inner.Opening.{IsOpen};
 
 use crate::run::opening::Opened;
 use crate::status::Status;
-use crate::stub::{each_run_has_inputs, write_table};
 use hume_ports::{Failed, Port};
 use port_acts::finish_acts;
+use run_rounds::each_run_has_inputs;
+use trace_print::table::write_table;
 
 /// Makes an open run for `steps` supersteps. It takes no memory.
 pub fn run_opened(mut opened: Opened, ports: &mut [Box<dyn Port>], steps: u32, out: usize) -> Status

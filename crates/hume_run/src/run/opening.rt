@@ -1,13 +1,13 @@
 ghost use Rattle.std.specs.Prelude.{◌≡◌, ℕ, List, length, IfOk, vec_len};
 ghost use Rattle.hume_front.specs.Accepted.{IsAccepted};
-ghost use Rattle.hume_run.specs.stub.Opened.{core_in, traced_in};
+ghost use Rattle.run_rounds.specs.Opened.{core_in, traced_in};
 ghost use Rattle.hume_run.specs.inner.Opening.{IsOpen};
 
 use crate::run::finishes::finish_places;
-use crate::stub::Running;
 use box_compile::compile;
 use hume_front::Accepted;
 use hume_text::Chunk;
+use run_rounds::Running;
 use space_costs::Costs;
 use std::alloc::{AllocError, Global};
 use trace_print::LINE_BYTES;

@@ -6,7 +6,7 @@ use Rattle.hume_net.specs.declared.state.State.{State}
 use Rattle.hume_net.specs.Sides.{part_of}
 use Rattle.hume_streams.specs.Good.{IsGoodUntil}
 use Rattle.hume_streams.specs.Queues.{QueueView, IsQueueOf}
-use Rattle.run_rounds.specs.engine.StreamTypes.{type_at}
+use Rattle.phase_workers.specs.StreamTypes.{type_at}
 
 -- Nothing is left to read for the stream, and no line was bad.
 pub record HasAllRead (core : Core) (queues : ℕ → QueueView) (state : State) (n : ℕ) : Type 0 where

@@ -9,7 +9,7 @@ use Rattle.hume_net.specs.Nodes.{IsInputStream}
 use Rattle.hume_ports.specs.Delivery.{Pairs, bytes_for}
 use Rattle.hume_streams.specs.Good.{IsGoodUntil}
 use Rattle.hume_streams.specs.Queues.{QueueView, IsQueueOf}
-use Rattle.run_rounds.specs.engine.StreamTypes.{type_at}
+use Rattle.phase_workers.specs.StreamTypes.{type_at}
 use Rattle.hume_net.specs.rounds.Pieces.{listed}
 use Rattle.run_rounds.specs.Inputs.{Inputs}
 

@@ -5,8 +5,8 @@ use Rattle.hume_net.specs.declared.state.State.{State}
 use Rattle.hume_net.specs.Sides.{on_wire, part_of}
 use Rattle.hume_ports.specs.Delivery.{Pairs}
 use Rattle.net_costs.specs.Steps.{peaks}
-use Rattle.run_rounds.specs.declared.engine.engine.Engine.{Engine}
-use Rattle.run_rounds.specs.engine.Engines.{core_of, state_of, heap_peak_at, stack_peak_at}
+use Rattle.phase_workers.specs.Engines.{EngineView as Engine}
+use Rattle.phase_workers.specs.Engines.{core_of, state_of, heap_peak_at, stack_peak_at}
 use Rattle.run_rounds.specs.Writes.{told, superstep_lines, writes_of_nodes}
 
 -- the superstep and the wires of a state, if they are told

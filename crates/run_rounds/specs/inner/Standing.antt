@@ -17,8 +17,8 @@ use Rattle.hume_ports.specs.Ports.{left_of}
 use Rattle.hume_ports.specs.Delivery.{Pairs, bytes_for}
 use Rattle.hume_streams.specs.Queues.{QueueView}
 use Rattle.net_costs.specs.Steps.{peaks}
-use Rattle.run_rounds.specs.declared.engine.engine.Engine.{Engine}
-use Rattle.run_rounds.specs.engine.Engines.{heap_peak_at, stack_peak_at}
+use Rattle.phase_workers.specs.Engines.{EngineView as Engine}
+use Rattle.phase_workers.specs.Engines.{heap_peak_at, stack_peak_at}
 use Rattle.run_rounds.specs.Inputs.{Inputs, is_bad}
 use Rattle.run_rounds.specs.inner.Reading.{HasRead, MayCome, later_of}
 

@@ -12,8 +12,8 @@ use Rattle.hume_ports.specs.Delivery.{Pairs}
 use Rattle.port_acts.specs.Acts.{Act}
 use Rattle.port_acts.specs.Ends.{Made}
 use Rattle.run_rounds.specs.declared.bad_line.BadLine.{BadLine}
-use Rattle.run_rounds.specs.declared.engine.engine.Engine.{Engine}
-use Rattle.run_rounds.specs.engine.Engines.{core_of, coming_at, queue_at, span_of as room_of, state_of}
+use Rattle.phase_workers.specs.Engines.{EngineView as Engine}
+use Rattle.phase_workers.specs.Engines.{core_of, coming_at, queue_at, span_of as room_of, state_of}
 use Rattle.run_rounds.specs.Inputs.{Inputs}
 use Rattle.run_rounds.specs.Writes.{span_of}
 use Rattle.run_rounds.specs.RunActs.{round_wants, rounds_acts}

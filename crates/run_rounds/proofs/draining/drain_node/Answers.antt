@@ -4,8 +4,8 @@ use Rattle.hume_net.specs.Sides.{part_of}
 use Rattle.port_acts.specs.Acts.{write_each}
 use Rattle.port_acts.specs.Ends.{Ends, never}
 use Rattle.hume_streams.specs.places.LineWrites.{line_writes}
-use Rattle.run_rounds.specs.engine.Engines.{core_of, state_of}
-use Rattle.run_rounds.specs.engine.StreamTypes.{type_at}
+use Rattle.phase_workers.specs.Engines.{core_of, state_of}
+use Rattle.phase_workers.specs.StreamTypes.{type_at}
 use Rattle.run_rounds.proofs.Clearings.{other_made, output_ends, output_there, node_cleared, node_kept}
 use Rattle.run_rounds.proofs.FillingInputs.{for_port}
 use Rattle.run_rounds.proofs.draining.drain_node.Goals as goal

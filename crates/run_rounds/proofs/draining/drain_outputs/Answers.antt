@@ -1,6 +1,6 @@
 use Rattle.std.proofs.Common.{◌∙◌, ap, arith, length, subst, sym}
 use Rattle.hume_model.specs.declared.core_tree.Core.{Core}
-use Rattle.run_rounds.specs.engine.Runnable.{IsRunnable}
+use Rattle.phase_workers.specs.Runnable.{IsRunnable}
 use Rattle.run_rounds.proofs.Clearings.{draining_none, draining_next, draining_failed, draining_made, draining_cleared, place_of_output}
 use Rattle.run_rounds.proofs.draining.drain_outputs.Goals as goal
 

@@ -1,7 +1,7 @@
 use Rattle.std.proofs.Common.{◌∙◌, ap, arith, Ok, length, subst, sym}
 use Rattle.hume_model.specs.declared.core_tree.Core.{Core}
 use Rattle.run_rounds.specs.Streams.{ArePortsApart}
-use Rattle.run_rounds.specs.engine.Runnable.{IsRunnable}
+use Rattle.phase_workers.specs.Runnable.{IsRunnable}
 use Rattle.run_rounds.proofs.FillingInputs.{filling_none, filling_next, filling_blocked, filling_failed, filling_over, place_of_stream}
 use Rattle.run_rounds.proofs.filling.fill_inputs.Goals as goal
 

@@ -1,8 +1,8 @@
 use Rattle.std.proofs.Common.{◌∙◌, ap, sym, subst, refl, [], ◌∷◌, Err}
 use Rattle.hume_net.specs.Nodes.{IsInputStream}
 use Rattle.hume_ports.specs.Ports.{Untouched}
-use Rattle.run_rounds.specs.engine.Engines.{core_of}
-use Rattle.run_rounds.specs.engine.NodeFills.{FillsNode}
+use Rattle.phase_workers.specs.Engines.{core_of}
+use Rattle.phase_workers.specs.NodeFills.{FillsNode}
 use Rattle.run_rounds.proofs.FillingInputs.{stream_there, fill_as, for_port, other_node, node_filled, node_lacks}
 use Rattle.run_rounds.proofs.Wanting.{want_failed}
 use Rattle.run_rounds.proofs.filling.fill_node.Goals as goal

@@ -1,5 +1,5 @@
 use Rattle.std.proofs.Common.{◌≡◌, ◌∙◌, ◌+◌, ap, arith, Ok, None, Err, suc}
-use Rattle.run_rounds.specs.engine.Engines.{core_of}
+use Rattle.phase_workers.specs.Engines.{core_of}
 use Rattle.run_rounds.proofs.RoundMaking.{fill_first, fills_as}
 use Rattle.run_rounds.proofs.RoundJoins.{clear_own, joined, joined_failed, parts_own, supersteps_are}
 use Rattle.run_rounds.proofs.rounds.make_round.Goals as goal

@@ -1,7 +1,7 @@
 use Rattle.std.proofs.Common.{◌<◌, ◌∙◌, ap, arith, Ok, subst, sym}
 use Rattle.hume_net.specs.rounds.Rounds.{rounds_of}
 use Rattle.run_rounds.specs.Writes.{span_of}
-use Rattle.run_rounds.specs.engine.Runnable.{IsRunnable}
+use Rattle.phase_workers.specs.Runnable.{IsRunnable}
 use Rattle.run_rounds.specs.Streams.{ArePortsApart}
 use Rattle.run_rounds.proofs.RoundMaking.{rounding_none, rounding_next, rounds_halted, rounds_failed, rounds_over, stands_own, next_round}
 use Rattle.run_rounds.proofs.rounds.make_rounds.Goals as goal

@@ -1,5 +1,5 @@
 use Rattle.std.proofs.Common.{◌≡◌}
-use Rattle.run_rounds.specs.engine.Engines.{core_of}
+use Rattle.phase_workers.specs.Engines.{core_of}
 use Rattle.run_rounds.proofs.RoundMaking.{not_told}
 use Rattle.run_rounds.proofs.rounds.tell_wires_now.Goals as goal
 

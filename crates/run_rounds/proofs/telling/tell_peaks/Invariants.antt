@@ -1,6 +1,6 @@
 use Rattle.std.proofs.Common.{map, [], slice_get}
-use Rattle.run_rounds.specs.engine.Engines.{core_of}
-use Rattle.run_rounds.specs.TraceLinesStub.{peak_there}
+use Rattle.phase_workers.specs.Engines.{core_of}
+use Rattle.trace_print.specs.TraceLines.{peak_there}
 use Rattle.run_rounds.specs.inner.Telling.{tops}
 use Rattle.run_rounds.proofs.Tellings.{Telling}
 use Rattle.run_rounds.proofs.telling.tell_peaks.Given as goal

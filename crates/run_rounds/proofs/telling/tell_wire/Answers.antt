@@ -3,8 +3,8 @@ use Rattle.hume_net.specs.Sides.{on_wire}
 use Rattle.hume_text.specs.Chunks.{bytes_in}
 use Rattle.hume_text.specs.Bounds.{IsPrintable}
 use Rattle.wire_cells.specs.Cells.{Holds}
-use Rattle.run_rounds.specs.engine.Engines.{core_of, state_of}
-use Rattle.run_rounds.specs.TraceLinesStub.{wire_line}
+use Rattle.phase_workers.specs.Engines.{core_of, state_of}
+use Rattle.trace_print.specs.TraceLines.{wire_line}
 use Rattle.run_rounds.proofs.Tellings.{item_in, line_told, wire_told}
 use Rattle.run_rounds.proofs.telling.tell_wire.Goals as goal
 

@@ -2,8 +2,8 @@ use Rattle.std.proofs.Common.{◌∙◌, ap, arith, length, refl, slice_get}
 use Rattle.hume_model.specs.declared.core_tree.Core.{Core}
 use Rattle.hume_net.specs.Sides.{on_wire}
 use Rattle.port_acts.proofs.Making.{Made-start}
-use Rattle.run_rounds.specs.engine.Engines.{core_of, state_of}
-use Rattle.run_rounds.specs.TraceLinesStub.{line_there}
+use Rattle.phase_workers.specs.Engines.{core_of, state_of}
+use Rattle.trace_print.specs.TraceLines.{line_there}
 use Rattle.run_rounds.proofs.Tellings.{telling_none, telling_next, telling_failed, telling_over}
 use Rattle.run_rounds.proofs.telling.tell_wires.Goals as goal
 

@@ -1,7 +1,7 @@
 use Rattle.std.proofs.Common.{map, [], slice_get}
 use Rattle.hume_net.specs.Sides.{on_wire}
-use Rattle.run_rounds.specs.engine.Engines.{core_of, state_of}
-use Rattle.run_rounds.specs.TraceLinesStub.{line_there}
+use Rattle.phase_workers.specs.Engines.{core_of, state_of}
+use Rattle.trace_print.specs.TraceLines.{line_there}
 use Rattle.run_rounds.proofs.Tellings.{Telling}
 use Rattle.run_rounds.proofs.telling.tell_wires.Given as goal
 

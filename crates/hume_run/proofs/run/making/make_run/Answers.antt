@@ -2,7 +2,7 @@ use Rattle.std.proofs.Common.{sym, subst, None}
 use Rattle.hume_base.specs.Least.{IsLeast}
 use Rattle.box_costs.specs.CostRules.{BreaksCosts}
 use Rattle.hume_model.specs.declared.core_tree.Core.{Core}
-use Rattle.hume_run.specs.stub.Opened.{core_in}
+use Rattle.run_rounds.specs.Opened.{core_in}
 use Rattle.hume_run.proofs.Telling.{table_made, table_fails}
 use Rattle.hume_run.proofs.Opening.{finishes_named, finishes_within}
 use Rattle.hume_run.proofs.Running.{table_failed, rounds_failed, run_made, finish_failed}

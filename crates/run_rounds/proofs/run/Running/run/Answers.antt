@@ -1,5 +1,5 @@
 use Rattle.std.proofs.Common.{◌∙◌, ap, Ok, Some, None}
-use Rattle.run_rounds.specs.engine.Engines.{core_of}
+use Rattle.phase_workers.specs.Engines.{core_of}
 use Rattle.run_rounds.proofs.RunEnds.{few_lines, line_as, line_failed, peaks_as, peaks_failed, rounds_as, run_halted, run_over}
 use Rattle.run_rounds.proofs.RunStarts.{stands_first}
 use Rattle.run_rounds.proofs.run.Running.run.Goals as goal

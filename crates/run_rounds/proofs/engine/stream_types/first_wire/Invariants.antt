@@ -1,7 +1,0 @@
-use Rattle.std.proofs.Common.{◌≡◌, drop}
-use Rattle.std.specs.List.{find}
-use Rattle.run_rounds.specs.engine.StreamTypes.{joins}
-use Rattle.run_rounds.proofs.engine.stream_types.first_wire.Given as goal
-
-abbrev pub invariant-loop-wire : goal.invariant-loop-wire
-invariant-loop-wire l = find (joins l.node) (drop l.wire-index l.wires) ≡ find (joins l.node) l.wires

@@ -1,4 +1,0 @@
-pub mod Runnable
-pub mod StreamTypes
-pub mod Engines
-pub mod NodeFills
