@@ -1,4 +1,10 @@
-// A run, traced or not.
+//! A run of a source, traced or not.
+//!
+//! Main call: `run_text`. `Ended.antt` of `inner/` says how it can end.
+//!
+//! Proved: it ends as a run of its source owes, or as the refusal of a source that isn't accepted does.
+//!
+//! It knows a source's text and the ports. It doesn't know the words of the call.
 mod finishes;
 mod making;
 mod opening;

@@ -8,8 +8,7 @@
 //!
 //! Proved: acts in turn are one list of acts, whether they are made or one fails. Where each port has room, no act fails. A
 //! failure tells which count rose and which acts came before it, and only their ports and its own are touched. A call that ends
-//! early has written nothing. Two calls that owe the same, and have no fault, give the same answer and the same bytes. No
-//! call of the tool is stated by it yet.
+//! early has written nothing. Two calls that owe the same, and have no fault, give the same answer and the same bytes.
 //!
 //! It knows names and lists of ports, and bytes. It doesn't know which call owes what, or when values are too few.
 #![tactic(auto)]
