@@ -53,6 +53,7 @@ use Rattle.phase_workers.proofs.AtRest.{at_rest, brought_is, zero_times}
 use Rattle.phase_workers.proofs.CellsSeen.{right_as_seen, seen_at}
 use Rattle.phase_workers.proofs.Indexes.{index_past, some_at}
 use Rattle.phase_workers.proofs.Rounding.{node_of_input}
+use Rattle.phase_workers.proofs.Joined.{quiet}
 
 -- a queue before the first byte is right for each text
 pub first_is_right : (types : Types) (ty : Ty) (width span : ℕ) (text : List ℕ) → IsQueueOf types ty (first_view width span) text [] text
@@ -208,8 +209,13 @@ module _ (core bare : Core) (sides : Sides) (span : ℕ) (nodes : List BoxCell) 
     fits = start_fits core;
   }
 
+  -- without its values, of which there are none
+  pub begun_quiet : (n : ℕ) → IsInputStream core n
+      → quiet (slice_index_or (queues_of nodes) n (first_view 0 0)) ≡ first_view (size_of core.types (type_at core n)) span
+  begun_quiet n input = ap quiet (queue_begun n input)
+
   pub first_right : (n : ℕ) → IsInputStream core n → (text : List ℕ)
-      → IsQueueOf core.types (type_at core n) (slice_index_or (queues_of nodes) n (first_view 0 0)) text [] text
+      → IsQueueOf core.types (type_at core n) (quiet (slice_index_or (queues_of nodes) n (first_view 0 0))) text [] text
   first_right n input text =
-      subst (λ q. IsQueueOf core.types (type_at core n) q text [] text) (sym (queue_begun n input))
+      subst (λ q. IsQueueOf core.types (type_at core n) q text [] text) (sym (begun_quiet n input))
       (first_is_right core.types (type_at core n) (size_of core.types (type_at core n)) span text)

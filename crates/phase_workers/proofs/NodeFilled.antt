@@ -45,10 +45,10 @@ module _ (core bare : Core) (sides : Sides) (span : ℕ) (state : State) (nodes 
   engine = engine_view core span s (slice_set nodes node new)
 
   was : queue_at old_engine node ≡ quiet (queue_view queue)
-  was = was_queue core bare sides span state nodes home count room whole node is cell new at queue later had new_is
+  was = ap quiet (was_queue core bare sides span state nodes home count room whole node is cell new at queue later had new_is)
 
   now : queue_at engine node ≡ quiet (queue_view later)
-  now = is_queue core bare sides span state nodes home count room whole node is cell new at queue later had new_is
+  now = ap quiet (is_queue core bare sides span state nodes home count room whole node is cell new at queue later had new_is)
 
   abbrev more_values : List Value
   more_values = values core bare sides span state nodes home count room whole node is cell new at queue later had new_is
@@ -76,10 +76,10 @@ module _ (core bare : Core) (sides : Sides) (span : ℕ) (state : State) (nodes 
     reads = from.reads;
     state = state_is ∙ next_is_fed core bare sides span state nodes home count room whole node is cell new at queue later had new_is want
         from.before from.after result from.fills;
-    others = queue_elsewhere core bare sides span state nodes home count room whole node cell new at (ap (λ (c : BoxCell). c.number) new_is)
-        (ap (λ (c : BoxCell). c.time) new_is)
+    others = λ other apart. ap quiet (queue_elsewhere core bare sides span state nodes home count room whole node cell new at
+        (ap (λ (c : BoxCell). c.number) new_is) (ap (λ (c : BoxCell). c.time) new_is)
         (next core bare sides span state nodes home count room whole node is cell new at queue later had new_is) refl
-        (parts_kept core bare sides span state nodes home count room whole node is cell new at queue later had new_is);
+        (parts_kept core bare sides span state nodes home count room whole node is cell new at queue later had new_is) other apart);
     stays = λ ended.
         let b = from.fills.end.before (sym (ap (λ (q : QueueView). q.ended) was) ∙ ended) in
         (b.0, ap (λ (q : QueueView). q.ended) now ∙ b.1);

@@ -30,9 +30,9 @@ span_of engine = engine.span
 abbrev pub state_of : EngineView → State
 state_of engine = engine.state
 
--- what was read for an input stream; the values that were read come to the node
+-- what was read for an input stream, without the values, which come to the node
 abbrev pub queue_at : EngineView → ℕ → QueueView
-queue_at engine node = slice_index_or engine.queues node (first_view 0 0)
+queue_at engine node = record (slice_index_or engine.queues node (first_view 0 0)) { values = [] }
 
 -- the values that have yet to come from an input stream
 abbrev pub coming_at : EngineView → ℕ → List Value

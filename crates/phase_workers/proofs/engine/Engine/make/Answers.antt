@@ -1,7 +1,7 @@
 use Rattle.std.proofs.Common.{◌≤◌, sym, subst, vec_len, vec_capacity, arith}
 use Rattle.hume_base.specs.declared.limits.TheConstants.{MAX_INPUTS, MAX_OUTPUTS}
 use Rattle.phase_workers.specs.inner.Whole.{IsWhole}
-use Rattle.phase_workers.proofs.FirstEngine.{first_opens, first_right, first_whole, no_peaks_at, queue_begun}
+use Rattle.phase_workers.proofs.FirstEngine.{begun_quiet, first_opens, first_right, first_whole, no_peaks_at}
 use Rattle.phase_workers.proofs.engine.Engine.make.Goals as goal
 
 pub make_nodes-requires-clause-opens : goal.make_nodes-requires-clause-opens
@@ -33,7 +33,7 @@ returns-clause-begun c =
     let room = c.in_ok-bench.ensures.capacity in
     let inputs : MAX_INPUTS ≤ vec_capacity c.in_ok-bench.bench = omega (arith, room) in
     let outputs : MAX_OUTPUTS ≤ vec_capacity c.in_ok-bench.bench = omega (arith, room) in
-    queue_begun c.args.core c.in_ok-bare.bare c.in_ok-sides.sides c.args.span c.in_ok-nodes.nodes.items c.in_ok-home.home.items (vec_len c.in_ok-bench.bench)
+    begun_quiet c.args.core c.in_ok-bare.bare c.in_ok-sides.sides c.args.span c.in_ok-nodes.nodes.items c.in_ok-home.home.items (vec_len c.in_ok-bench.bench)
     (vec_capacity c.in_ok-bench.bench) c.requires.runnable c.requires.handles c.in_ok-bare.ensures c.in_ok-nodes.ensures c.in_ok-home.ensures
     (c.in_ok-sides.ensures c.in_ok-bare.bare (vec_capacity c.in_ok-bench.bench) c.in_ok-bare.ensures inputs outputs) c.in_ok-bench.ensures.len
 

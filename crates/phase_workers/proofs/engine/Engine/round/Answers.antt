@@ -7,6 +7,7 @@ use Rattle.phase_workers.specs.inner.Begun.{begun_cell, begun_wire}
 use Rattle.phase_workers.specs.inner.Whole.{heaps_of, opening_at, queues_of, stacks_of}
 use Rattle.phase_workers.proofs.Indexes.{all_items}
 use Rattle.phase_workers.proofs.Rounding.{plan_is, even_times, queue_same, heap_more, stack_more, whole_after}
+use Rattle.phase_workers.proofs.Joined.{quiet}
 use Rattle.phase_workers.proofs.engine.Engine.round.Goals as goal
 
 pub round-requires-clause-plan : goal.round-requires-clause-plan
@@ -70,11 +71,11 @@ returns-clause-queues c = λ n.
     ap length (all_items inside.nodes.len c.round.new.nodes inside.nodes.items inside.nodes.ok.0 nodes_long) ∙ nodes_long in
     let cells = all_items inside.nodes.len c.begin_nodes.new.nodes (take inside.nodes.len (c.round.new.nodes ++ drop (length c.round.new.nodes) inside.nodes.items))
     (inside.nodes.ok.0 ∙ sym kept) (again ∙ sym kept) ∙ begun in
-    ap (λ ns. slice_index_or (queues_of ns) n (first_view 0 0)) cells
-    ∙ queue_same inside.core inside.bare inside.sides inside.span inside.seen.state inside.nodes.items inside.home.items (vec_len inside.bench) (vec_capacity
-    inside.bench)
+    ap (λ ns. quiet (slice_index_or (queues_of ns) n (first_view 0 0))) cells
+    ∙ ap quiet (queue_same inside.core inside.bare inside.sides inside.span inside.seen.state inside.nodes.items inside.home.items (vec_len inside.bench)
+    (vec_capacity inside.bench)
     whole c.args.steps c.round.new.nodes c.round.new.home c.round.ensures.place c.round.ensures.until c.round.ensures.from right home_long
-    n
+    n)
     ∙ ap (λ (v : EngineView). queue_at v n) c.self.view_is
 
 pub returns-clause-heap : goal.returns-clause-heap
