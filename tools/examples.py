@@ -10,7 +10,7 @@ import subprocess
 import sys
 import tempfile
 
-from program import TOP, Usage, call
+from program import TOP, Usage, built, call
 
 NOT_INPUTS = ("words", "README.md", "expected.py", "expected", "stdin")
 NOT_OUTPUTS = ("status", "table", "taken", "stdout")
@@ -31,7 +31,9 @@ def names(*path):
 
 
 class Room:
-    """A fresh folder with the inputs of an example."""
+    """A fresh folder with the inputs of an example, in which the program runs."""
+
+    program = None
 
     def __init__(self, example):
         self.example = example
@@ -48,7 +50,7 @@ class Room:
         shutil.rmtree(self.path)
 
     def call(self, words):
-        return call(words, self.path, read(self.example, "stdin"))
+        return call(words, self.path, read(self.example, "stdin"), self.program)
 
     def files(self):
         """Every file in the room, with its bytes."""
@@ -201,6 +203,7 @@ def main(_, words):
     if any(it.startswith("-") for it in folders):
         raise Usage("usage: hume test [--bless] [FOLDER..]")
     passed = failed = 0
+    Room.program = built()
     for example in examples_below(folders or [os.path.join(TOP, "examples")]):
         shown = os.path.relpath(example)
         if blesses:
