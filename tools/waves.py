@@ -11,7 +11,7 @@ from source import read_net
 from tracing import read_trace, run_traced
 
 NUMBER = re.compile(r"(?:int|nat) (\d+)$")
-ESCAPED = re.compile(r"[^!-\[\]-~]")
+ESCAPED = re.compile(r"[^!-~]|\\")
 
 
 class Signal:
@@ -31,7 +31,7 @@ class Signal:
         if self.width:
             bits = "z" if value is None else format(int(value) % (1 << self.width), f"0{self.width}b")
             return f"b{bits} {self.code}"
-        text = "z" if value is None else ESCAPED.sub(lambda it: f"\\x{ord(it[0]):02x}", value.replace("\\", "\\\\"))
+        text = "z" if value is None else ESCAPED.sub(lambda it: f"\\x{ord(it[0]):02x}", value)
         return f"s{text} {self.code}"
 
     def change(self, value):
