@@ -101,10 +101,10 @@ class Standstill:
             if left:
                 yield f"  stream {it.name} has {left} more, and finds no room: {self.out_of[it.name].name} is full"
         if rings := self.rings():
-            names = " and ".join(rings)
-            one = len(rings) == 1
-            yield f"  {names} {'waits for itself' if one else 'wait for each other'}; a value on a wire between them (`initial`, or a" \
-                " greater depth after `@`) may be what is missing"
+            waits = "waits for itself" if len(rings) == 1 else "wait for each other"
+            blocked = any(self.deeds[it].blocked for it in rings)
+            mend = "a greater depth (`@`)" if blocked else "a first value (`initial`)"
+            yield f"  {' and '.join(rings)} {waits}: a wire there may need {mend}"
 
 
 def standstill(run):
