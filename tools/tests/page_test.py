@@ -2,11 +2,15 @@
 import re
 import shutil
 import unittest
+from unittest import mock
 
 from setting import ADD, InRoom
 
 from browser import Browser
-from drawing import browser
+from drawing import browser, picture
+from page import net_picture
+from source import read_net
+from tracing import Run, Trace
 
 VALUES = "[...document.querySelectorAll('#wires tbody tr')].map(it => it.cells[3].textContent)"
 DOES = "[...document.querySelectorAll('#boxes tbody tr')].map(it => it.cells[1].textContent)"
@@ -26,6 +30,11 @@ class Page(InRoom):
         self.assertEqual(found, [])
         self.assertNotIn("src=", shown)
         self.assertNotIn("{{", shown)
+
+    def test_without_dot_it_has_the_tables_alone(self):
+        with mock.patch("shutil.which", return_value=None):
+            self.assertEqual(picture("digraph {}"), b"")
+            self.assertEqual(net_picture(Run(read_net(ADD.encode()), Trace(), [], [], None, {}, 0, b""), [["", "", ""]]), "")
 
     def test_words(self):
         self.put("add.hume", ADD)

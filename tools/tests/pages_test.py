@@ -67,6 +67,15 @@ class Pages(InRoom):
         for word in WORDS:
             self.assertRegex(sections, rf"`{word}\b")
 
+    def test_what_examples_write_is_ignored(self):
+        written = []
+        for folder, _, names in os.walk(os.path.join(TOP, "examples")):
+            if os.path.basename(folder) == "expected":
+                outputs = [it for it in names if it not in ("status", "table", "stdout", "taken")]
+                written += [os.path.join(os.path.dirname(folder), it) for it in outputs]
+        done = subprocess.run(["git", "check-ignore", "--no-index", *written], cwd=TOP, stdout=subprocess.PIPE)
+        self.assertEqual(sorted(done.stdout.decode().split()), sorted(written))
+
     def test_the_idioms_show_the_programs(self):
         shown = page("docs/IDIOMS.md")
         folder = os.path.join(TOP, "examples", "idioms")

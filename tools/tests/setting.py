@@ -10,6 +10,11 @@ sys.dont_write_bytecode = True
 TOP = os.path.dirname(os.path.dirname(os.path.dirname(os.path.realpath(__file__))))
 sys.path.insert(0, os.path.join(TOP, "tools"))
 
+from program import built  # noqa: E402
+
+# The program is looked for once, and not in each call.
+os.environ.setdefault("HUME_PROGRAM", built())
+
 
 def hume(*words, folder=".", given=b""):
     """Calls `./hume` with the words; a word of tools/ by these tools, so that HUME_PROGRAM holds in them."""

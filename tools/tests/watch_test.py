@@ -56,13 +56,13 @@ standstill: from superstep 5 on nothing changes, and nothing can come any more
         self.assertIn("standstill: from superstep 2 on", shown)
         self.assertIn("  box add waits for a value at add.sum (from box add)\n", shown)
         self.assertIn("  stream numbers has 2 more, and finds no room: numbers to add.x is full\n", shown)
-        self.assertIn("  add waits for itself;", shown)
+        self.assertIn("  add waits for itself: a wire there may need a first value", shown)
 
     def test_a_ring_of_two(self):
         self.put("ring.hume", RING)
         self.put("numbers", "1\n")
         shown = self.call("watch", "9", "ring.hume", "numbers", "totals")[1]
-        self.assertIn("  left and right wait for each other;", shown)
+        self.assertIn("  left and right wait for each other: a wire there may need a first value", shown)
 
     def test_a_box_that_is_blocked_and_one_of_which_no_rule_fits(self):
         self.put("spare.hume", SPARE)
