@@ -72,19 +72,21 @@ class Standstill:
         ways = self.missing(box)
         return {self.into[end].start.partition(".")[0] for end in ways[0]} if len(ways) == 1 else set()
 
+    def reached(self, name, boxes):
+        """The boxes for which this one waits, directly or through others."""
+        seen, left = [], [name]
+        while left:
+            more = [it for it in boxes.get(left.pop(), ()) if it in boxes and it not in seen]
+            seen += more
+            left += more
+        return seen
+
     def rings(self):
-        """The boxes that wait for themselves, directly or through others."""
-        boxes = {it.name: self.awaited(it) for it in self.net.boxes}
-        reached = {}
-        for name in boxes:
-            seen, left = set(), list(boxes[name])
-            while left:
-                at = left.pop()
-                if at in boxes and at not in seen:
-                    seen.add(at)
-                    left += boxes[at]
-            reached[name] = seen
-        return [name for name in boxes if name in reached[name]]
+        """The groups of boxes that wait for each other, or for themselves."""
+        boxes = {it.name: sorted(self.awaited(it)) for it in self.net.boxes}
+        reached = {it: self.reached(it, boxes) for it in boxes}
+        groups = [[it for it in boxes if it in reached[name] and name in reached[it]] for name in boxes]
+        return [it for n, it in enumerate(groups) if it and it not in groups[:n]]
 
     def left(self, stream):
         """How many values the input stream has yet to give."""
@@ -100,11 +102,10 @@ class Standstill:
             left = self.left(it) if it.incoming else 0
             if left:
                 yield f"  stream {it.name} has {left} more, and finds no room: {self.out_of[it.name].name} is full"
-        if rings := self.rings():
-            waits = "waits for itself" if len(rings) == 1 else "wait for each other"
-            blocked = any(self.deeds[it].blocked for it in rings)
-            mend = "a greater depth (`@`)" if blocked else "a first value (`initial`)"
-            yield f"  {' and '.join(rings)} {waits}: a wire there may need {mend}"
+        for ring in self.rings():
+            waits = "waits for itself" if len(ring) == 1 else "wait for each other"
+            mend = "a greater depth (`@`)" if any(self.deeds[it].blocked for it in ring) else "a first value (`initial`)"
+            yield f"  {' and '.join(ring)} {waits}: a wire there may need {mend}"
 
 
 def standstill(run):
