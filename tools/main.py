@@ -30,6 +30,8 @@ def main(words):
     except Usage as error:
         report(error)
         return 1
+    except KeyboardInterrupt:
+        return 130
 
 
 if __name__ == "__main__":

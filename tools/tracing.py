@@ -80,9 +80,14 @@ def inputs_of(net, given):
     return found
 
 
+MOST_STEPS = 100000
+
+
 def run_traced(steps, source, ports, given):
     """Makes a trace by the program, and finds what happened in it. None where the program gives no trace; it has said why."""
     text = read_bytes(source)
+    if int(steps) > MOST_STEPS:
+        raise Usage(f"at most {MOST_STEPS} supersteps can be shown")
     check = call(["check", source])
     if check.returncode:
         return None, check

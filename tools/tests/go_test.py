@@ -1,7 +1,11 @@
 """hume go: the ports of the source's streams, its folder, and files that it asks about."""
+import os
+import pty
+import subprocess
+import sys
 import unittest
 
-from setting import ADD, InRoom
+from setting import ADD, TOP, InRoom
 
 
 class Go(InRoom):
@@ -34,6 +38,17 @@ class Go(InRoom):
         self.assertEqual(self.read("in/totals"), "mine\n")
         self.assertEqual(self.call("go", "in/add.hume", "--force")[0], 0)
         self.assertEqual(self.read("in/totals"), "5\n15\n")
+
+    def test_at_a_terminal_it_asks(self):
+        for answer, wanted in (("n", "mine\n"), ("y", "5\n15\n")):
+            self.put("in/totals", "mine\n")
+            keyboard, terminal = pty.openpty()
+            os.write(keyboard, f"{answer}\n".encode())
+            command = [sys.executable, os.path.join(TOP, "tools", "main.py"), "go", "in/add.hume"]
+            subprocess.run(command, cwd=self.room, stdin=terminal, capture_output=True)
+            os.close(keyboard)
+            os.close(terminal)
+            self.assertEqual(self.read("in/totals"), wanted)
 
     def test_a_file_that_was_changed_since_is_left(self):
         self.assertEqual(self.call("go", "in/add.hume")[0], 0)
