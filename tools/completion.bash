@@ -1,0 +1,42 @@
+# Completion of the words of `hume` for bash. `hume install PREFIX` puts it where bash-completion finds it; else source it.
+
+# The ports that the streams of a source name.
+_hume_ports() {
+    sed -n 's/^ *stream  *[a-z][A-Za-z0-9_]*  *\(from\|to\)  *"\([^"]*\)".*/\2/p' -- "$1" 2>/dev/null | grep -v '^std_\(in\|out\)$'
+}
+
+# _hume_files KIND: the files of that kind, and folders on the way to them
+_hume_files() {
+    case $1 in
+    source) compgen -o plusdirs -f -X '!*.hume' -- "$2" ;;
+    folder) compgen -d -- "$2" ;;
+    *) compgen -f -- "$2" ;;
+    esac
+}
+
+_hume() {
+    local word=${COMP_WORDS[COMP_CWORD]} kind='' ports=''
+    if ((COMP_CWORD == 1)); then
+        mapfile -t COMPREPLY < <(compgen -W 'check run trace test go watch vcd waves page install uninstall --help --version --rebuild' -- "$word")
+        return
+    fi
+    # Where the SOURCE stands, and from where on there are ports.
+    local source=0
+    case ${COMP_WORDS[1]} in
+    check) source=2 ;;
+    run | trace) source=4 ;;
+    watch | vcd | page) source=3 ;;
+    go) kind=source ;;
+    waves) [ "$COMP_CWORD" -eq 2 ] && kind=file || kind=source ;;
+    test | install | uninstall) kind=folder ;;
+    esac
+    ((source == 0 || COMP_CWORD != source)) || kind=source
+    if ((source > 2 && COMP_CWORD > source)); then
+        ports=$(_hume_ports "${COMP_WORDS[source]}")
+        mapfile -t COMPREPLY < <(compgen -W "$ports" -- "$word")
+        return
+    fi
+    [ -z "$kind" ] || mapfile -t COMPREPLY < <(_hume_files "$kind" "$word")
+}
+
+complete -o filenames -F _hume hume ./hume
