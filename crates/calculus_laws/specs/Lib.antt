@@ -5,5 +5,6 @@ pub mod Naming
 pub mod Orders
 pub mod Steps
 pub mod Swapping
+pub mod UnfoldedBounds
 pub mod Unfolding
 pub mod VariableTypes

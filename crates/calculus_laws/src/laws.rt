@@ -11,6 +11,7 @@ ghost use Rattle.hume_model.specs.declared.core_tree.RuleC.{RuleC};
 ghost use Rattle.hume_model.specs.HandlerRules.{BreaksHandlers};
 ghost use Rattle.hume_model.specs.WellFormed.{IsWellFormed};
 ghost use Rattle.hume_model.specs.WireRules.{BreaksWires};
+ghost use Rattle.box_costs.specs.Bounds.{box_bound};
 ghost use Rattle.hume_net.specs.declared.state.State.{State};
 ghost use Rattle.hume_net.specs.Lockstep.{lockstep};
 ghost use Rattle.hume_net.specs.Start.{start};
@@ -19,6 +20,7 @@ ghost use Rattle.calculus_laws.specs.Boxes.{box_at, with_box};
 ghost use Rattle.calculus_laws.specs.Names.{is_function_name};
 ghost use Rattle.calculus_laws.specs.Orders.{HasWrittenOrders};
 ghost use Rattle.calculus_laws.specs.Steps.{IsOnRule, refusal, rewritten};
+ghost use Rattle.calculus_laws.specs.UnfoldedBounds.{IsUnfoldedBound};
 ghost use Rattle.calculus_laws.specs.Unfolding.{unfolded_at, with_rule};
 
 /// A step that isn't refused changes no run: after any number of supersteps the whole state is the same, from each state
@@ -61,6 +63,24 @@ pub fn unfolded_rules_keep_runs()
     ensures handlers { (core : Core) → IsWellFormed core → (n rule : ℕ) (b : BoxC) (new : RuleC) → box_at core n ≡ Some b
         → unfolded_at core b rule ≡ Some new
         → (finding : Finding) → BreaksHandlers (with_box core n (with_rule rule new b)) finding → BreaksHandlers core finding }
+{}
+
+/// A rule in which a call is unfolded raises neither the heap nor the stack of any box, and the work of its own by at most 16
+/// instructions.
+pub fn unfolded_rules_raise_no_heap_or_stack()
+    ensures { (core : Core) → IsWellFormed core → (n rule : ℕ) (b : BoxC) (new : RuleC) → box_at core n ≡ Some b
+        → unfolded_at core b rule ≡ Some new
+        → (m : ℕ) (before after : BoxC) → box_at core m ≡ Some before → box_at (with_box core n (with_rule rule new b)) m ≡ Some after
+        → IsUnfoldedBound (box_bound (with_box core n (with_rule rule new b)) after) (box_bound core before) }
+{}
+
+/// A step changes no data type, no exception and no wire, and there are as many nodes as before.
+pub fn rewrites_keep_types()
+    ensures types { (core : Core) (step : Step) → IsOnRule core step → refusal core step ≡ None → (rewritten core step).types ≡ core.types }
+    ensures exceptions { (core : Core) (step : Step) → IsOnRule core step → refusal core step ≡ None → (rewritten core step).exns ≡ core.exns }
+    ensures wires { (core : Core) (step : Step) → IsOnRule core step → refusal core step ≡ None → (rewritten core step).wires ≡ core.wires }
+    ensures nodes { (core : Core) (step : Step) → IsOnRule core step → refusal core step ≡ None
+        → length (rewritten core step).nodes ≡ length core.nodes }
 {}
 
 /// A name that a step may give to a function is a lowercase name of a source, of at most 32 bytes, and each such name is one.

@@ -9,10 +9,12 @@
 //! (`rewrites_break_no_rules`). A net starts with its boxes in the written order, and unfair ones keep it
 //! (`unfair_boxes_keep_the_written_order`). There are two kinds of steps, the swap of two rules and the naming of an output. A
 //! third one, the unfolding of a call (`Unfolding.antt`), is no step yet: the same laws are proved of it
-//! (`unfolded_rules_keep_runs`), but no call makes it. The names that a step may give are those that the lexer reads
+//! (`unfolded_rules_keep_runs`), but no call makes it. It raises neither the heap nor the stack of a box
+//! (`unfolded_rules_raise_no_heap_or_stack`; `UnfoldedBounds.antt` says what becomes of work). Data types, exceptions and wires
+//! stay (`rewrites_keep_types`). The names that a step may give are those that the lexer reads
 //! (`function_names_are_those_of_sources`).
 //!
-//! It knows cores and what their nets do. It doesn't know how a step is made, nor lines of scripts.
+//! It knows cores, what their nets do and what they take. It doesn't know how a step is made, nor lines of scripts.
 #![tactic(auto)]
 
 mod laws;
@@ -20,6 +22,7 @@ mod step;
 
 pub use laws::{
     function_names_are_those_of_sources, rewrites_break_no_rules, rewrites_keep_cores_well_formed,
-    rewrites_keep_runs, unfair_boxes_keep_the_written_order, unfolded_rules_keep_runs,
+    rewrites_keep_runs, rewrites_keep_types, unfair_boxes_keep_the_written_order,
+    unfolded_rules_keep_runs, unfolded_rules_raise_no_heap_or_stack,
 };
 pub use step::{CalcError, Step};
