@@ -11,11 +11,13 @@ pub mod FunctionNames
 pub mod Kept
 pub mod KeptRaising
 pub mod KeptTypes
+pub mod KeptWiring
 pub mod NamedCalls
 pub mod NamedCores
 pub mod NamedRaising
 pub mod NamedRuns
 pub mod NamedTypes
+pub mod NamedUnfolds
 pub mod PatternCounts
 pub mod RaisingAt
 pub mod Renumbered
