@@ -1,5 +1,6 @@
 pub mod Agreeing
 pub mod Bindings
+pub mod BoundsAt
 pub mod CallsKnown
 pub mod ChangedBox
 pub mod Clashes
@@ -9,11 +10,14 @@ pub mod Frames
 pub mod FunctionNames
 pub mod Kept
 pub mod KeptRaising
+pub mod KeptTypes
+pub mod KeptWiring
 pub mod NamedCalls
 pub mod NamedCores
 pub mod NamedRaising
 pub mod NamedRuns
 pub mod NamedTypes
+pub mod NamedUnfolds
 pub mod PatternCounts
 pub mod RaisingAt
 pub mod Renumbered
@@ -27,6 +31,8 @@ pub mod Swaps
 pub mod TypeForms
 pub mod Typed
 pub mod TypedNets
+pub mod UnfoldedBounds
+pub mod UnfoldedBoxes
 pub mod UnfoldedCalls
 pub mod UnfoldedCores
 pub mod UnfoldedMeaning

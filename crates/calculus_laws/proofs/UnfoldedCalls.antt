@@ -199,7 +199,7 @@ with_all_same : (o : Several) (go other : List Value → Outcome) → ((vs : Lis
 with_all_same (All vs) go other same = same vs refl
 with_all_same (Raised exn carried) go other same = refl
 
-length-map : {X Y : Type 0} (f : X → Y) (xs : List X) → length (map f xs) ≡ length xs
+pub length-map : {X Y : Type 0} (f : X → Y) (xs : List X) → length (map f xs) ≡ length xs
 length-map f [] = refl
 length-map f (x ∷ xs) = ap suc (length-map f xs)
 

@@ -138,3 +138,41 @@ module _ (core : Core) (R : ℕ → Expr → Expr → Type 0) (kept : IsKept cor
   -- it holds of each result with such a call
   pub result_holds : (r : Res) (scope : ℕ) → Becomes (S scope r) ((look r).unfolded scope)
   result_holds r = (keeps r).becomes
+
+module _ (core : Core) where
+  abbrev IsKeptTree : Res → Type 0
+  IsKeptTree r = (looked_result core r).tree ≡ r
+
+  abbrev Kept : Type 0
+  Kept = (r : Res) × IsKeptTree r
+
+  abbrev of_kept : Kept → Res
+  of_kept p = p.0
+
+  abbrev kept_arm : PatC × Kept → PatC × Res
+  kept_arm arm = (arm.0, of_kept arm.1)
+
+  abbrev looked_arm : PatC × Res → PatC × Looked Res
+  looked_arm arm = (arm.0, looked_result core arm.1)
+
+  kept_arms : (arms : List (PatC × Kept)) → map (λ (arm : PatC × Looked Res). (arm.0, arm.1.tree)) (map looked_arm (map kept_arm arms)) ≡ map kept_arm arms
+  kept_arms [] = refl
+  kept_arms (arm ∷ arms) = λ i. (arm.0, arm.1.1 i) ∷ kept_arms arms i
+
+  abbrev kept_layer : Res-F Kept → Res-F Res
+  kept_layer y = map-Res Kept Res of_kept y
+
+  kept_trees : (y : Res-F Kept) → map-Res (Looked Res) Res (λ part. part.tree) (map-Res Res (Looked Res) (looked_result core) (kept_layer y)) ≡ kept_layer y
+  kept_trees (Res-F.Outs outs) = refl
+  kept_trees (Res-F.If t a b) = λ i. Res-F.If t (a.1 i) (b.1 i)
+  kept_trees (Res-F.Case e ty arms) = ap (Res-F.Case e ty) (kept_arms arms)
+  kept_trees (Res-F.Let e b) = ap (Res-F.Let e) b.1
+  kept_trees (Res-F.Raise x o) = refl
+
+  tree_of_layer : (y : Res-F Kept) → IsKeptTree (roll-Res (kept_layer y))
+  tree_of_layer y =
+      ap (λ (l : Looked Res). l.tree) (fold-roll-Res (Looked Res) (look_result_step (looked core)) (kept_layer y)) ∙ ap roll-Res (kept_trees y)
+
+  -- a look at a result keeps the result
+  pub looked_result_tree : (r : Res) → IsKeptTree r
+  looked_result_tree = ind-Res IsKeptTree (λ x y is. subst (λ z. IsKeptTree (roll-Res z)) is (tree_of_layer y))

@@ -62,7 +62,7 @@ patterns_bind (ArePatterns.one {ty = t} {p = p} {vars = xs} {more = ys} first re
     let both = and_parts _ _ all in
     pattern_binds first both.0 ys ∙ ap (bound_one (out-PatC p) t) (patterns_bind rest both.1)
 
-patterns_length : {types : Types} {ts : List Ty} {ps : List PatC} {vars : List Ty} → ArePatterns types ts ps vars → length ts ≡ length ps
+pub patterns_length : {types : Types} {ts : List Ty} {ps : List PatC} {vars : List Ty} → ArePatterns types ts ps vars → length ts ≡ length ps
 patterns_length ArePatterns.none = refl
 patterns_length (ArePatterns.one first rest) = ap suc (patterns_length rest)
 

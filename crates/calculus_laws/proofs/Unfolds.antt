@@ -204,3 +204,29 @@ module _ (core : Core) (R : ℕ → Expr → Expr → Type 0) (kept : IsKept cor
   -- it holds of each expression with such a call
   pub holds_of : (e : Expr) (scope : ℕ) → Becomes (R scope e) ((look e).unfolded scope)
   holds_of e = (keeps e).becomes
+
+anything : {X : Type 0} (o : Option X) → Becomes (λ x. ⊤) o
+anything None = tt
+anything (Some x) = tt
+
+-- a look at an expression keeps the expression
+pub looked_tree : (core : Core) (e : Expr) → (looked core e).tree ≡ e
+looked_tree core e = (keeps core (λ scope old new. ⊤) each e).tree
+  where
+    each : IsKept core (λ scope old new. ⊤)
+    each = record {
+      unfolds = λ scope f args. anything (call_unfolded core f args scope);
+      con = λ scope c es ds one. tt;
+      tuple = λ scope es ds one. tt;
+      vector = λ scope es ds one. tt;
+      prim = λ scope op ty es ds one. tt;
+      call = λ scope f es ds one. tt;
+      index = λ scope n v k v' k' one. tt;
+      update = λ scope n v k e v' k' e' one. tt;
+      choice = λ scope t a b t' a' b' one. tt;
+      of_case = λ scope e d ty arms r. tt;
+      arm = λ scope e ty arms others one. tt;
+      of_let = λ scope e d body r. tt;
+      body = λ scope e body other r. tt;
+      raise = λ scope x e d r. tt;
+    }

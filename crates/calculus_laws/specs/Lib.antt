@@ -1,9 +1,11 @@
 pub mod Apart
 pub mod Boxes
+pub mod NamedAgain
 pub mod Names
 pub mod Naming
 pub mod Orders
 pub mod Steps
 pub mod Swapping
+pub mod UnfoldedBounds
 pub mod Unfolding
 pub mod VariableTypes

@@ -11,14 +11,19 @@ ghost use Rattle.hume_model.specs.declared.core_tree.RuleC.{RuleC};
 ghost use Rattle.hume_model.specs.HandlerRules.{BreaksHandlers};
 ghost use Rattle.hume_model.specs.WellFormed.{IsWellFormed};
 ghost use Rattle.hume_model.specs.WireRules.{BreaksWires};
+ghost use Rattle.hume_model.specs.Wiring.{IsWired, WiresAgree};
+ghost use Rattle.box_costs.specs.Bounds.{box_bound};
 ghost use Rattle.hume_net.specs.declared.state.State.{State};
 ghost use Rattle.hume_net.specs.Lockstep.{lockstep};
 ghost use Rattle.hume_net.specs.Start.{start};
 ghost use Rattle.calculus_laws.specs.declared.step.Step.{Step};
 ghost use Rattle.calculus_laws.specs.Boxes.{box_at, with_box};
+ghost use Rattle.calculus_laws.specs.NamedAgain.{rule_again};
 ghost use Rattle.calculus_laws.specs.Names.{is_function_name};
+ghost use Rattle.calculus_laws.specs.Naming.{OnlyOutput, calling_box, named_output, output_at};
 ghost use Rattle.calculus_laws.specs.Orders.{HasWrittenOrders};
 ghost use Rattle.calculus_laws.specs.Steps.{IsOnRule, refusal, rewritten};
+ghost use Rattle.calculus_laws.specs.UnfoldedBounds.{IsUnfoldedBound};
 ghost use Rattle.calculus_laws.specs.Unfolding.{unfolded_at, with_rule};
 
 /// A step that isn't refused changes no run: after any number of supersteps the whole state is the same, from each state
@@ -61,6 +66,39 @@ pub fn unfolded_rules_keep_runs()
     ensures handlers { (core : Core) → IsWellFormed core → (n rule : ℕ) (b : BoxC) (new : RuleC) → box_at core n ≡ Some b
         → unfolded_at core b rule ≡ Some new
         → (finding : Finding) → BreaksHandlers (with_box core n (with_rule rule new b)) finding → BreaksHandlers core finding }
+{}
+
+/// A rule in which a call is unfolded raises neither the heap nor the stack of any box, and the work of its own by at most 16
+/// instructions.
+pub fn unfolded_rules_raise_no_heap_or_stack()
+    ensures { (core : Core) → IsWellFormed core → (n rule : ℕ) (b : BoxC) (new : RuleC) → box_at core n ≡ Some b
+        → unfolded_at core b rule ≡ Some new
+        → (m : ℕ) (before after : BoxC) → box_at core m ≡ Some before → box_at (with_box core n (with_rule rule new b)) m ≡ Some after
+        → IsUnfoldedBound (box_bound (with_box core n (with_rule rule new b)) after) (box_bound core before) }
+{}
+
+/// A step changes no data type, no exception and no wire, and there are as many nodes as before.
+pub fn rewrites_keep_types()
+    ensures types { (core : Core) (step : Step) → IsOnRule core step → refusal core step ≡ None → (rewritten core step).types ≡ core.types }
+    ensures exceptions { (core : Core) (step : Step) → IsOnRule core step → refusal core step ≡ None → (rewritten core step).exns ≡ core.exns }
+    ensures wires { (core : Core) (step : Step) → IsOnRule core step → refusal core step ≡ None → (rewritten core step).wires ≡ core.wires }
+    ensures nodes { (core : Core) (step : Step) → IsOnRule core step → refusal core step ≡ None
+        → length (rewritten core step).nodes ≡ length core.nodes }
+{}
+
+/// A step keeps the wires of a core: where each input and output has its one wire, it has it in the new core, and where types
+/// agree along the wires they still do.
+pub fn rewrites_keep_wiring()
+    ensures wired { (core : Core) (step : Step) → IsOnRule core step → refusal core step ≡ None → IsWired core → IsWired (rewritten core step) }
+    ensures agree { (core : Core) (step : Step) → IsOnRule core step → refusal core step ≡ None → WiresAgree core → WiresAgree (rewritten core step) }
+{}
+
+/// The call of an output that was named can be unfolded: then a `let` of each variable stands around the output. So naming and
+/// unfolding change no run, but don't give back the first rule.
+pub fn named_outputs_unfold()
+    ensures { (core : Core) (node rule : ℕ) (name : List ℕ) (b : BoxC) (output : OnlyOutput) → output_at b rule ≡ Some output
+        → unfolded_at (named_output core node rule name b (Some output)) (calling_box core.types (length core.funs) rule output b) rule
+        ≡ Some (rule_again core.types b output) }
 {}
 
 /// A name that a step may give to a function is a lowercase name of a source, of at most 32 bytes, and each such name is one.

@@ -6,20 +6,25 @@
 //!
 //! Proved: a step that isn't refused changes no run, state by state (`rewrites_keep_runs`); the new core is well formed
 //! (`rewrites_keep_cores_well_formed`) and breaks no rule on wires and exceptions that the old one keeps
-//! (`rewrites_break_no_rules`). A net starts with its boxes in the written order, and unfair ones keep it
+//! (`rewrites_break_no_rules`). Data types, exceptions and wires stay (`rewrites_keep_types`), and each input and output keeps its
+//! one wire (`rewrites_keep_wiring`). A net starts with its boxes in the written order, and unfair ones keep it
 //! (`unfair_boxes_keep_the_written_order`). There are two kinds of steps, the swap of two rules and the naming of an output. A
 //! third one, the unfolding of a call (`Unfolding.antt`), is no step yet: the same laws are proved of it
-//! (`unfolded_rules_keep_runs`), but no call makes it. The names that a step may give are those that the lexer reads
-//! (`function_names_are_those_of_sources`).
+//! (`unfolded_rules_keep_runs`), but no call makes it. It raises neither the heap nor the stack of a box
+//! (`unfolded_rules_raise_no_heap_or_stack`; `UnfoldedBounds.antt` says what becomes of work). An output that was named can be
+//! unfolded again, which doesn't give back the first rule (`named_outputs_unfold`; `NamedAgain.antt`). The names that a step may
+//! give are those that the lexer reads (`function_names_are_those_of_sources`).
 //!
-//! It knows cores and what their nets do. It doesn't know how a step is made, nor lines of scripts.
+//! It knows cores, what their nets do and what they take. It doesn't know how a step is made, nor lines of scripts.
 #![tactic(auto)]
 
 mod laws;
 mod step;
 
 pub use laws::{
-    function_names_are_those_of_sources, rewrites_break_no_rules, rewrites_keep_cores_well_formed,
-    rewrites_keep_runs, unfair_boxes_keep_the_written_order, unfolded_rules_keep_runs,
+    function_names_are_those_of_sources, named_outputs_unfold, rewrites_break_no_rules,
+    rewrites_keep_cores_well_formed, rewrites_keep_runs, rewrites_keep_types, rewrites_keep_wiring,
+    unfair_boxes_keep_the_written_order, unfolded_rules_keep_runs,
+    unfolded_rules_raise_no_heap_or_stack,
 };
 pub use step::{CalcError, Step};
