@@ -1,0 +1,7 @@
+pub mod Held
+pub mod Views
+pub mod Rule
+pub mod Asking
+pub mod Seats
+pub mod Closing
+pub mod inner
