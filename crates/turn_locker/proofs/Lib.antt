@@ -6,3 +6,4 @@ pub mod Passes
 pub mod Values
 pub mod Ends
 pub mod Seats
+pub mod Callers

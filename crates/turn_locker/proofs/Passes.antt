@@ -18,7 +18,7 @@ use Rattle.turn_locker.specs.Asking.{MayPass, MayPassWire, MayPassNode}
 use Rattle.turn_locker.specs.Held.{items_of, held_at, without, has_pair, pairs_but, AreDistinct}
 use Rattle.turn_locker.specs.Rule.{home_word, is_out, Whereabouts, home, held, clock_of, executed, asserted, IsTied, AreTied, AreUnderWay, IsThere, KeepsTurns}
 use Rattle.turn_locker.specs.Views.{passed_by, passes}
-use Rattle.turn_locker.specs.inner.Plays.{passed_on}
+use Rattle.turn_locker.specs.inner.Plays.{passed_on, with_slot}
 use Rattle.turn_locker.proofs.Clocks.{wire_even, wire_odd, executed_goes, asserted_goes, not_even, not_odd}
 use Rattle.turn_locker.proofs.Moved.{moved, after}
 use Rattle.turn_locker.proofs.Steps.{held_once, not_out_else}
@@ -252,6 +252,13 @@ module _ {T : Type 0} (number_of time_of : T → ℕ) (right : T → Type 0) (pl
           told slots i id t new me (passes_wire plan y t me.0) same_plan stored (passes_of i t me.0 false e ∙ (λ k. record (passes_wire plan y t me.0) { held = without (sym same k) me.0.held }))
           (subst (λ (q : ℕ). me.1 ≡ (q, Some x) ∷ [] → me.0.out ≡ Some q → number_of x ≡ q → Allows K slots id me q (λ _. new) (λ _ m. m ≡ (passes_wire plan y t me.0, []))) same
           (λ a b n. passes_wire_step slots y id t new x me pos a b (may.a_wire beyond) n clocked ok timed) has is numbered)
+
+-- the slot of an item may be out
+pub slot_pass : (plan : Plan) (i t : ℕ) (v : View) → MayPass plan i t v → MayPass plan i t (with_slot i v)
+slot_pass plan i t v may = record {
+  a_node = λ lt. let it = may.a_node lt in record { node_held = it.node_held; all_passed = it.all_passed };
+  a_wire = λ le. let it = may.a_wire le in record { is_wire = it.is_wire; wire_held = it.wire_held; node_held = it.node_held; others_held = it.others_held };
+}
 
 -- an item that may be passed is held
 pub held_to_pass : (plan : Plan) (i t : ℕ) (v : View) → MayPass plan i t v → held_at i v.held ≡ some t

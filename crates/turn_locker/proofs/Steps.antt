@@ -51,6 +51,10 @@ may_put_back plan i t v h empty = record {
   no_wire = λ node other u w pair _ _ _ _. true_not_false (has_pair node other v.passed) pair (ap (has_pair node other) empty);
 }
 
+-- the slot of an item may be out
+pub slot_put_back : (plan : Plan) (i t : ℕ) (v : View) → MayPutBack plan i t v → MayPutBack plan i t (with_slot i v)
+slot_put_back plan i t v may = record { is_held = may.is_held; no_node = may.no_node; no_wire = may.no_wire }
+
 module _ {T : Type 0} (number_of time_of : T → ℕ) (right : T → Type 0) (plan : Plan) where
   abbrev St : Type 0
   St = State (Option T) View

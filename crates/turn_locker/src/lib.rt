@@ -22,6 +22,5 @@ mod timed;
 mod view;
 
 pub use locker::{Locker, Seat};
-pub use rule::InTurn;
 pub use timed::Timed;
 pub use view::View;

@@ -4,7 +4,7 @@ use crate::view::View;
 use atomic_table::TableRule;
 use hume_net::Plan;
 
-/// The rule that each step on the table of a locker keeps.
+// The rule that each step on the table of a locker keeps.
 pub struct InTurn;
 
 impl<T: Timed> TableRule<Option<T>, View, Plan> for InTurn {

@@ -4,7 +4,7 @@ use Rattle.turn_locker.specs.declared.view.View.{View}
 use Rattle.turn_locker.specs.Asking.{MayPass}
 use Rattle.turn_locker.specs.Seats.{LockerView}
 use Rattle.turn_locker.specs.Views.{passes}
-use Rattle.turn_locker.proofs.Passes.{passes_step, held_to_pass}
+use Rattle.turn_locker.proofs.Passes.{passes_step, held_to_pass, slot_pass}
 use Rattle.turn_locker.proofs.locker.Locker.pass.Goals as goal
 
 pub fill-word-requires-clause-held : goal.fill-word-requires-clause-held
@@ -18,7 +18,7 @@ store-requires g c =
       search rules,
       search rules,
       passes_step _ _ _ _ _ _ _ (t - 1) _ c.args.value _ (ap (λ (v : View). v.plan) view ∙ (c.requires.own.plan ∙ key)) (subst (λ (v : View). 0 < v.share) (sym view) c.requires.own.share)
-          (ap (λ m. m.1) out) (ap (λ (v : View). v.out) view) (subst (λ (y : Plan × View). MayPass y.0 c.args.item (t - 1) y.1) (λ k. (key k, sym view k)) c.requires.may)
+          (ap (λ m. m.1) out) (ap (λ (v : View). v.out) view) (subst (λ (y : Plan × View). MayPass y.0 c.args.item (t - 1) y.1) (λ k. (key k, sym view k)) (slot_pass _ _ _ _ c.requires.may))
           value.0 (omega (arith, pos)) value.1 (omega (arith, word, pos)),
     )
 
