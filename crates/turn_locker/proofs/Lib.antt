@@ -7,3 +7,4 @@ pub mod Values
 pub mod Ends
 pub mod Seats
 pub mod Callers
+pub mod Counts

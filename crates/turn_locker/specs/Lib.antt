@@ -4,4 +4,5 @@ pub mod Rule
 pub mod Asking
 pub mod Seats
 pub mod Closing
+pub mod Counts
 pub mod inner
