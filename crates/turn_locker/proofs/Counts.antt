@@ -1,6 +1,6 @@
 -- By the rule the counts of half steps are balanced, and so they are the times after a schedule.
 use Rattle.std.proofs.Common.{◌≡◌, ◌≢◌, ℕ, zero, suc, Bool, true, false, ◌&&◌, ◌||◌, ◌+◌, ◌*◌, ◌/◌, ◌%◌, ◌<◌, ◌≤◌, ◌==◌, List, [], ◌∷◌, slice_index, Option, sym, refl, ap, ◌∙◌, subst, inl, inr, ◌⊎◌, arith}
-use Rattle.std.proofs.lemmas.Bool.{eq-eqb, ne_eqb, and_parts}
+use Rattle.std.proofs.lemmas.Bool.{eq-eqb, and_parts}
 use mathlib.Core.Option.{some}
 use lib.ListN.{get_elem?}
 use Rattle.atomic_table.specs.Table.{State}
@@ -31,7 +31,8 @@ not_odd_time t even odd = omega (arith, odd, even)
 abbrev Counted : ℕ → ℕ → Type 0 → Type 0
 Counted count tied room = (count ≡ tied) ⊎ ((count ≡ tied + 1) × room)
 
-even_counted : (wire t s x : ℕ) (b any : Bool) → t % 2 ≡ 0 → x ≡ (t + 1) / 2 + tick b → wire ≡ x + s → (b ≡ true → any ≡ true) → (any ≡ true → b ≡ false → wire ≡ t)
+even_counted : (wire t s x : ℕ) (b any : Bool) → t % 2 ≡ 0 → x ≡ (t + 1) / 2 + tick b → wire ≡ x + s → (b ≡ true → any ≡ true)
+    → (any ≡ true → b ≡ false → wire ≡ t)
     → Counted (executes (t + tick any)) x (x ≡ s)
 even_counted wire t s x true true even is sum one waits = inl (omega (arith, even, is))
 even_counted wire t s x true false even is sum one waits = let no_one : false ≡ true = one refl in cc no_one
@@ -55,8 +56,10 @@ odd_same t x false odd is = omega (arith, odd, is)
 
 both_counted : (e x p s : ℕ) → s ≤ x → x ≤ s + 1 → Counted e x (x ≡ s) → Counted p s (x ≡ s + 1) → (p ≤ e) × (e ≤ p + 1)
 both_counted e x p s low high (inl a) (inl b) = (omega (arith, low, high, a, b), omega (arith, low, high, a, b))
-both_counted e x p s low high (inl a) (inr b) = (let b0 = b.0 in let b1 = b.1 in omega (arith, low, high, a, b0, b1), let b0 = b.0 in let b1 = b.1 in omega (arith, low, high, a, b0, b1))
-both_counted e x p s low high (inr a) (inl b) = (let a0 = a.0 in let a1 = a.1 in omega (arith, low, high, a0, a1, b), let a0 = a.0 in let a1 = a.1 in omega (arith, low, high, a0, a1, b))
+both_counted e x p s low high (inl a) (inr b) =
+    (let b0 = b.0 in let b1 = b.1 in omega (arith, low, high, a, b0, b1), let b0 = b.0 in let b1 = b.1 in omega (arith, low, high, a, b0, b1))
+both_counted e x p s low high (inr a) (inl b) =
+    (let a0 = a.0 in let a1 = a.1 in omega (arith, low, high, a0, a1, b), let a0 = a.0 in let a1 = a.1 in omega (arith, low, high, a0, a1, b))
 both_counted e x p s low high (inr a) (inr b) = let a1 = a.1 in let b1 = b.1 in absurd (omega (arith, a1, b1))
 
 -- c and p say whether the wire was passed by its end in this half step, cs and ps whether any wire was; a wire of the side of a
@@ -125,10 +128,12 @@ starter (v ∷ vs) n e = elim (or_cases (has_node n v.passed) (started_by vs n) 
 
 not_passed : (views : List View) (n w j : ℕ) (v : View) → passed_by views n w ≡ false → get_elem? views j ≡ some v → has_pair n w v.passed ≡ false
 not_passed [] n w j v e at = cc
-not_passed (u ∷ us) n w zero v e at = let same : u ≡ v = cc in ap (λ (x : View). has_pair n w x.passed) (sym same) ∙ (or_neither (has_pair n w u.passed) (passed_by us n w) e).0
+not_passed (u ∷ us) n w zero v e at = let same : u ≡ v = cc in
+    ap (λ (x : View). has_pair n w x.passed) (sym same) ∙ (or_neither (has_pair n w u.passed) (passed_by us n w) e).0
 not_passed (u ∷ us) n w (suc j) v e at = not_passed us n w j v (or_neither (has_pair n w u.passed) (passed_by us n w) e).1 at
 
-module _ {T : Type 0} (number_of time_of : T → ℕ) (right : T → Type 0) (plan : Plan) (s : State (Option T) View) (k : KeepsTurns number_of time_of right plan s) where
+module _ {T : Type 0} (number_of time_of : T → ℕ) (right : T → Type 0) (plan : Plan) (s : State (Option T) View)
+    (k : KeepsTurns number_of time_of right plan s) where
   abbrev clock : ℕ → ℕ
   clock i = clock_of time_of (k.where_is i)
 
@@ -156,7 +161,8 @@ module _ {T : Type 0} (number_of time_of : T → ℕ) (right : T → Type 0) (pl
   counts_balanced w less =
       let c : ℕ = consumer_of plan w in
       let p : ℕ = producer_of plan w in
-      let b = wire_balanced (clock (plan.nodes + w)) (clock c) (clock p) (passed_by s.views c w) (passed_by s.views p w) (started_by s.views c) (started_by s.views p)
+      let b = wire_balanced (clock (plan.nodes + w)) (clock c) (clock p) (passed_by s.views c w) (passed_by s.views p w) (started_by s.views c)
+      (started_by s.views p)
       (k.times w less) (passed_started s.views c w) (passed_started s.views p w)
       (λ started even not_yet. waits c w started (less, if_even (clock c) _ _ even) not_yet)
       (λ started odd not_yet. waits p w started (less, if_odd (clock p) _ _ odd) not_yet) in

@@ -1,14 +1,14 @@
 -- The table at the start, seats that are cut and joined, and the table at the end.
-use Rattle.std.proofs.Common.{◌≡◌, ◌≢◌, ℕ, zero, suc, Bool, true, false, eqb, ◌||◌, ◌+◌, ◌-◌, ◌*◌, ◌/◌, ◌%◌, ◌<◌, ◌≤◌, List, [], ◌∷◌, ◌++◌, length, map, replicate, get_or, set, sym, refl, ap, ◌∙◌, subst, ◌⊎◌, inl, inr, ⊎_elim, arith, length-set, eq-eqb, ne_eqb, slice_get}
+use Rattle.std.proofs.Common.{◌≡◌, ◌≢◌, ℕ, zero, suc, false, ◌||◌, ◌+◌, ◌-◌, ◌<◌, ◌≤◌, List, [], ◌∷◌, ◌++◌, length, map, replicate, set, sym, refl, ap, ◌∙◌, subst, ◌⊎◌, ⊎_elim, arith}
 use mathlib.Core.Logic.{dite}
-use mathlib.Core.Option.{none, some, some-injective, some-ne-none}
+use mathlib.Core.Option.{some, some-injective, some-ne-none}
 use mathlib.Core.Option as maybe
 use native.Mathlib.Decide.{ℕ_discrete}
 use lib.ListN.{get_elem?}
 use Rattle.std.specs.Prelude.{Option, Some, None}
 use Rattle.std.proofs.lemmas.List.{get_or-replicate}
 use Rattle.atomic_table.specs.Table.{State, opening, Splits, Joins, Final, Seen}
-use Rattle.atomic_table.proofs.Lists.{at_set, at_snoc, set_here, set_else, at_longer, at_map}
+use Rattle.atomic_table.proofs.Lists.{at_set, at_snoc, set_else, at_longer}
 use Rattle.hume_net.specs.declared.plan.Plan.{Plan}
 use Rattle.hume_net.specs.Plan.{IsPlan, wires_of, producer_of, consumer_of}
 use Rattle.hume_net.specs.Times.{AreBalanced, wire_time}
@@ -83,9 +83,11 @@ home_balanced plan clock ties w less =
     let x = executed_alone (clock (consumer_of plan w)) in let s = asserted_alone (clock (producer_of plan w)) in
     record { not_behind = omega (arith, low, x, s); not_ahead = omega (arith, high, x, s) }
 
-pub home_wires : (plan : Plan) (clock : ℕ → ℕ) → AreTied plan clock (λ n w. false) → (w : ℕ) → w < wires_of plan → clock (plan.nodes + w) ≡ wire_time plan clock w
+pub home_wires : (plan : Plan) (clock : ℕ → ℕ) → AreTied plan clock (λ n w. false) → (w : ℕ) → w < wires_of plan
+    → clock (plan.nodes + w) ≡ wire_time plan clock w
 home_wires plan clock ties w less =
-    let sum = (ties w less).time in let x = executed_alone (clock (consumer_of plan w)) in let s = asserted_alone (clock (producer_of plan w)) in omega (arith, sum, x, s)
+    let sum = (ties w less).time in let x = executed_alone (clock (consumer_of plan w)) in let s = asserted_alone (clock (producer_of plan w)) in
+    omega (arith, sum, x, s)
 
 module _ {T : Type 0} (number_of time_of : T → ℕ) (right : T → Type 0) (plan : Plan) where
   abbrev St : Type 0
@@ -102,30 +104,49 @@ module _ {T : Type 0} (number_of time_of : T → ℕ) (right : T → Type 0) (pl
     homes_are = length_homes T n;
     shares = refl;
     each_item = λ i lt. (get_or-replicate n i 1 0 lt, (newcomer plan, refl, all_held n i lt, homes_none n i lt));
-    each_seat = λ j v e. let one = one_seat (newcomer plan) j v e in subst (λ (y : ℕ × View). IsSeated {T = T} plan (λ _. held 0 0) y.0 y.1) (λ k. (sym one.0 k, one.1 k)) record {
-      plans = λ _. refl;
-      spent = λ none_left. absurd (omega arith);
-      holds = λ i t h. let k = held_below n i t h in (k.0, λ h. held 0 (sym k.1 h));
-      pairs = λ m w p. cc p;
-      distinct = tt;
-    };
+    each_seat = λ j v e. let one = one_seat (newcomer plan) j v e in
+        subst (λ (y : ℕ × View). IsSeated {T = T} plan (λ _. held 0 0) y.0 y.1) (λ k. (sym one.0 k, one.1 k)) record {
+          plans = λ _. refl;
+          spent = λ none_left. absurd (omega arith);
+          holds = λ i t h. let k = held_below n i t h in (k.0, λ h. held 0 (sym k.1 h));
+          pairs = λ m w p. cc p;
+          distinct = tt;
+        };
     times = λ w lt. record { time = refl; not_behind = omega arith; not_ahead = omega arith };
   }
 
   pub splits : (id : ℕ) (v : View) → 2 ≤ v.share → Splits K id v (kept_half v) (new_half v)
   splits id v share s r at =
-      let old = r.each_seat id v at in let left : View = kept_half v in let right_view : View = new_half v in let vs = set s.views id left in let plans : v.plan ≡ plan = old.plans (omega arith) in
+      let old = r.each_seat id v at in let left : View = kept_half v in let right_view : View = new_half v in let vs = set s.views id left in
+      let plans : v.plan ≡ plan = old.plans (omega arith) in
       reviewed number_of time_of right plan s r (vs ++ right_view ∷ [])
       (λ j u e i t h. dite (ℕ_discrete j id)
-      (λ same. let is : u ≡ v = some-injective u v (sym e ∙ (ap (get_elem? s.views) same ∙ at)) in
-      (left, at_longer vs (right_view ∷ []) j left (ap (get_elem? vs) same ∙ set_mine s.views id left v at), ap (λ (y : View). y.held) (sym is), ap (λ (y : View). y.out) (sym is)))
+      (λ same. let is : u ≡ v = some-injective u v (sym e ∙ (ap (get_elem? s.views) same ∙ at)) in (
+        left,
+        at_longer vs (right_view ∷ []) j left (ap (get_elem? vs) same ∙ set_mine s.views id left v at),
+        ap (λ (y : View). y.held) (sym is),
+        ap (λ (y : View). y.out) (sym is),
+      ))
       (λ no. (u, at_longer vs (right_view ∷ []) j u (set_else s.views id j left no ∙ e), refl, refl)))
       (λ j u e. ⊎_elim
       (λ (x : get_elem? vs j ≡ some u). ⊎_elim
-      (λ (y : (j ≡ id) × (left ≡ u)). subst (λ (z : ℕ × View). IsSeated plan r.where_is z.0 z.1) (λ k. (sym y.0 k, y.1 k)) record { plans = λ _. plans; spent = λ none_left. absurd (omega arith); holds = old.holds; pairs = old.pairs; distinct = old.distinct })
+      (λ (y : (j ≡ id) × (left ≡ u)). subst (λ (z : ℕ × View). IsSeated plan r.where_is z.0 z.1)
+      (λ k. (sym y.0 k, y.1 k)) record {
+        plans = λ _. plans;
+        spent = λ none_left. absurd (omega arith);
+        holds = old.holds;
+        pairs = old.pairs;
+        distinct = old.distinct;
+      })
       (λ (y : (j ≢ id) × (get_elem? s.views j ≡ some u)). r.each_seat j u y.1)
       (at_set s.views id j left u x))
-      (λ (x : right_view ≡ u). subst (λ (z : View). IsSeated plan r.where_is j z) x record { plans = λ _. plans; spent = λ _. (refl, refl); holds = λ i t h. absurd (some-ne-none t (sym h)); pairs = λ n w p. cc p; distinct = tt })
+      (λ (x : right_view ≡ u). subst (λ (z : View). IsSeated plan r.where_is j z) x record {
+        plans = λ _. plans;
+        spent = λ _. (refl, refl);
+        holds = λ i t h. absurd (some-ne-none t (sym h));
+        pairs = λ n w p. cc p;
+        distinct = tt;
+      })
       (at_snoc vs right_view u j e))
       (let t = total_snoc vs right_view in let q = total_set s.views id v left at in let o = r.shares in omega arith)
       (λ n w. passed_snoc vs right_view n w refl ∙ passed_same s.views n w id v left at refl)
@@ -136,15 +157,34 @@ module _ {T : Type 0} (number_of time_of : T → ℕ) (right : T → Type 0) (pl
       let w_at : get_elem? s.views other ≡ some w = sym (set_else s.views id other both apart) ∙ there in
       reviewed number_of time_of right plan s r us
       (λ j u e i t h. dite (ℕ_discrete j other)
-      (λ same. let is : u ≡ w = some-injective u w (sym e ∙ (ap (get_elem? s.views) same ∙ w_at)) in absurd (some-ne-none t (sym h ∙ ap (held_at i) (ap (λ (y : View). y.held) is ∙ free.0))))
+      (λ same. let is : u ≡ w = some-injective u w (sym e ∙ (ap (get_elem? s.views) same ∙ w_at)) in
+      absurd (some-ne-none t (sym h ∙ ap (held_at i) (ap (λ (y : View). y.held) is ∙ free.0))))
       (λ no. dite (ℕ_discrete j id)
-      (λ same. let is : u ≡ v = some-injective u v (sym e ∙ (ap (get_elem? s.views) same ∙ at)) in
-      (both, set_else vs other j spent no ∙ (ap (get_elem? vs) same ∙ set_mine s.views id both v at), ap (λ (y : View). y.held) (sym is), ap (λ (y : View). y.out) (sym is)))
+      (λ same. let is : u ≡ v = some-injective u v (sym e ∙ (ap (get_elem? s.views) same ∙ at)) in (
+        both,
+        set_else vs other j spent no ∙ (ap (get_elem? vs) same ∙ set_mine s.views id both v at),
+        ap (λ (y : View). y.held) (sym is),
+        ap (λ (y : View). y.out) (sym is),
+      ))
       (λ not_me. (u, set_else vs other j spent no ∙ (set_else s.views id j both not_me ∙ e), refl, refl))))
       (λ j u e. ⊎_elim
-      (λ (y : (j ≡ other) × (spent ≡ u)). subst (λ (z : View). IsSeated plan r.where_is j z) y.1 record { plans = λ pos. absurd (omega arith); spent = λ _. (refl, refl); holds = λ i t h. absurd (some-ne-none t (sym h)); pairs = λ n x p. cc p; distinct = tt })
+      (λ (y : (j ≡ other) × (spent ≡ u)). subst
+      (λ (z : View). IsSeated plan r.where_is j z) y.1 record {
+        plans = λ pos. absurd (omega arith);
+        spent = λ _. (refl, refl);
+        holds = λ i t h. absurd (some-ne-none t (sym h));
+        pairs = λ n x p. cc p;
+        distinct = tt;
+      })
       (λ (y : (j ≢ other) × (get_elem? vs j ≡ some u)). ⊎_elim
-      (λ (z : (j ≡ id) × (both ≡ u)). subst (λ (q : ℕ × View). IsSeated plan r.where_is q.0 q.1) (λ k. (sym z.0 k, z.1 k)) record { plans = λ _. old.plans share; spent = λ none_left. absurd (omega arith); holds = old.holds; pairs = old.pairs; distinct = old.distinct })
+      (λ (z : (j ≡ id) × (both ≡ u)). subst (λ (q : ℕ × View). IsSeated plan r.where_is q.0 q.1)
+      (λ k. (sym z.0 k, z.1 k)) record {
+        plans = λ _. old.plans share;
+        spent = λ none_left. absurd (omega arith);
+        holds = old.holds;
+        pairs = old.pairs;
+        distinct = old.distinct;
+      })
       (λ (z : (j ≢ id) × (get_elem? s.views j ≡ some u)). r.each_seat j u z.1)
       (at_set s.views id j both u y.1))
       (at_set vs other j spent u e))
@@ -160,7 +200,8 @@ module _ {T : Type 0} (number_of time_of : T → ℕ) (right : T → Type 0) (pl
   closes id v ws xs whole free (s, seen, _, long, at_home) =
       let r = seen.0 in let at = seen.1 in
       let idle : (j : ℕ) (u : View) → get_elem? s.views j ≡ some u → (u.held ≡ []) × (u.passed ≡ []) = λ j u e. dite (ℕ_discrete j id)
-      (λ same. let is : v ≡ u = some-injective v u (sym at ∙ (ap (get_elem? s.views) (sym same) ∙ e)) in (ap (λ (y : View). y.held) (sym is) ∙ free.0, ap (λ (y : View). y.passed) (sym is) ∙ free.1))
+      (λ same. let is : v ≡ u = some-injective v u (sym at ∙ (ap (get_elem? s.views) (sym same) ∙ e)) in
+      (ap (λ (y : View). y.held) (sym is) ∙ free.0, ap (λ (y : View). y.passed) (sym is) ∙ free.1))
       (λ no. (r.each_seat j u e).spent (others_none s.views id j v u at e no (let o = r.shares in omega arith))) in (
         (λ i. clock_of time_of (r.where_is i)),
         subst (AreTied plan (λ i. clock_of time_of (r.where_is i))) (λ k n x. none_passed s.views n x (λ j u e. (idle j u e).1) k) r.times,
@@ -168,13 +209,15 @@ module _ {T : Type 0} (number_of time_of : T → ℕ) (right : T → Type 0) (pl
         λ i lt. there i (r.where_is i) refl (r.each_item i lt) idle,
       )
     where
-      there : (i : ℕ) (c : Whereabouts T) → seen.0.where_is i ≡ c → IsThere number_of time_of right s i c → ((j : ℕ) (u : View) → get_elem? s.views j ≡ some u → (u.held ≡ []) × (u.passed ≡ []))
+      there : (i : ℕ) (c : Whereabouts T) → seen.0.where_is i ≡ c → IsThere number_of time_of right s i c
+          → ((j : ℕ) (u : View) → get_elem? s.views j ≡ some u → (u.held ≡ []) × (u.passed ≡ []))
           → (x : T) × (get_elem? xs i ≡ some (Some x)) × (number_of x ≡ i) × (time_of x ≡ clock_of time_of (seen.0.where_is i)) × right x
       there i (home x) e l idle = (x, at_home i (Some x) l.1, l.2, ap (clock_of time_of) (sym e), l.3)
       there i (held j t) e l idle = absurd (some-ne-none t (sym l.1.2 ∙ ap (held_at i) (idle j l.1.0 l.1.1).0))
 
   -- the values of the slots
-  pub are_home : (clock : ℕ → ℕ) (slots : List (Option T)) (values : List T) → AreTied plan clock (λ n w. false) → length slots ≡ items_of plan → AtHome clock slots → map Some values ≡ slots
+  pub are_home : (clock : ℕ → ℕ) (slots : List (Option T)) (values : List T) → AreTied plan clock (λ n w. false) → length slots ≡ items_of plan
+      → AtHome clock slots → map Some values ≡ slots
       → AreHome number_of time_of right plan values
   are_home clock slots values ties long each same = record {
     clock = clock;

@@ -1,5 +1,5 @@
 -- Seats of a locker: which hold nothing, and which have just claimed an item.
-use Rattle.std.proofs.Common.{◌≡◌, ℕ, ◌<◌, [], ◌∷◌, List, Option, Some, None, sym, subst, refl, ap, ◌∙◌}
+use Rattle.std.proofs.Common.{◌≡◌, ℕ, ◌<◌, [], ◌∷◌, Option, Some, None, sym, subst, refl, ap, ◌∙◌}
 use mathlib.Core.Option.{some, some-ne-none}
 use Rattle.atomic_table.specs.Table.{Me}
 use Rattle.atomic_table.specs.declared.shared.Seat.{Seat}
@@ -19,7 +19,8 @@ module _ {T : Type 0} where
       by (Some item) e = let h = own.out_held item e in absurd (some-ne-none h.0 (sym h.1 ∙ ap (held_at item) free.0))
 
   -- a seat that has claimed an item, whose slot is out and empty
-  pub claims_seat : (locker : LockerView) (seat : Seat (Option T) View) (item time : ℕ) (v : View) → seat.table_id ≡ locker.table → v.plan ≡ locker.plan → 0 < v.share
+  pub claims_seat : (locker : LockerView) (seat : Seat (Option T) View) (item time : ℕ) (v : View) → seat.table_id ≡ locker.table → v.plan ≡ locker.plan
+      → 0 < v.share
       → seat.me ≡ (claims item time v, (item, None) ∷ []) → IsSeatOf locker seat
   claims_seat locker seat item time v table plan share is = record {
     table = table;

@@ -1,5 +1,5 @@
 -- A function changed at one number, lists of held items, and lists changed at one place.
-use Rattle.std.proofs.Common.{◌≡◌, ◌≢◌, ℕ, zero, suc, eqb, Bool, true, false, ◌&&◌, ◌||◌, ◌==◌, ◌+◌, List, [], ◌∷◌, set, sym, refl, ap, ◌∙◌, subst, eq-eqb, ne_eqb, ◌⊎◌, inl, inr, ⊎_elim, arith}
+use Rattle.std.proofs.Common.{◌≡◌, ◌≢◌, ℕ, zero, suc, Bool, true, false, ◌&&◌, ◌||◌, ◌==◌, ◌+◌, List, [], ◌∷◌, set, sym, refl, ap, ◌∙◌, subst, eq-eqb, ne_eqb, ◌⊎◌, inl, inr, ⊎_elim, arith}
 use mathlib.Core.Path.{Path}
 use mathlib.Core.Logic.{dite}
 use mathlib.Core.Option.{none, some, some-injective, some-ne-none}
@@ -92,9 +92,11 @@ or_right true b e = refl
 or_right false b e = e
 
 -- a pair that some seat has
-pub passed_seat : (views : List View) (n w : ℕ) → passed_by views n w ≡ true → (j : ℕ) × (v : View) × (get_elem? views j ≡ some v) × (has_pair n w v.passed ≡ true)
+pub passed_seat : (views : List View) (n w : ℕ) → passed_by views n w ≡ true
+    → (j : ℕ) × (v : View) × (get_elem? views j ≡ some v) × (has_pair n w v.passed ≡ true)
 passed_seat [] n w e = cc e
-passed_seat (v ∷ vs) n w e = ⊎_elim (λ here. (0, v, refl, here)) (λ there. let r = passed_seat vs n w there in (suc r.0, r.1, r.2, r.3)) (or_true (has_pair n w v.passed) (passed_by vs n w) e)
+passed_seat (v ∷ vs) n w e = ⊎_elim (λ here. (0, v, refl, here)) (λ there. let r = passed_seat vs n w there in (suc r.0, r.1, r.2, r.3))
+    (or_true (has_pair n w v.passed) (passed_by vs n w) e)
 
 pub seat_passed : (views : List View) (n w j : ℕ) (v : View) → get_elem? views j ≡ some v → has_pair n w v.passed ≡ true → passed_by views n w ≡ true
 seat_passed [] n w j v at e = absurd (some-ne-none v (sym at))
@@ -102,7 +104,8 @@ seat_passed (x ∷ xs) n w zero v at e = let h : has_pair n w x.passed ≡ true 
 seat_passed (x ∷ xs) n w (suc j) v at e = or_right (has_pair n w x.passed) (passed_by xs n w) (seat_passed xs n w j v at e)
 
 -- a seat that has the pair afterwards exactly where it had it before
-pub passed_same : (views : List View) (n w j : ℕ) (v u : View) → get_elem? views j ≡ some v → has_pair n w u.passed ≡ has_pair n w v.passed → passed_by (set views j u) n w ≡ passed_by views n w
+pub passed_same : (views : List View) (n w j : ℕ) (v u : View) → get_elem? views j ≡ some v → has_pair n w u.passed ≡ has_pair n w v.passed
+    → passed_by (set views j u) n w ≡ passed_by views n w
 passed_same [] n w j v u at e = refl
 passed_same (x ∷ xs) n w zero v u at e = ap (λ b. b || passed_by xs n w) (e ∙ ap (λ (y : View). has_pair n w y.passed) (sym (some-injective x v at)))
 passed_same (x ∷ xs) n w (suc j) v u at e = ap (λ b. has_pair n w x.passed || b) (passed_same xs n w j v u at e)

@@ -8,7 +8,11 @@ use atomic_table::Closed;
 use std::alloc::Global;
 
 // Takes the values out of their slots, in order, into `room`.
-pub(crate) fn take_all<T>(mut closed: Closed<Option<T>, Global>, mut room: Vec<T>, count: usize) -> Vec<T>
+pub(crate) fn take_all<T>(
+    mut closed: Closed<Option<T>, Global>,
+    mut room: Vec<T>,
+    count: usize,
+) -> Vec<T>
     requires full { IsFull closed.slots × IsFull closed.words × (slots_len closed.slots ≡ count) × (length (slots_items closed.slots) ≡ count) }
     requires values { (item : ℕ) → item < count → (value : T) × (get_elem? (slots_items closed.slots) item ≡ some (Some value)) }
     requires room { (room.items ≡ []) × (count ≤ vec_capacity room) }

@@ -42,7 +42,8 @@ impl<T: Timed> Model for Locker<T> {
 
     ghost view = { λ l. record { plan = l.plan; table = l.table.shared.table_id } };
 
-    ghost invariant = { λ l. (l.table.shared.key ≡ l.plan) × (l.table.shared.table_id.words ≡ l.items) × (l.table.shared.table_id.slots ≡ l.items) × (l.items ≡ items_of l.plan) × (0 < l.items) × (l.room.items ≡ []) × (l.items ≤ vec_capacity l.room) };
+    ghost invariant = { λ l. (l.table.shared.key ≡ l.plan) × (l.table.shared.table_id.words ≡ l.items) × (l.table.shared.table_id.slots ≡ l.items)
+        × (l.items ≡ items_of l.plan) × (0 < l.items) × (l.room.items ≡ []) × (l.items ≤ vec_capacity l.room) };
 }
 
 impl<T: Timed> Locker<T> {
@@ -119,7 +120,9 @@ impl<T: Timed> Locker<T> {
         ensures view { view_of seat.new ≡ puts_back item (view_of seat.old) }
     {
         let word = self.fill(seat, item, value);
-        self.table.shared.store::<Release>(seat, item as usize, word - 1);
+        self.table
+            .shared
+            .store::<Release>(seat, item as usize, word - 1);
     }
 
     /// The value goes home one half step later: a wire before its node.
@@ -133,7 +136,9 @@ impl<T: Timed> Locker<T> {
         ensures view { view_of seat.new ≡ passes self.now.plan item (T.time_of value - 1) (view_of seat.old) }
     {
         let word = self.fill(seat, item, value);
-        self.table.shared.store::<Pass>(seat, item as usize, word + 1);
+        self.table
+            .shared
+            .store::<Pass>(seat, item as usize, word + 1);
     }
 
     /// A new seat with the lesser half of the share, and the seat with the rest.

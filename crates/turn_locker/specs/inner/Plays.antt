@@ -24,7 +24,7 @@ module _ {T : Type 0} where
   abbrev pub claimed : (T → ℕ) → (T → ℕ) → (T → Type 0) → Step (Option T) → Me (Option T) View → ℕ → Me (Option T) View → Type 0
   claimed number_of time_of right st m word m' =
       (word ≡ st.first → (value : T) × (m' ≡ (claims st.word (time_of value) m.0, (st.word, Some value) ∷ []))
-        × (home_word (time_of value) ≡ st.first) × (number_of value ≡ st.word) × right value)
+      × (home_word (time_of value) ≡ st.first) × (number_of value ≡ st.word) × right value)
       × (word ≢ st.first → m' ≡ (looks st.word word m.0, m.1))
 
   abbrev pub released : Step (Option T) → Me (Option T) View → ℕ → Me (Option T) View → Type 0

@@ -1,4 +1,4 @@
-use Rattle.std.proofs.Common.{rules, ◌++◌, ◌∷◌, [], sym, ap, ◌∙◌, map, Some}
+use Rattle.std.proofs.Common.{rules, sym, ap, ◌∙◌, map, Some}
 use mathlib.Core.Option.{some, some-injective}
 use lib.ListN.{get_elem?}
 use Rattle.turn_locker.proofs.Values.{one_more, filled_less, emptied_more}

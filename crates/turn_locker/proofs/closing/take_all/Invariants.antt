@@ -1,4 +1,4 @@
-use Rattle.std.proofs.Common.{◌≡◌, ◌≤◌, ℕ, ◌<◌, ◌+◌, length, map, take, vec_capacity, false, get_or, Some}
+use Rattle.std.proofs.Common.{◌≡◌, ◌≤◌, ℕ, ◌<◌, length, map, take, vec_capacity, false, get_or, Some}
 use Rattle.std.specs.Slots.{slots_items, slots_filled, slots_len, IsFull}
 use Rattle.std.specs.Slots.Ownership.{Filled}
 use Rattle.turn_locker.proofs.closing.take_all.Given as goal

@@ -1,4 +1,4 @@
-use Rattle.std.proofs.Common.{rules, ◌<◌, ◌≡◌, ℕ, ap, sym, ◌∙◌, subst, arith}
+use Rattle.std.proofs.Common.{◌<◌, ℕ, ap, sym, ◌∙◌, subst}
 use Rattle.hume_net.specs.declared.plan.Plan.{Plan}
 use Rattle.turn_locker.specs.Closing.{AreHome}
 use Rattle.turn_locker.specs.Held.{items_of}
@@ -22,5 +22,6 @@ pub returns : goal.returns
 returns g c =
     let whole = closes g.T.Timed.number_of g.T.Timed.time_of g.T.Timed.right _ _ _ _ _ c.requires.whole c.requires.free c.close_with.ensures.values.2 in
     let locker = c.self.invariant in
-    subst (λ (p : Plan). AreHome g.T.Timed.number_of g.T.Timed.time_of g.T.Timed.right p c.take_all.result.items) (locker.0 ∙ ap (λ (l : LockerView). l.plan) c.self.view_is)
+    subst (λ (p : Plan). AreHome g.T.Timed.number_of g.T.Timed.time_of g.T.Timed.right p c.take_all.result.items)
+    (locker.0 ∙ ap (λ (l : LockerView). l.plan) c.self.view_is)
     (are_home g.T.Timed.number_of g.T.Timed.time_of g.T.Timed.right _ whole.0 _ c.take_all.result.items whole.1 whole.2 whole.3 c.take_all.ensures)

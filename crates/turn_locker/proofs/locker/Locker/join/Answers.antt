@@ -1,5 +1,4 @@
-use Rattle.std.proofs.Common.{rules, sym, ap, ◌∙◌}
-use Rattle.turn_locker.specs.Seats.{outs_of}
+use Rattle.std.proofs.Common.{rules}
 use Rattle.turn_locker.proofs.Ends.{joins}
 use Rattle.turn_locker.proofs.Seats.{nothing_out}
 use Rattle.turn_locker.proofs.locker.Locker.join.Goals as goal

@@ -1,4 +1,4 @@
-use Rattle.std.proofs.Common.{rules, ◌<◌, ◌∷◌, ℕ, Some, None, sym, subst, ap, ◌∙◌, arith}
+use Rattle.std.proofs.Common.{rules, ◌<◌, ◌∷◌, Some, None, sym, subst, ap, ◌∙◌}
 use Rattle.atomic_table.specs.Table.{rest}
 use Rattle.hume_net.specs.declared.plan.Plan.{Plan}
 use Rattle.turn_locker.specs.declared.view.View.{View}
@@ -10,10 +10,12 @@ use Rattle.turn_locker.proofs.locker.Locker.try_claim.Goals as goal
 
 pub compare_exchange-requires : goal.compare_exchange-requires
 compare_exchange-requires g c =
-    let looked = c.look-word.ensures in let view = ap (λ m. m.0) looked.view in let key = sym (c.self.invariant.0 ∙ ap (λ (l : LockerView). l.plan) c.self.view_is) in (
+    let looked = c.look-word.ensures in let view = ap (λ m. m.0) looked.view in
+    let key = sym (c.self.invariant.0 ∙ ap (λ (l : LockerView). l.plan) c.self.view_is) in (
       search rules,
       search rules,
-      claims_step _ _ _ _ _ _ _ c.args.time _ _ (search rules) (subst (λ (p : Plan). c.args.item < items_of p) key c.requires.item) looked.own.share (ap (λ m. m.1) looked.view) (ap (λ (v : View). v.out) view),
+      claims_step _ _ _ _ _ _ _ c.args.time _ _ (search rules) (subst (λ (p : Plan). c.args.item < items_of p) key c.requires.item) looked.own.share
+          (ap (λ m. m.1) looked.view) (ap (λ (v : View). v.out) view),
     )
 
 pub exchange-requires : goal.exchange-requires
@@ -23,5 +25,6 @@ exchange-requires g c = let did = c.compare_exchange.ensures.2.0 c.if-compare_ex
 pub returns-clause-own : goal.returns-clause-own
 returns-clause-own g c =
     let looked = c.look-word.ensures in let did = c.compare_exchange.ensures.2.0 c.if-compare_exchange-word.false in let moved = c.exchange.ensures in
-    claims_seat c.args.self.now c.exchange.new.seat c.args.item (g.T.Timed.time_of did.0) c.look-word.new.seat.me.0 (moved.0 ∙ (c.compare_exchange.ensures.0 ∙ looked.own.table)) looked.own.plan looked.own.share
-        (moved.3 ∙ ap (λ m. (m.0, (c.args.item, None) ∷ rest m.1)) did.1)
+    claims_seat c.args.self.now c.exchange.new.seat c.args.item (g.T.Timed.time_of did.0) c.look-word.new.seat.me.0
+    (moved.0 ∙ (c.compare_exchange.ensures.0 ∙ looked.own.table)) looked.own.plan looked.own.share
+    (moved.3 ∙ ap (λ m. (m.0, (c.args.item, None) ∷ rest m.1)) did.1)
