@@ -3,7 +3,6 @@ use Rattle.std.proofs.Common.{◌≡◌, ◌≢◌, ℕ, Bool, true, false, nat_
 use Rattle.std.proofs.lemmas.Bool.{ltb-false, ltb-true}
 use mathlib.Core.Logic.{dite}
 use mathlib.Core.Option.{none, some, some-injective, some-ne-none}
-use mathlib.Core.Option as maybe
 use native.Mathlib.Decide.{ℕ_discrete}
 use lib.ListN.{get_elem?}
 use Rattle.std.specs.Prelude.{Option, Some, None}
@@ -16,9 +15,9 @@ use Rattle.hume_net.specs.Times.{mover, IsOfSide}
 use Rattle.turn_locker.specs.declared.view.View.{View}
 use Rattle.turn_locker.specs.Asking.{MayPass, MayPassWire, MayPassNode}
 use Rattle.turn_locker.specs.Held.{items_of, held_at, without, has_pair, pairs_but}
-use Rattle.turn_locker.specs.Rule.{home_word, is_out, Whereabouts, home, held, clock_of, executed, asserted, IsTied, AreTied, AreUnderWay, KeepsTurns}
+use Rattle.turn_locker.specs.Rule.{home_word, is_out, Whereabouts, home, clock_of, executed, asserted, IsTied, AreTied, AreUnderWay, KeepsTurns}
 use Rattle.turn_locker.specs.Views.{passed_by, passes}
-use Rattle.turn_locker.specs.inner.Plays.{passed_on, with_slot}
+use Rattle.turn_locker.specs.Plays.{passed_on, with_slot}
 use Rattle.turn_locker.proofs.Clocks.{wire_even, wire_odd, executed_goes, asserted_goes, not_even, not_odd}
 use Rattle.turn_locker.proofs.Moved.{moved, after}
 use Rattle.turn_locker.proofs.Steps.{held_once, not_out_else}

@@ -1,7 +1,6 @@
 -- A load, a claim and a put back keep the rule.
 use Rattle.std.proofs.Common.{◌≡◌, ◌≢◌, ℕ, false, eqb, ◌+◌, ◌<◌, List, [], ◌∷◌, length, get_or, set, sym, refl, ap, ◌∙◌, subst, arith, length-set, get_or-set_same, eq-eqb, ne_eqb}
 use mathlib.Core.Option.{none, some, some-injective, some-ne-none}
-use mathlib.Core.Option as maybe
 use lib.ListN.{get_elem?}
 use lib.Seq.{set-get_or}
 use prog.Atomic.{either}
@@ -16,7 +15,7 @@ use Rattle.turn_locker.specs.Held.{items_of, held_at, without, has_pair}
 use Rattle.turn_locker.specs.Rule.{home_word, held_word, is_out, held_slot, Whereabouts, home, held, clock_of, IsThere, KeepsTurns, AreUnderWay}
 use Rattle.turn_locker.specs.Seats.{outs_of}
 use Rattle.turn_locker.specs.Views.{looks, claims, puts_back}
-use Rattle.turn_locker.specs.inner.Plays.{with_slot, looked, grasped, claimed, released}
+use Rattle.turn_locker.specs.Plays.{with_slot, looked, grasped, claimed, released}
 use Rattle.turn_locker.proofs.Moved.{moved, after, times_stay, looked_at}
 use Rattle.turn_locker.proofs.Updates.{set_mine, held_here, held_else, without_here, without_else, true_not_false}
 

@@ -1,6 +1,6 @@
 -- The items of a plan, the lists of items that a seat holds, and the lists of wires that it has passed. A held item stands in a
 -- list with the time at which it is held, and a passed wire with the node for which it was passed.
-use Rattle.std.specs.Prelude.{◌≡◌, ℕ, ⊤, Bool, true, false, ◌&&◌, ◌||◌, ◌+◌, ◌==◌, List, [], ◌∷◌, if◌then◌else◌}
+use Rattle.std.specs.Prelude.{◌≡◌, ℕ, ⊤, Bool, false, ◌&&◌, ◌||◌, ◌+◌, ◌==◌, List, [], ◌∷◌, if◌then◌else◌}
 use mathlib.Core.Option.{Option, none, some}
 use Rattle.hume_net.specs.declared.plan.Plan.{Plan}
 use Rattle.hume_net.specs.Plan.{wires_of}

@@ -5,4 +5,4 @@ pub mod Asking
 pub mod Seats
 pub mod Closing
 pub mod Counts
-pub mod inner
+pub mod Plays

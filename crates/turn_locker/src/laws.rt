@@ -11,7 +11,7 @@ ghost use Rattle.turn_locker.specs.declared.view.View.{View};
 ghost use Rattle.turn_locker.specs.Asking.{MayPass, MayPutBack};
 ghost use Rattle.turn_locker.specs.Counts.{count_in};
 ghost use Rattle.turn_locker.specs.Held.{held_at, items_of};
-ghost use Rattle.turn_locker.specs.inner.Plays.{claimed, looked, passed_on, released};
+ghost use Rattle.turn_locker.specs.Plays.{claimed, looked, passed_on, released};
 ghost use Rattle.turn_locker.specs.Rule.{AreTied, KeepsTurns, held_word, home_word};
 ghost use Rattle.turn_locker.specs.Seats.{outs_of};
 ghost use Rattle.turn_locker.specs.Views.{HoldsNothing, both_shares, kept_half, new_half, spent};

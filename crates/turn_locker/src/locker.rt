@@ -7,7 +7,7 @@ ghost use Rattle.turn_locker.specs.Held.{held_at, items_of};
 ghost use Rattle.turn_locker.specs.Rule.{home_word, held_word};
 ghost use Rattle.turn_locker.specs.Seats.{IsSeatOf, view_of};
 ghost use Rattle.turn_locker.specs.Views.{HoldsNothing, both_shares, claims, kept_half, looks, new_half, newcomer, passes, puts_back, whole_share};
-ghost use Rattle.turn_locker.specs.inner.Plays.{with_slot};
+ghost use Rattle.turn_locker.specs.Plays.{with_slot};
 ghost use Rattle.hume_net.specs.Plan.{IsPlan};
 
 use crate::closing::take_all;

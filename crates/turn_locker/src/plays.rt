@@ -1,5 +1,5 @@
 //! What each step on the table tells.
-ghost use Rattle.turn_locker.specs.inner.Plays.{looked, grasped, claimed, released, passed_on};
+ghost use Rattle.turn_locker.specs.Plays.{looked, grasped, claimed, released, passed_on};
 
 use crate::timed::Timed;
 use crate::view::View;
