@@ -1,0 +1,5 @@
+pub mod Moving
+pub mod Union
+pub mod Shares
+pub mod Room
+pub mod inner
