@@ -29,7 +29,7 @@ boxes() {
 streams() {
     for ((n = 0; n < $1; n += 2)); do
         printf 'stream s%s from "i%s" ;\nstream t%s to "o%s" ;\n' "$n" "$n" "$n" "$n"
-    done | head -n "$1"
+    done | sed -n "1,$1p"
 }
 
 # parts BEFORE AFTER COUNT: so many pieces, numbered, with commas between
