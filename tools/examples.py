@@ -50,6 +50,11 @@ class Room:
         shutil.rmtree(self.path)
 
     def call(self, words):
+        """The call as a user makes it, by the command."""
+        return call(words, self.path, read(self.example, "stdin"))
+
+    def call_program(self, words):
+        """The same by the built program itself, which takes less time."""
         return call(words, self.path, read(self.example, "stdin"), self.program)
 
     def files(self):
@@ -98,10 +103,12 @@ def compare_call(example):
     with Room(example) as room:
         files = room.files() | {it: read(wanted, it) for it in outputs(example)}
         done = room.call(words_of(example))
+        # A call that fails may say why, in one line.
+        told = done.stderr if done.returncode and done.stderr.count(b"\n") == 1 else b""
         return (
             first_difference("status", read(wanted, "status").strip(), str(done.returncode).encode())
             or first_difference("standard output", read(wanted, "table") + read(wanted, "stdout"), done.stdout)
-            or first_difference("standard error", b"", done.stderr)
+            or first_difference("standard error", told, done.stderr)
             or file_differences(files, room.files())
         )
 
@@ -113,7 +120,7 @@ def compare_check(example):
         return None
     with Room(example) as room:
         files = room.files()
-        done = room.call(["check", words[1] if words[0] == "check" else words[3]])
+        done = room.call_program(["check", words[1] if words[0] == "check" else words[3]])
         return (
             first_difference("status of a check", b"0", str(done.returncode).encode())
             or first_difference("standard output of a check", table, done.stdout)
@@ -134,7 +141,7 @@ def compare_counts(example):
             for name in outputs(example):
                 values = [it[2] for it in lines if int(it[0]) <= steps and it[1].decode() == name]
                 files[name] = b"".join(it + b"\n" for it in values)
-            room.call(["run", str(steps), *words[2:]])
+            room.call_program(["run", str(steps), *words[2:]])
             if difference := file_differences(files, room.files()):
                 return f"by superstep {steps}: {difference}"
     return None

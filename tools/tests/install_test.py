@@ -5,6 +5,8 @@ import unittest
 
 from setting import ADD, TOP, InRoom
 
+from main import WORDS
+
 LINKS = ["bin/hume", "share/bash-completion/completions/hume", "share/man/man1/hume.1"]
 
 
@@ -42,8 +44,6 @@ COMP_WORDS=("$@") COMP_CWORD=$(($# - 1)) && _hume && printf '%s\\n' "${{COMPREPL
         return sorted(done.stdout.decode().split())
 
     def test_words(self):
-        from main import WORDS
-
         self.assertEqual(self.complete("hume", "w"), ["watch", "waves"])
         self.assertLessEqual(set(WORDS), set(self.complete("hume", "")))
 

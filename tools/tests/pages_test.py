@@ -8,11 +8,14 @@ import unittest
 
 from setting import TOP, InRoom
 
+from main import WORDS
+
 BLOCK = re.compile(r"^```\n(\$ .*?)^```$", re.MULTILINE | re.DOTALL)
 COMMAND = """#!/bin/sh
 case $1 in
-check | run | trace) exec "${HUME_PROGRAM:-%s/hume}" "$@" ;;
-*) exec %s -B %s/tools/main.py "$@" ;;
+check | run | trace) exec "$HUME_PROGRAM" "$@" ;;
+%s) exec %s -B %s/tools/main.py "$@" ;;
+*) exec %s/hume "$@" ;;
 esac
 """
 
@@ -37,7 +40,7 @@ class Pages(InRoom):
     def setUp(self):
         super().setUp()
         shutil.copytree(os.path.join(TOP, "examples"), os.path.join(self.room, "examples"))
-        path = self.put("hume", COMMAND % (TOP, sys.executable, TOP))
+        path = self.put("hume", COMMAND % (" | ".join(WORDS), sys.executable, TOP, TOP))
         os.chmod(path, 0o755)
 
     def try_block(self, block):
@@ -61,8 +64,6 @@ class Pages(InRoom):
         self.try_page("docs/COMMANDS.md", 4)
 
     def test_each_word_has_a_section(self):
-        from main import WORDS
-
         sections = " ".join(re.findall(r"^## (.*)$", page("docs/COMMANDS.md"), re.MULTILINE))
         for word in WORDS:
             self.assertRegex(sections, rf"`{word}\b")

@@ -5,7 +5,7 @@ import shutil
 import subprocess
 import unittest
 
-from setting import ADD, TOP, InRoom, sources
+from setting import ADD, InRoom, sources
 
 from source import read_net
 from tracing import read_trace
