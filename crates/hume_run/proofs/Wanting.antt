@@ -82,34 +82,42 @@ fit_first true line later none = cc
 fit_first false line later none = (refl, none)
 
 module _ (names : List (List ℕ)) (source : List ℕ) where
-  -- a fit port isn't the source's
-  not_source : (earlier : List (List ℕ)) (port : List ℕ) → is_unfit names source earlier port ≡ false → bytes_eq port source ≡ false
-  not_source earlier port fit =
-      (or_parts (bytes_eq port source) (is_among port earlier)
-      (or_parts (is_none (place_of port names)) (bytes_eq port source || is_among port earlier) fit).1).0
+  -- a fit port is there, and isn't the source's
+  abbrev pub IsFit : List ℕ → Type 0
+  IsFit port = (is_none (place_of port names) ≡ false) × (bytes_eq port source ≡ false)
 
-  abbrev Apart : List NodeC → ℕ → Type 0
-  Apart nodes n = (stream : StreamC) → slice_get nodes n ≡ Some (From stream) → bytes_eq stream.port source ≡ false
+  is_fit : (earlier : List (List ℕ)) (port : List ℕ) → is_unfit names source earlier port ≡ false → IsFit port
+  is_fit earlier port fit =
+      let parts = or_parts (is_none (place_of port names)) (bytes_eq port source || is_among port earlier) fit in
+      (parts.0, (or_parts (bytes_eq port source) (is_among port earlier) parts.1).0)
+
+  abbrev AllFit : List NodeC → ℕ → Type 0
+  AllFit nodes n = (stream : StreamC) → slice_get nodes n ≡ Some (From stream) → IsFit stream.port
 
   same_stream : (first second : StreamC) → ◌≡◌ {A = Option NodeC} (Some (From first)) (Some (From second)) → first ≡ second
   same_stream first second e = cc
 
-  -- where no port is unfit, no input stream's is the source's
+  -- where no port is unfit, those of the input streams are fit
+  pub fit_inputs : (nodes : List NodeC) (earlier : List (List ℕ)) → unfit_line names source earlier (filter_map stream_of nodes) ≡ None → (n : ℕ)
+      → AllFit nodes n
+  fit_inputs [] earlier fit n stream at = cc
+  fit_inputs (Rules b ∷ nodes) earlier fit zero stream at = cc
+  fit_inputs (Rules b ∷ nodes) earlier fit (suc n) stream at = fit_inputs nodes earlier fit n stream at
+  fit_inputs (To other ∷ nodes) earlier fit zero stream at = cc
+  fit_inputs (To other ∷ nodes) earlier fit (suc n) stream at =
+      let f = fit_first (is_unfit names source earlier other.port) other.line
+      (unfit_line names source (earlier ++ other.port ∷ []) (filter_map stream_of nodes)) fit in
+      fit_inputs nodes (earlier ++ other.port ∷ []) f.1 n stream at
+  fit_inputs (From other ∷ nodes) earlier fit zero stream at =
+      let f = fit_first (is_unfit names source earlier other.port) other.line
+      (unfit_line names source (earlier ++ other.port ∷ []) (filter_map stream_of nodes)) fit in
+      subst (λ (s : StreamC). IsFit s.port) (same_stream other stream at) (is_fit earlier other.port f.0)
+  fit_inputs (From other ∷ nodes) earlier fit (suc n) stream at =
+      let f = fit_first (is_unfit names source earlier other.port) other.line
+      (unfit_line names source (earlier ++ other.port ∷ []) (filter_map stream_of nodes)) fit in
+      fit_inputs nodes (earlier ++ other.port ∷ []) f.1 n stream at
+
+  -- so no input stream's is the source's
   pub apart_from_source : (nodes : List NodeC) (earlier : List (List ℕ)) → unfit_line names source earlier (filter_map stream_of nodes) ≡ None → (n : ℕ)
-      → Apart nodes n
-  apart_from_source [] earlier fit n stream at = cc
-  apart_from_source (Rules b ∷ nodes) earlier fit zero stream at = cc
-  apart_from_source (Rules b ∷ nodes) earlier fit (suc n) stream at = apart_from_source nodes earlier fit n stream at
-  apart_from_source (To other ∷ nodes) earlier fit zero stream at = cc
-  apart_from_source (To other ∷ nodes) earlier fit (suc n) stream at =
-      let f = fit_first (is_unfit names source earlier other.port) other.line
-      (unfit_line names source (earlier ++ other.port ∷ []) (filter_map stream_of nodes)) fit in
-      apart_from_source nodes (earlier ++ other.port ∷ []) f.1 n stream at
-  apart_from_source (From other ∷ nodes) earlier fit zero stream at =
-      let f = fit_first (is_unfit names source earlier other.port) other.line
-      (unfit_line names source (earlier ++ other.port ∷ []) (filter_map stream_of nodes)) fit in
-      subst (λ (s : StreamC). bytes_eq s.port source ≡ false) (same_stream other stream at) (not_source earlier other.port f.0)
-  apart_from_source (From other ∷ nodes) earlier fit (suc n) stream at =
-      let f = fit_first (is_unfit names source earlier other.port) other.line
-      (unfit_line names source (earlier ++ other.port ∷ []) (filter_map stream_of nodes)) fit in
-      apart_from_source nodes (earlier ++ other.port ∷ []) f.1 n stream at
+      (stream : StreamC) → slice_get nodes n ≡ Some (From stream) → bytes_eq stream.port source ≡ false
+  apart_from_source nodes earlier fit n stream at = (fit_inputs nodes earlier fit n stream at).1

@@ -5,4 +5,5 @@ pub mod Owed
 pub mod Few
 pub mod Headline
 pub mod Faults
+pub mod Calls
 pub mod inner

@@ -1,5 +1,5 @@
 //! Laws of the definitions, as contracts of functions that do nothing.
-ghost use Rattle.std.specs.Prelude.{◌≡◌, ◌++◌, ◌∷◌, [], ℕ, Bool, List, None, Some, false, true, slice_get};
+ghost use Rattle.std.specs.Prelude.{◌≡◌, ◌⊎◌, ◌++◌, ◌∷◌, [], ℕ, Bool, List, None, Some, false, true, slice_get};
 ghost use Rattle.std.specs.Str.{bytes_eq};
 ghost use Rattle.hume_base.specs.declared.rule.Refusal.{Refusal};
 ghost use Rattle.hume_model.specs.declared.core_tree.BoxC.{BoxC};
@@ -11,11 +11,11 @@ ghost use Rattle.box_costs.specs.Costs.{IsAtMost};
 ghost use Rattle.box_costs.specs.Bounds.{box_bound};
 ghost use Rattle.net_costs.specs.Steps.{step_spent};
 ghost use Rattle.hume_ports.specs.Port.{PortView};
-ghost use Rattle.hume_ports.specs.Ports.{is_among};
+ghost use Rattle.hume_ports.specs.Ports.{is_among, names, place_of};
 ghost use Rattle.hume_ports.specs.Delivery.{Delivered, names_in};
 ghost use Rattle.port_acts.specs.Acts.{finished, wanted, written};
 ghost use Rattle.port_acts.specs.Early.{after_reads};
-ghost use Rattle.port_acts.specs.Ends.{Fails, NoneRose, Owed};
+ghost use Rattle.port_acts.specs.Ends.{Fails, NoneRose, Owed, bytes_of};
 ghost use Rattle.hume_front.specs.declared.acceptance.Accepted.{Accepted};
 ghost use Rattle.hume_front.specs.Accepted.{IsAccepted};
 ghost use Rattle.run_rounds.specs.Inputs.{Inputs, AreInputs};
@@ -23,10 +23,13 @@ ghost use Rattle.run_rounds.specs.Streams.{inputs, ports_of, std_out, streams};
 ghost use Rattle.run_rounds.specs.Writes.{writes};
 ghost use Rattle.hume_run.specs.declared.order.Order.{Order};
 ghost use Rattle.hume_run.specs.declared.status.Status.{Status};
+ghost use Rattle.hume_run.specs.declared.status.Status.TheVariants.{Usage, NoMemory};
 ghost use Rattle.hume_run.specs.Streams.{unfit_line};
 ghost use Rattle.hume_run.specs.Owed.{IsOwed, owed_refused, owed_check, owed_run, refused_line, run_finishes, table_writes};
 ghost use Rattle.hume_run.specs.Few.{call_few};
-ghost use Rattle.hume_run.specs.Headline.{source_reads};
+ghost use Rattle.hume_run.specs.Headline.{source_reads, Headline};
+ghost use Rattle.hume_run.specs.Words.{order_of, source_of};
+ghost use Rattle.hume_run.specs.Calls.{GivesOwed, HaveRoom, HaveSameTexts, IsThrough};
 ghost use Rattle.hume_run.specs.Faults.{FailedInput, HasFault, ReadRose};
 
 use run_rounds::{
@@ -53,6 +56,26 @@ pub fn each_call_owes_one_thing()
         → IsOwed order source text names texts first → IsOwed order source text names texts second → first ≡ second }
 {
     each_run_has_inputs();
+    inputs_are_unique();
+}
+
+/// A call over ports that have room for what it owes gives the owed answer and writes all of it, unless memory runs out.
+pub fn calls_with_room_are_answered()
+    ensures { (words : List (List ℕ)) (order : Order) (old new : List PortView) (status : Status) → order_of words ≡ Some order → (status ≡ Usage → ⊥)
+        → Headline words old new status → HaveRoom order (source_of words order) old
+        → (status ≡ NoMemory) ⊎ GivesOwed order (source_of words order) old new status }
+{
+    each_run_has_inputs();
+}
+
+/// Two calls of the same words, over ports of the same names and with the same texts, that come to their ends give the same answer,
+/// and the same bytes to each port that had told the same: however their reads cut the texts.
+pub fn equal_calls_end_alike()
+    ensures { (words : List (List ℕ)) (order : Order) (old new others later : List PortView) (status other : Status) → order_of words ≡ Some order
+        → (place_of (source_of words order) (names old) ≡ None → ⊥) → HaveSameTexts old others → Headline words old new status → Headline words others later other
+        → IsThrough status → IsThrough other
+        → (status ≡ other) × ((name had : List ℕ) → bytes_of name old ≡ Some had → bytes_of name others ≡ Some had → bytes_of name new ≡ bytes_of name later) }
+{
     inputs_are_unique();
 }
 

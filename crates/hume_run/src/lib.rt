@@ -6,7 +6,8 @@
 //! Proved: `hume` keeps the promise, which `docs/PROOFS.md` explains clause by clause. Memory can run out only before the first
 //! byte is written. Laws: for given words, names and texts a call owes one thing (`each_call_owes_one_thing`), whose writes are
 //! the lines that its definition lists (`calls_write_their_lines`) and whose ports are those of the program's streams and
-//! `std_out` (`runs_touch_their_ports`). A fault comes from one of those ports or the source's (`faults_come_from_their_ports`),
+//! `std_out` (`runs_touch_their_ports`). A call over ports with room is answered as it owes, unless memory runs out
+//! (`calls_with_room_are_answered`), and two calls over the same texts end alike (`equal_calls_end_alike`). A fault comes from one of those ports or the source's (`faults_come_from_their_ports`),
 //! and tells by the counts that rose how far the call had come (`faults_tell_what_was_written`,
 //! `failed_inputs_tell_their_round`). Each execute step of a box in a run of an accepted source takes at most the heap, stack and
 //! work that the table gives it (`runs_keep_bounds`).
@@ -26,8 +27,8 @@ mod top;
 mod words;
 
 pub use laws::{
-    calls_write_their_lines, each_call_owes_one_thing, failed_inputs_tell_their_round,
-    faults_come_from_their_ports, faults_tell_what_was_written, runs_keep_bounds,
+    calls_with_room_are_answered, calls_write_their_lines, each_call_owes_one_thing,
+    equal_calls_end_alike, failed_inputs_tell_their_round, faults_come_from_their_ports, faults_tell_what_was_written, runs_keep_bounds,
     runs_touch_their_ports,
 };
 pub use order::Order;
