@@ -46,14 +46,16 @@ text_told (Some left) = refl
 -- a call owes something over any ports
 owes_something : SomeInputs → (order : Order) (source : List ℕ) (ports : List PortView) → (owed : Owed Status) × OwesOver order source ports owed
 owes_something has_inputs order source ports =
-    let some = some_owed has_inputs order source (text_in (left_of source ports)) (names ports) (told_texts ports) in
-    (some.0, record {
-      text = text_in (left_of source ports);
-      told = text_told (left_of source ports);
-      texts = told_texts ports;
-      texts_told = λ name apart. told_by_all ports name;
-      owes = some.1;
-    })
+    let some = some_owed has_inputs order source (text_in (left_of source ports)) (names ports) (told_texts ports) in (
+      some.0,
+      record {
+        text = text_in (left_of source ports);
+        told = text_told (left_of source ports);
+        texts = told_texts ports;
+        texts_told = λ name apart. told_by_all ports name;
+        owes = some.1;
+      },
+    )
 
 module _ (order : Order) (source : List ℕ) (olds news : List PortView) (status : Status) where
   abbrev pub Ended : Type 0

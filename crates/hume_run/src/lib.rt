@@ -28,8 +28,8 @@ mod words;
 
 pub use laws::{
     calls_with_room_are_answered, calls_write_their_lines, each_call_owes_one_thing,
-    equal_calls_end_alike, failed_inputs_tell_their_round, faults_come_from_their_ports, faults_tell_what_was_written, runs_keep_bounds,
-    runs_touch_their_ports,
+    equal_calls_end_alike, failed_inputs_tell_their_round, faults_come_from_their_ports,
+    faults_tell_what_was_written, runs_keep_bounds, runs_touch_their_ports,
 };
 pub use order::Order;
 pub use status::Status;
