@@ -3,6 +3,7 @@ import glob
 import os
 import subprocess
 import sys
+import tempfile
 
 TOP = os.path.dirname(os.path.dirname(os.path.realpath(__file__)))
 
@@ -31,8 +32,11 @@ def built():
 
 
 def call(words, folder=".", given=b"", program=None):
-    """Runs the program to its end; gives what it wrote and its status."""
-    return subprocess.run([program or command(), *words], cwd=folder, input=given, capture_output=True)
+    """Runs the program to its end; gives what it wrote and its status. It need not read what it is given."""
+    with tempfile.TemporaryFile() as file:
+        file.write(given)
+        file.seek(0)
+        return subprocess.run([program or command(), *words], cwd=folder, stdin=file, capture_output=True)
 
 
 def read_bytes(path):
