@@ -1,0 +1,4 @@
+pub mod Ranges
+pub mod NodeTotals
+pub mod Rounds
+pub mod ChainsTold
