@@ -1,0 +1,12 @@
+//! Why a source is refused: the sentence of the rule, the place, and the remedy.
+//!
+//! Main call: `put_why`. Tokens and grammar tell their place; for a rule of a declaration `narrow` finds the smallest part that,
+//! put away, mends it, and `look_reasons` tells what is wrong with it.
+//!
+//! Proved: nothing beyond safety.
+
+mod expected;
+mod narrow;
+mod telling;
+
+pub(crate) use telling::put_why;

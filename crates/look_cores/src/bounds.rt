@@ -1,0 +1,257 @@
+//! The bounds of boxes, rules and handlers, and what decides them.
+ghost use Rattle.hume_exceptions.specs.Sets.{IsRaisesOf};
+
+use crate::bound::{Bound, Measure};
+use crate::box_bounds::{Ground, built_count, built_variables, greatest, node_bounds, rule_bounds};
+use crate::chain::{Deciding, Form, Link, Stage};
+use hume_base::limits::{MAX_HEAP_WORDS, MAX_SPACE_WORDS, MAX_STACK_WORDS, MAX_WORK};
+use hume_exceptions::{Raises, raises};
+use hume_model::{BoxC, Core, FunC, NodeC};
+use look_sources::Page;
+use std::alloc::{AllocError, Global};
+
+// Links of a chain that are told.
+const MAX_LINKS: u32 = 256;
+
+/// Puts all boxes with their rules and handlers, in source order, and the sum.
+pub fn put_bounds(alloc: Global, core: &Core, page: &mut Page) -> Result<(), AllocError> {
+    let raised = raises(alloc, core)?;
+    let ground = Ground::of(alloc, core)?;
+    for node in core.nodes.as_slice() {
+        if let NodeC::Rules(b) = node {
+            put_box(alloc, core, &raised, &ground, b, page)?;
+        }
+    }
+    let bounds = node_bounds(alloc, core)?;
+    put_total(bounds.as_slice(), page);
+    Ok(())
+}
+
+fn put_total(bounds: &[Bound], page: &mut Page) {
+    let mut heap: u64 = 0;
+    let mut stack: u64 = 0;
+    for bound in bounds {
+        heap = heap.saturating_add(bound.heap);
+        stack = stack.saturating_add(bound.stack);
+    }
+    page.put(b"total heap ");
+    page.number(heap);
+    page.put(b" stack ");
+    page.number(stack);
+    page.put(b"\n");
+    let words = heap.saturating_add(stack);
+    if words > u64::from(MAX_SPACE_WORDS) {
+        page.put(b"  heap and stack are ");
+        page.number(words);
+        put_limit(page, u64::from(MAX_SPACE_WORDS));
+    }
+}
+
+fn put_limit(page: &mut Page, limit: u64) {
+    page.put(b", past the limit of ");
+    page.number(limit);
+    page.put(b"\n");
+}
+
+fn put_box(
+    alloc: Global,
+    core: &Core,
+    raised: &Raises,
+    ground: &Ground,
+    b: &BoxC,
+    page: &mut Page,
+) -> Result<(), AllocError>
+    requires { IsRaisesOf core.now raised.now }
+{
+    let rules = rule_bounds(alloc, core, raised, ground, b)?;
+    let bound = greatest(rules.as_slice());
+    page.put(b"box ");
+    page.put(b.name.bytes());
+    put_bound(page, bound);
+    page.put(b"\n");
+    put_rules(page, rules.as_slice(), bound);
+    put_handlers(page, core, ground, b);
+    put_reason(
+        page,
+        core,
+        ground,
+        b,
+        rules.as_slice(),
+        bound,
+        Measure::Heap,
+    );
+    put_reason(
+        page,
+        core,
+        ground,
+        b,
+        rules.as_slice(),
+        bound,
+        Measure::Stack,
+    );
+    put_reason(
+        page,
+        core,
+        ground,
+        b,
+        rules.as_slice(),
+        bound,
+        Measure::Work,
+    );
+    Ok(())
+}
+
+fn put_bound(page: &mut Page, bound: Bound) {
+    page.put(b" heap ");
+    page.number(bound.heap);
+    page.put(b" stack ");
+    page.number(bound.stack);
+    page.put(b" work ");
+    page.number(bound.work);
+}
+
+// The lines of rules. Those that decide a measure say so.
+fn put_rules(page: &mut Page, rules: &[Bound], bound: Bound) {
+    for i in 0..rules.len() {
+        page.put(b"  rule ");
+        page.number((i as u64).saturating_add(1));
+        put_bound(page, rules[i]);
+        put_mark(page, rules, i, bound, Measure::Heap);
+        put_mark(page, rules, i, bound, Measure::Stack);
+        put_mark(page, rules, i, bound, Measure::Work);
+        page.put(b"\n");
+    }
+}
+
+fn put_mark(page: &mut Page, rules: &[Bound], rule: usize, bound: Bound, measure: Measure) {
+    if deciding_rule(rules, bound, measure) == Some(rule) {
+        page.put(b" *");
+        page.put(measure.name());
+    }
+}
+
+// The first rule with the bound of the box.
+fn deciding_rule(rules: &[Bound], bound: Bound, measure: Measure) -> Option<usize> {
+    for i in 0..rules.len() {
+        if rules[i].by(measure) == bound.by(measure) {
+            return Some(i);
+        }
+    }
+    None
+}
+
+fn put_handlers(page: &mut Page, core: &Core, ground: &Ground, b: &BoxC) {
+    for handler in b.handlers.as_slice() {
+        page.put(b"  handler ");
+        if let Some(exn) = core.exns.get(handler.exn as usize) {
+            page.put(exn.name.bytes());
+        }
+        put_bound(page, ground.handler(handler));
+        page.put(b"\n");
+    }
+}
+
+fn limit_of(measure: Measure) -> u64 {
+    match measure {
+        Measure::Heap => u64::from(MAX_HEAP_WORDS),
+        Measure::Stack => u64::from(MAX_STACK_WORDS),
+        Measure::Work => u64::from(MAX_WORK),
+    }
+}
+
+// Tells for one measure how it comes about in the deciding rule.
+fn put_reason(
+    page: &mut Page,
+    core: &Core,
+    ground: &Ground,
+    b: &BoxC,
+    rules: &[Bound],
+    bound: Bound,
+    measure: Measure,
+) {
+    let Some(number) = deciding_rule(rules, bound, measure) else {
+        return;
+    };
+    let (Some(rule), Some(whole)) = (b.rules.get(number), rules.get(number)) else {
+        return;
+    };
+    page.put(b"  ");
+    page.put(measure.name());
+    page.put(b" ");
+    page.number(bound.by(measure));
+    if bound.by(measure) > limit_of(measure) {
+        page.put(b", past the limit of ");
+        page.number(limit_of(measure));
+    }
+    page.put(b": rule ");
+    page.number((number as u64).saturating_add(1));
+    page.put(b"\n");
+    let by_itself = ground.rule(b, rule).by(measure);
+    let by_handler = whole.by(measure).saturating_sub(by_itself);
+    put_share(page, b"inputs", inputs_share(ground, b, number, measure));
+    put_share(page, b"handler", by_handler);
+    let deciding = Deciding {
+        measure,
+        functions: core.funs.as_slice(),
+        bounds: ground.functions.as_slice(),
+    };
+    put_chain(
+        page,
+        core.funs.as_slice(),
+        &deciding,
+        Stage::Outcome(&rule.result),
+    );
+}
+
+fn put_share(page: &mut Page, name: &[u8], amount: u64) {
+    if amount > 0 {
+        page.put(b"    ");
+        page.put(name);
+        page.put(b": ");
+        page.number(amount);
+        page.put(b"\n");
+    }
+}
+
+// What the inputs of a rule take of the measure.
+fn inputs_share(ground: &Ground, b: &BoxC, number: usize, measure: Measure) -> u64 {
+    let Some(rule) = b.rules.get(number) else {
+        return 0;
+    };
+    let patterns = rule.pats.as_slice();
+    match measure {
+        Measure::Heap => ground.inputs(b, rule),
+        Measure::Stack => built_count(patterns).saturating_add(built_variables(patterns)),
+        Measure::Work => built_variables(patterns),
+    }
+}
+
+// The chain of dearest forms, to where nothing costs anything any more.
+fn put_chain<'a>(page: &mut Page, functions: &[FunC], deciding: &Deciding<'a>, stage: Stage<'a>) {
+    let mut stage = stage;
+    for _ in 0..MAX_LINKS {
+        let link = deciding.next(stage);
+        if link.form == Form::End || link.amount == 0 {
+            return;
+        }
+        put_link(page, functions, link);
+        stage = link.stage;
+    }
+}
+
+fn put_link<'a>(page: &mut Page, functions: &[FunC], link: Link<'a>) {
+    page.put(b"    ");
+    page.put(link.form.name());
+    if link.form == Form::Call {
+        page.put(b" ");
+        if let Some(function) = functions.get(link.number) {
+            page.put(function.name.bytes());
+        }
+    } else if link.number > 0 {
+        page.put(b" ");
+        page.number(link.number as u64);
+    }
+    page.put(b": ");
+    page.number(link.amount);
+    page.put(b"\n");
+}

@@ -1,0 +1,302 @@
+//! What breaks the rules on wires, exceptions and bounds, told from the core.
+ghost use Rattle.hume_exceptions.specs.Sets.{IsRaisesOf};
+
+use crate::bound::Bound;
+use crate::box_bounds::node_bounds;
+use crate::texts::put_type;
+use hume_base::limits::{MAX_HEAP_WORDS, MAX_SPACE_WORDS, MAX_STACK_WORDS, MAX_WORK};
+use hume_base::{Refusal, Rule};
+use hume_exceptions::{ExnSet, Raises, raises, result_may_raise};
+use hume_model::{BoxC, Core, HandC, NodeC, PortC, WireC};
+use look_sources::{Page, Sort};
+use std::alloc::{AllocError, Global};
+
+/// The part of the declaration that is told: its sort, and its number among its like, or 0.
+#[derive(Clone, Copy, Debug)]
+pub struct Culprit {
+    pub sort: Sort,
+    pub number: usize,
+}
+
+fn part(sort: Sort, place: usize) -> Option<Culprit> {
+    Some(Culprit {
+        sort,
+        number: place.saturating_add(1),
+    })
+}
+
+/// Tells of the core what breaks the rule in the line, and which part of the declaration does.
+pub fn tell_of_core(
+    alloc: Global,
+    core: &Core,
+    refusal: Refusal,
+    note: &mut Page,
+) -> Result<Option<Culprit>, AllocError> {
+    match refusal.rule.phase() {
+        8 => Ok(tell_wires(core, refusal, note)),
+        9 => tell_exceptions(alloc, core, refusal, note),
+        10 => {
+            tell_bounds(alloc, core, refusal, note)?;
+            Ok(None)
+        }
+        _ => Ok(None),
+    }
+}
+
+fn tell_wires(core: &Core, refusal: Refusal, note: &mut Page) -> Option<Culprit> {
+    match refusal.rule {
+        Rule::C50 | Rule::C52 => tell_nodes(core, refusal, note),
+        _ => tell_each_wire(core, refusal, note),
+    }
+}
+
+fn tell_nodes(core: &Core, refusal: Refusal, note: &mut Page) -> Option<Culprit> {
+    let mut first = None;
+    for n in 0..core.nodes.len() {
+        if core.nodes[n].line() == refusal.line {
+            first = first.or(tell_unwired(core, &core.nodes[n], n, refusal.rule, note));
+        }
+    }
+    first
+}
+
+fn tell_each_wire(core: &Core, refusal: Refusal, note: &mut Page) -> Option<Culprit> {
+    for w in 0..core.wires.len() {
+        if core.wires[w].line == refusal.line {
+            tell_wire(core, &core.wires[w], w, refusal.rule, note);
+        }
+    }
+    let sort = match refusal.rule {
+        Rule::C53 => Sort::WireFrom,
+        _ => Sort::WireTo,
+    };
+    Some(Culprit { sort, number: 0 })
+}
+
+// Tells each input or output of the node without a wire.
+fn tell_unwired(
+    core: &Core,
+    this: &NodeC,
+    node: usize,
+    rule: Rule,
+    note: &mut Page,
+) -> Option<Culprit> {
+    match (this, rule) {
+        (NodeC::Rules(b), Rule::C50) => {
+            let what = b"no wire leads to input `".as_slice();
+            let first = tell_ports(core, b.ins.as_slice(), node, rule, what, note)?;
+            part(Sort::Input, first)
+        }
+        (NodeC::Rules(b), _) => {
+            let what = b"no wire starts from output `".as_slice();
+            let first = tell_ports(core, b.outs.as_slice(), node, rule, what, note)?;
+            part(Sort::Output, first)
+        }
+        _ => None,
+    }
+}
+
+// Tells each of the ports without a wire, and which is the first.
+fn tell_ports(
+    core: &Core,
+    ports: &[PortC],
+    node: usize,
+    rule: Rule,
+    what: &[u8],
+    note: &mut Page,
+) -> Option<usize> {
+    let mut first = None;
+    for i in 0..ports.len() {
+        if !has_wire(core, node, i, rule) {
+            put_unwired(note, what, ports[i].name.bytes());
+            if first.is_none() {
+                first = Some(i);
+            }
+        }
+    }
+    first
+}
+
+fn put_unwired(note: &mut Page, what: &[u8], name: &[u8]) {
+    note.put(b"  ");
+    note.put(what);
+    note.put(name);
+    note.put(b"`\n");
+}
+
+fn has_wire(core: &Core, node: usize, place: usize, rule: Rule) -> bool {
+    for wire in core.wires.as_slice() {
+        let (end, port) = end_of(wire, rule);
+        if end as usize == node && port as usize == place {
+            return true;
+        }
+    }
+    false
+}
+
+// The end of a wire of which the rule speaks.
+fn end_of(wire: &WireC, rule: Rule) -> (u32, u32) {
+    match rule {
+        Rule::C50 | Rule::C51 => (wire.to, wire.to_port),
+        _ => (wire.from, wire.from_port),
+    }
+}
+
+fn tell_wire(core: &Core, wire: &WireC, number: usize, rule: Rule, note: &mut Page) {
+    if rule == Rule::C54 {
+        tell_types(core, wire, note);
+        return;
+    }
+    for earlier in 0..number.min(core.wires.len()) {
+        if end_of(&core.wires[earlier], rule) == end_of(wire, rule) {
+            note.put(b"  the earlier wire there is in line ");
+            note.number(u64::from(core.wires[earlier].line));
+            note.put(b"\n");
+            return;
+        }
+    }
+}
+
+// Tells the types at both ends.
+fn tell_types(core: &Core, wire: &WireC, note: &mut Page) {
+    let from = core.nodes.get(wire.from as usize);
+    let to = core.nodes.get(wire.to as usize);
+    if let (Some(NodeC::Rules(first)), Some(NodeC::Rules(second))) = (from, to) {
+        let out = first.outs.get(wire.from_port as usize);
+        let inn = second.ins.get(wire.to_port as usize);
+        if let (Some(out), Some(inn)) = (out, inn) {
+            note.put(b"  it comes from `");
+            put_type(note, &core.types, &out.ty);
+            note.put(b"` and leads to `");
+            put_type(note, &core.types, &inn.ty);
+            note.put(b"`\n");
+        }
+    } else {
+        note.put(b"  both ends are streams\n");
+    }
+}
+
+fn tell_exceptions(
+    alloc: Global,
+    core: &Core,
+    refusal: Refusal,
+    note: &mut Page,
+) -> Result<Option<Culprit>, AllocError> {
+    let raised = raises(alloc, core)?;
+    let mut first = None;
+    for node in core.nodes.as_slice() {
+        if let NodeC::Rules(b) = node {
+            if b.line == refusal.line && first.is_none() {
+                first = tell_box(core, &raised, b, refusal.rule, note);
+            }
+        }
+    }
+    Ok(first)
+}
+
+fn tell_box(core: &Core, raised: &Raises, b: &BoxC, rule: Rule, note: &mut Page) -> Option<Culprit>
+    requires { IsRaisesOf core.now raised.now }
+{
+    if rule == Rule::C60 {
+        part(Sort::Rule, tell_rules(core, raised, b, note)?)
+    } else {
+        part(Sort::Handler, tell_handlers(core, raised, b, note)?)
+    }
+}
+
+// Tells what rules raise that the box doesn't handle, and which is the first that does.
+fn tell_rules(core: &Core, raised: &Raises, b: &BoxC, note: &mut Page) -> Option<usize>
+    requires { IsRaisesOf core.now raised.now }
+{
+    let mut first = None;
+    for i in 0..b.rules.len() {
+        let set = result_may_raise(core, raised, &b.rules[i].result);
+        if tell_set(core, set, b.handlers.as_slice(), b"rule ", i, note) && first.is_none() {
+            first = Some(i);
+        }
+    }
+    first
+}
+
+// Tells what handlers raise, and which is the first that does.
+fn tell_handlers(core: &Core, raised: &Raises, b: &BoxC, note: &mut Page) -> Option<usize>
+    requires { IsRaisesOf core.now raised.now }
+{
+    let mut first = None;
+    for i in 0..b.handlers.len() {
+        let set = result_may_raise(core, raised, &b.handlers[i].result);
+        if tell_set(core, set, &[], b"handler ", i, note) && first.is_none() {
+            first = Some(i);
+        }
+    }
+    first
+}
+
+// Tells each exception of the set without a handler, and whether there is one.
+fn tell_set(
+    core: &Core,
+    set: ExnSet,
+    handlers: &[HandC],
+    what: &[u8],
+    number: usize,
+    note: &mut Page,
+) -> bool {
+    let mut some = false;
+    for exn in 0..core.exns.len().min(64) {
+        if set.has(exn as u32) && !is_handled(handlers, exn as u32) {
+            note.put(b"  ");
+            note.put(what);
+            note.number((number as u64).saturating_add(1));
+            note.put(b" may raise `");
+            note.put(core.exns[exn].name.bytes());
+            note.put(b"`\n");
+            some = true;
+        }
+    }
+    some
+}
+
+fn is_handled(handlers: &[HandC], exn: u32) -> bool {
+    for handler in handlers {
+        if handler.exn == exn {
+            return true;
+        }
+    }
+    false
+}
+
+fn tell_bounds(
+    alloc: Global,
+    core: &Core,
+    refusal: Refusal,
+    note: &mut Page,
+) -> Result<(), AllocError> {
+    let bounds = node_bounds(alloc, core)?;
+    let mut through: u64 = 0;
+    for n in 0..core.nodes.len() {
+        let bound = bounds.get(n).copied().unwrap_or(Bound::nothing());
+        through = through
+            .saturating_add(bound.heap)
+            .saturating_add(bound.stack);
+        if core.nodes[n].line() == refusal.line {
+            tell_bound(bound, through, refusal.rule, note);
+        }
+    }
+    Ok(())
+}
+
+fn tell_bound(bound: Bound, through: u64, rule: Rule, note: &mut Page) {
+    let (figure, limit) = match rule {
+        Rule::C75 => (bound.heap, MAX_HEAP_WORDS),
+        Rule::C76 => (bound.stack, MAX_STACK_WORDS),
+        Rule::C78 => (through, MAX_SPACE_WORDS),
+        _ => (bound.work, MAX_WORK),
+    };
+    if figure > u64::from(limit) {
+        note.put(b"  it is ");
+        note.number(figure);
+        note.put(b", and the limit ");
+        note.number(u64::from(limit));
+        note.put(b"; `bounds` tells how it comes about\n");
+    }
+}

@@ -1,0 +1,28 @@
+//! What is shown of a core: its net as Graphviz text, where the bounds of its boxes come from, and what breaks a rule.
+//!
+//! Main calls: `put_net`, `put_bounds`, and `tell_of_core`, which tells what breaks a rule on wires, exceptions or bounds.
+//!
+//! Proved: nothing beyond safety: no call fails but for memory, and each ends. That the bounds are those of `space_costs` is
+//! compared over the examples.
+//!
+//! It knows cores. It doesn't know sources, or why one is refused.
+#![tactic(auto)]
+
+mod bound;
+mod bounds;
+mod box_bounds;
+mod broken;
+mod building;
+mod chain;
+mod expression_bounds;
+mod net;
+mod pattern_counts;
+mod result_bounds;
+mod texts;
+
+pub use bound::Bound;
+pub use bounds::put_bounds;
+pub use box_bounds::node_bounds;
+pub use broken::{Culprit, tell_of_core};
+pub use net::put_net;
+pub use texts::{put_type, put_value};

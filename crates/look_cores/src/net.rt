@@ -1,0 +1,180 @@
+//! The net of a core as Graphviz text.
+//!
+//! One statement a line, its attributes in one order: `docs/COMMANDS.md` has the form.
+use crate::bound::Bound;
+use crate::box_bounds::node_bounds;
+use crate::texts::{put_type, put_value};
+use hume_model::{BoxC, Core, NodeC, PortC, StreamC, WireC};
+use look_sources::Page;
+use std::alloc::{AllocError, Global};
+
+/// Puts the net: the nodes and then the wires, in source order.
+pub fn put_net(alloc: Global, core: &Core, page: &mut Page) -> Result<(), AllocError> {
+    let bounds = node_bounds(alloc, core)?;
+    page.put(b"digraph \"net\" {\n  rankdir=\"LR\";\n");
+    for i in 0..core.nodes.len() {
+        let bound = bounds.get(i).copied().unwrap_or(Bound::nothing());
+        put_node(page, &core.nodes[i], bound);
+    }
+    for wire in core.wires.as_slice() {
+        put_wire(alloc, core, wire, page);
+    }
+    page.put(b"}\n");
+    Ok(())
+}
+
+fn put_node(page: &mut Page, node: &NodeC, bound: Bound) {
+    match node {
+        NodeC::Rules(b) => put_box(page, b, bound),
+        NodeC::From(stream) => put_stream(page, b"from", stream),
+        NodeC::To(stream) => put_stream(page, b"to", stream),
+    }
+}
+
+fn put_box(page: &mut Page, b: &BoxC, bound: Bound) {
+    put_start(page, b.name.bytes());
+    put_attribute(page, b"kind", b"box");
+    put_attribute(page, b"order", if b.fair { b"fair" } else { b"match" });
+    put_number(page, b"heap", bound.heap);
+    put_number(page, b"stack", bound.stack);
+    put_number(page, b"work", bound.work);
+    put_number(page, b"line", u64::from(b.line));
+    put_attribute(page, b"shape", b"box");
+    page.put(b"label=\"");
+    page.put(b.name.bytes());
+    page.put(b"\\nheap ");
+    page.number(bound.heap);
+    page.put(b" stack ");
+    page.number(bound.stack);
+    page.put(b"\\nwork ");
+    page.number(bound.work);
+    page.put(b"\"];\n");
+}
+
+fn put_stream(page: &mut Page, kind: &[u8], stream: &StreamC) {
+    put_start(page, stream.name.bytes());
+    put_attribute(page, b"kind", kind);
+    put_attribute(page, b"port", stream.port.bytes());
+    put_number(page, b"line", u64::from(stream.line));
+    put_attribute(page, b"shape", b"ellipse");
+    page.put(b"label=\"");
+    page.put(stream.name.bytes());
+    page.put(b"\\n");
+    page.put(kind);
+    page.put(b" ");
+    put_escaped(page, stream.port.bytes());
+    page.put(b"\"];\n");
+}
+
+fn put_start(page: &mut Page, name: &[u8]) {
+    page.put(b"  \"");
+    page.put(name);
+    page.put(b"\" [");
+}
+
+fn put_attribute(page: &mut Page, name: &[u8], value: &[u8]) {
+    page.put(name);
+    page.put(b"=\"");
+    put_escaped(page, value);
+    page.put(b"\", ");
+}
+
+fn put_number(page: &mut Page, name: &[u8], value: u64) {
+    page.put(name);
+    page.put(b"=\"");
+    page.number(value);
+    page.put(b"\", ");
+}
+
+// Puts the bytes with a backslash before each quote and each backslash.
+fn put_escaped(page: &mut Page, bytes: &[u8]) {
+    for byte in bytes {
+        if *byte == b'"' || *byte == b'\\' {
+            page.put(b"\\");
+        }
+        page.put(&[*byte]);
+    }
+}
+
+fn put_wire(alloc: Global, core: &Core, wire: &WireC, page: &mut Page) {
+    let nodes = core.nodes.as_slice();
+    page.put(b"  \"");
+    page.put(node_name(nodes, wire.from));
+    page.put(b"\" -> \"");
+    page.put(node_name(nodes, wire.to));
+    page.put(b"\" [");
+    put_attribute(page, b"from", output_name(nodes, wire));
+    put_attribute(page, b"to", input_name(nodes, wire));
+    let mut ty = Page::make(alloc);
+    put_type(&mut ty, &core.types, &wire.ty);
+    let mut initial = Page::make(alloc);
+    if let Some(value) = &wire.initial {
+        put_value(&mut initial, &core.types, &wire.ty, value);
+    }
+    put_attribute(page, b"type", ty.bytes());
+    put_number(page, b"depth", u64::from(wire.depth));
+    put_attribute(page, b"initial", initial.bytes());
+    put_number(page, b"line", u64::from(wire.line));
+    page.put(b"label=\"");
+    put_ports(page, output_name(nodes, wire), input_name(nodes, wire));
+    put_wire_label(page, wire, &ty, &initial);
+}
+
+// Puts the names of output and input; a stream has none.
+fn put_ports(page: &mut Page, output: &[u8], input: &[u8]) {
+    page.put(output);
+    if !output.is_empty() && !input.is_empty() {
+        page.put(b" to ");
+    }
+    page.put(input);
+    page.put(b"\\n");
+}
+
+fn put_wire_label(page: &mut Page, wire: &WireC, ty: &Page, initial: &Page) {
+    put_escaped(page, ty.bytes());
+    if wire.depth > 1 {
+        page.put(b" @ ");
+        page.number(u64::from(wire.depth));
+    }
+    if !initial.is_empty() {
+        page.put(b"\\ninitial ");
+        put_escaped(page, initial.bytes());
+    }
+    page.put(b"\"];\n");
+    if ty.has_failed() || initial.has_failed() {
+        page.fail();
+    }
+}
+
+/// The name of a node.
+pub(crate) fn node_name(nodes: &[NodeC], node: u32) -> &[u8] {
+    match nodes.get(node as usize) {
+        None => b"",
+        Some(NodeC::Rules(b)) => b.name.bytes(),
+        Some(NodeC::From(stream)) => stream.name.bytes(),
+        Some(NodeC::To(stream)) => stream.name.bytes(),
+    }
+}
+
+/// The name of the output from which a wire comes; nothing for a stream.
+pub(crate) fn output_name<'a>(nodes: &'a [NodeC], wire: &WireC) -> &'a [u8] {
+    match nodes.get(wire.from as usize) {
+        Some(NodeC::Rules(b)) => port_name(b.outs.as_slice(), wire.from_port),
+        _ => b"",
+    }
+}
+
+/// The name of the input to which a wire leads; nothing for a stream.
+pub(crate) fn input_name<'a>(nodes: &'a [NodeC], wire: &WireC) -> &'a [u8] {
+    match nodes.get(wire.to as usize) {
+        Some(NodeC::Rules(b)) => port_name(b.ins.as_slice(), wire.to_port),
+        _ => b"",
+    }
+}
+
+pub(crate) fn port_name(ports: &[PortC], place: u32) -> &[u8] {
+    match ports.get(place as usize) {
+        None => b"",
+        Some(port) => port.name.bytes(),
+    }
+}

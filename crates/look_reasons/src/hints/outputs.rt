@@ -1,0 +1,86 @@
+//! Outputs that no rule ever writes.
+use crate::hints::parts::Parts;
+use hume_model::{BoxC, Core, Expr, NodeC, PatC, Res};
+use look_sources::{Page, Sort};
+
+/// Puts a hint on each output of a box that no result gives a value.
+pub fn put_outputs(parts: &Parts, core: &Core, page: &mut Page) {
+    for node in core.nodes.as_slice() {
+        if let NodeC::Rules(b) = node {
+            for output in 0..b.outs.len() {
+                if !is_written(b, output) {
+                    put_unwritten(parts, b, output, page);
+                }
+            }
+        }
+    }
+}
+
+fn is_written(b: &BoxC, output: usize) -> bool {
+    for rule in b.rules.as_slice() {
+        if writes(&rule.result, output) {
+            return true;
+        }
+    }
+    for handler in b.handlers.as_slice() {
+        if writes(&handler.result, output) {
+            return true;
+        }
+    }
+    false
+}
+
+// Whether some way through the result gives the output a value.
+#[cycle(writes)]
+fn writes(res: &Res, output: usize) -> bool {
+    match res {
+        Res::Outs(outs) => gives(outs.as_slice(), output),
+        Res::If(_, when_true, when_false) => {
+            let first = writes(when_true, output);
+            let second = writes(when_false, output);
+            first || second
+        }
+        Res::Case(_, _, arms) => arms_write(arms.as_slice(), output),
+        Res::Let(_, body) => writes(body, output),
+        Res::Raise(_, _) => false,
+    }
+}
+
+#[cycle(writes)]
+fn arms_write(arms: &[(PatC, Res)], output: usize) -> bool {
+    for i in 0..arms.len() {
+        if writes(&arms[i].1, output) {
+            return true;
+        }
+    }
+    false
+}
+
+fn gives(outs: &[Option<Expr>], output: usize) -> bool {
+    match outs.get(output) {
+        Some(Some(_)) => true,
+        _ => false,
+    }
+}
+
+fn put_unwritten(parts: &Parts, b: &BoxC, output: usize, page: &mut Page) {
+    let Some(node) = parts.node(b.name.bytes()) else {
+        return;
+    };
+    let number = output.saturating_add(1);
+    for span in parts.spans {
+        if span.sort == Sort::Output
+            && span.declaration == node.declaration
+            && span.number == number
+        {
+            let name = parts.name_at(span.first);
+            parts.put_hint(
+                span.first,
+                b"no rule ever writes the output `",
+                name,
+                b"`",
+                page,
+            );
+        }
+    }
+}

@@ -1,0 +1,78 @@
+//! The parts of a source, and how a hint on one is put.
+use crate::site::{name_of, place_of};
+use hume_base::{Keyword, Kind, Symbol, Token};
+use look_sources::{Page, Sort, Span, Spot};
+
+#[derive(Clone, Copy)]
+pub struct Parts<'a> {
+    pub name: &'a [u8],
+    pub text: &'a [u8],
+    pub tokens: &'a [Token],
+    pub spans: &'a [Span],
+}
+
+impl<'a> Parts<'a> {
+    pub fn name_at(&self, token: usize) -> &'a [u8] {
+        name_of(self.tokens, token)
+    }
+
+    /// Puts a hint on the token, and the line with a caret.
+    pub fn put_hint(&self, token: usize, words: &[u8], name: &[u8], more: &[u8], page: &mut Page) {
+        let spot = Spot::of(self.text, place_of(self.text, self.tokens, token));
+        spot.put_head(self.name, page);
+        page.put(b"hint: ");
+        page.put(words);
+        page.put(name);
+        page.put(more);
+        page.put(b"\n");
+        spot.put_line(self.text, page);
+    }
+
+    /// Whether the token stands right after a `let`.
+    pub fn is_of_let(&self, token: usize) -> bool {
+        let Some(before) = token.checked_sub(1) else {
+            return false;
+        };
+        match self.tokens.get(before) {
+            None => false,
+            Some(token) => matches!(&token.kind, Kind::Word(Keyword::Let)),
+        }
+    }
+
+    /// Whether a written tuple begins with the token.
+    pub fn is_tuple(&self, token: usize) -> bool {
+        let opens = match self.tokens.get(token) {
+            None => false,
+            Some(token) => matches!(&token.kind, Kind::Sign(Symbol::OpenParen)),
+        };
+        if !opens {
+            return false;
+        }
+        for span in self.spans {
+            if span.sort == Sort::Expression && span.first == token && span.parts > 0 {
+                return true;
+            }
+        }
+        false
+    }
+
+    /// The name of the box or stream.
+    pub fn node(&self, name: &[u8]) -> Option<Span> {
+        for span in self.spans {
+            if span.sort == Sort::NodeName && self.name_at(span.first) == name {
+                return Some(*span);
+            }
+        }
+        None
+    }
+
+    /// Whether a name that stands outside of the tokens of the part, and inside those of the other, is that one.
+    pub fn is_used(&self, name: &[u8], inside: &Span, outside: &Span) -> bool {
+        for token in inside.first..inside.after.min(self.tokens.len()) {
+            if (token < outside.first || outside.after <= token) && self.name_at(token) == name {
+                return true;
+            }
+        }
+        false
+    }
+}

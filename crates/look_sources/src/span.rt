@@ -1,0 +1,58 @@
+//! The tokens of a part of a program.
+
+/// What a part is.
+#[derive(Clone, Copy, Debug, PartialEq, Eq)]
+pub enum Sort {
+    Declaration,
+    Type,
+    Pattern,
+    /// A name that a pattern or a `let` binds.
+    Variable,
+    Expression,
+    /// What a variable is known in, with the place that binds it.
+    Scope,
+    Equation,
+    Rule,
+    Handler,
+    Alternative,
+    /// The name of an input or an output.
+    Input,
+    Output,
+    /// The first or the second end of a wire.
+    WireFrom,
+    WireTo,
+    /// The declared name of a data type; of a constructor or an exception; of a function; of a box or a stream.
+    TypeName,
+    ConstructorName,
+    FunctionName,
+    NodeName,
+    /// The exception that a handler is for.
+    HandledName,
+    /// The name of an equation.
+    EquationName,
+    /// A rule, equation or alternative behind the one of that number, which takes all that it takes.
+    Shadowed,
+}
+
+/// A part of a program: the tokens from number `first` to before number `after`, counted from 0.
+#[derive(Clone, Copy, Debug)]
+pub struct Span {
+    pub sort: Sort,
+    pub first: usize,
+    pub after: usize,
+    /// The number of the declaration that it is a part of, from 0.
+    pub declaration: usize,
+    /// Its number among its like in what holds it, from 1; or 0.
+    pub number: usize,
+    /// How many arguments or parts it has.
+    pub parts: usize,
+}
+
+impl Span {
+    /// Whether the other part is a smaller part of this one.
+    pub fn holds(&self, other: &Span) -> bool {
+        self.first <= other.first
+            && other.after <= self.after
+            && (self.first < other.first || other.after < self.after)
+    }
+}
