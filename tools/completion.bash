@@ -17,13 +17,13 @@ _hume_files() {
 _hume() {
     local word=${COMP_WORDS[COMP_CWORD]} kind='' ports=''
     if ((COMP_CWORD == 1)); then
-        mapfile -t COMPREPLY < <(compgen -W 'check run trace test go watch vcd waves page install uninstall --help --version --rebuild' -- "$word")
+        mapfile -t COMPREPLY < <(compgen -W 'check run trace why bounds net hints test go watch vcd waves page install uninstall --help --version --rebuild' -- "$word")
         return
     fi
     # Where the SOURCE stands, and from where on there are ports.
     local source=0
     case ${COMP_WORDS[1]} in
-    check) source=2 ;;
+    check | why | bounds | net | hints) source=2 ;;
     run | trace) source=4 ;;
     watch | vcd | page) source=3 ;;
     go) kind=source ;;
