@@ -147,6 +147,7 @@ class Spending(Program):
             return self.res(e[2] if self.ev(e[1], env, d) else e[3], env, count, d)
         if kind == 'case':
             body, inner, vs = self.taken_arm(e, env, d)
+            self.at(d + 1 + vs)
             return self.res(body, inner, count, d + 1 + vs)
         if kind == 'raise':
             self.ev(e, env, d)
