@@ -44,7 +44,7 @@ COMP_WORDS=("$@") COMP_CWORD=$(($# - 1)) && _hume && printf '%s\\n' "${{COMPREPL
         return sorted(done.stdout.decode().split())
 
     def test_words(self):
-        self.assertEqual(self.complete("hume", "w"), ["watch", "waves"])
+        self.assertEqual(self.complete("hume", "w"), ["watch", "waves", "why"])
         self.assertLessEqual(set(WORDS), set(self.complete("hume", "")))
 
     def test_sources_folders_and_ports(self):
