@@ -15,8 +15,8 @@ use Rattle.hume_lex.proofs.Places.{token_within}
 use Rattle.parse_errors.specs.declared.parse_error.ParseError.{ParseError}
 use Rattle.parse_errors.specs.declared.parse_error.ParseError.TheVariants as syntactic
 use Rattle.parse_errors.specs.WrongTokens.{BeginsSome, BeginsNone, IsWrongToken, IsWrongPlace}
-use Rattle.hume_front.specs.declared.acceptance.FrontError.{FrontError}
-use Rattle.hume_front.specs.declared.acceptance.FrontError.TheVariants.{Refused}
+use Rattle.hume_front.specs.declared.error.FrontError.{FrontError}
+use Rattle.hume_front.specs.declared.error.FrontError.TheVariants.{Refused}
 use Rattle.hume_front.specs.Accepted.{Breaks, too_long, bad_token, no_program, IsUnaccepted}
 use Rattle.hume_front.proofs.Reported.{rule_of_lexer, rule_of_parser, wrong_place, lexer_breaks, parser_breaks}
 

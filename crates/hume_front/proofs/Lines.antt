@@ -1,15 +1,14 @@
 -- The lines of a core's nodes and wires are those of their declarations.
-use Rattle.std.proofs.Common.{◌≡◌, ℕ, List, Option, Some, true, false, slice_get, refl, ap, sym, ◌∙◌}
+use Rattle.std.proofs.Common.{◌≡◌, ℕ, List, Option, Some, true, false, slice_get, ap, sym, ◌∙◌}
 use Rattle.hume_base.specs.Places.{line_at}
 use Rattle.hume_ast.specs.declared.tree.Decl.{Decl}
 use Rattle.hume_ast.specs.declared.tree.Decl.TheVariants.{BoxD, Stream}
 use Rattle.hume_ast.specs.declared.tree.Program.{Program}
 use Rattle.hume_model.specs.declared.core_tree.NodeC.{NodeC}
-use Rattle.hume_model.specs.declared.core_tree.WireC.{WireC}
 use Rattle.hume_model.specs.declared.core_tree.Core.{Core}
 use Rattle.hume_model.specs.Declarations.{declaration_of, line_of, StandsAt, node, wire}
 use Rattle.check_typing.specs.declared.signatures.Signatures.{Signatures}
-use Rattle.check_rules.specs.Declared.{Numbered, nodes_in, WireDecl, wires_in}
+use Rattle.check_rules.specs.Declared.{Numbered, nodes_in, wires_in}
 use Rattle.check_rules.specs.CoreOf.{IsNodeOf, IsWireOf, IsCoreOf}
 use Rattle.check_rules.proofs.Stands.{from_right, node_stands}
 use Rattle.check_rules.proofs.WiresJoin.{wire_stands}

@@ -23,13 +23,30 @@ use Rattle.hume_exceptions.proofs.Handles.{handles_all}
 use Rattle.hume_front.specs.Accepted as front
 use Rattle.hume_front.specs.Accepted.{IsProgramOf, IsAccepted, IsUnaccepted}
 use Rattle.hume_front.specs.Broken.{itself, by_core}
-use Rattle.hume_front.specs.inner.Checked.{BreaksCore, IsCoreError}
-use Rattle.hume_front.specs.declared.acceptance.FrontError.{FrontError}
-use Rattle.hume_front.specs.declared.acceptance.FrontError.TheVariants.{Refused, NoMemory}
+use Rattle.hume_front.specs.inner.Checked.{BreaksCore}
 use Rattle.hume_front.specs.declared.acceptance.Accepted.{Accepted}
-use Rattle.hume_front.proofs.CoreRules.{fine_wires, fine_handlers, fine_costs}
+use Rattle.wiring_check.specs.declared.wiring.Wiring.{Wiring}
+use Rattle.box_costs.specs.declared.cost.Cost.{Cost}
+use Rattle.space_costs.specs.NodeCosts.{AreCosts}
+use Rattle.hume_front.specs.Errors.{of_check, of_wires, of_costs}
+use Rattle.hume_check.specs.declared.checking.CheckError.{CheckError}
+use Rattle.hume_check.specs.declared.checking.CheckError.TheVariants as checking
+use Rattle.hume_check.specs.Refused.{IsUnchecked}
+use Rattle.wiring_check.specs.declared.check.WireError.{WireError}
+use Rattle.wiring_check.specs.declared.check.WireError.TheVariants as wiring
+use Rattle.wiring_check.specs.Wires.{IsWireError, IsWiringOf}
+use Rattle.space_costs.specs.declared.check.CostError.{CostError}
+use Rattle.space_costs.specs.declared.check.CostError.TheVariants as costing
+use Rattle.space_costs.specs.NodeCosts.{IsCostError}
+use Rattle.hume_base.specs.declared.rule.Refusal.{Refusal}
+use Rattle.hume_model.specs.Declarations.{IsRefusal}
+use Rattle.hume_model.specs.WireRules.{BreaksWires}
+use Rattle.hume_model.specs.HandlerRules.{BreaksHandlers}
+use Rattle.hume_front.specs.declared.error.FrontError.{FrontError}
+use Rattle.hume_front.specs.declared.error.FrontError.TheVariants.{Refused}
+use Rattle.hume_front.proofs.CoreRules.{fine_wires, fine_handlers, fine_costs, least_costs, refused_wires, refused_handlers, refused_costs}
 use Rattle.hume_front.proofs.OneProgram.{one_program}
-use Rattle.hume_front.proofs.ProgramRules.{refused_core}
+use Rattle.hume_front.proofs.ProgramRules.{refused_core, refused_check, least_core}
 use Rattle.hume_front.proofs.Tables.{in_table, in_core_table}
 
 pub of_tokens : (text : List ℕ) (program : Program) → IsProgramOf text program → IsOfTokens program
@@ -45,11 +62,51 @@ pub sound_core : (text : List ℕ) (program : Program) (core : Core) → IsProgr
     → IsCoreOf text program core → IsWellFormed core
 sound_core text program core h fine is = well_formed text program core fine h.spelled.0 (of_tokens text program h) is
 
--- a core that isn't accepted is why its source isn't
-pub core_told : (text : List ℕ) (program : Program) (core : Core) → IsProgramOf text program → IsLeast (BreaksCheck program.decls) None
-    → IsCoreOf text program core → (error : FrontError) → IsCoreError core error → IsUnaccepted text error
-core_told text program core h fine is (Refused refusal) e = front.in_program program h refusal (refused_core text program core is fine refusal e)
-core_told text program core h fine is NoMemory e = tt
+-- a core that breaks a rule is why its source isn't accepted
+module _ (text : List ℕ) (program : Program) (core : Core) (h : IsProgramOf text program) (fine : IsLeast (BreaksCheck program.decls) None)
+    (is : IsCoreOf text program core) where
+  told_core : (refusal : Refusal) → IsRefusal core (BreaksCore core) refusal → IsUnaccepted text (Refused refusal)
+  told_core refusal e = front.in_program program h refusal (refused_core text program core is fine refusal e)
+
+  wires_told : (told : WireError) → IsWireError core told → IsUnaccepted text (of_wires told)
+  wires_told (wiring.Refused refusal) e = told_core refusal (refused_wires core refusal e)
+  wires_told wiring.NoMemory e = tt
+
+  pub unwired : (given told : WireError) (error : FrontError) → given ≡ told → IsWireError core given → error ≡ of_wires told → IsUnaccepted text error
+  unwired given told error same e is_told = subst (IsUnaccepted text) (sym is_told) (wires_told told (subst (IsWireError core) same e))
+
+  pub unhandled : (refusal : Refusal) (error : FrontError) → IsLeast (BreaksWires core) None → IsRefusal core (BreaksHandlers core) refusal
+      → error ≡ Refused refusal → IsUnaccepted text error
+  unhandled refusal error wires e is_told = subst (IsUnaccepted text) (sym is_told) (told_core refusal (refused_handlers core refusal wires e))
+
+  module _ (wires : IsLeast (BreaksWires core) None) (handlers : IsLeast (BreaksHandlers core) None) where
+    costs_told : (told : CostError) → IsCostError core told → IsUnaccepted text (of_costs told)
+    costs_told (costing.Refused refusal) e = told_core refusal (refused_costs core refusal wires handlers e)
+    costs_told costing.NoMemory e = tt
+
+    pub too_dear : (given told : CostError) (error : FrontError) → given ≡ told → IsCostError core given → error ≡ of_costs told → IsUnaccepted text error
+    too_dear given told error same e is_told = subst (IsUnaccepted text) (sym is_told) (costs_told told (subst (IsCostError core) same e))
+
+    pub accepted : IsLeast (BreaksCosts core) None → (wiring : Wiring) → IsWiringOf core wiring → (costs : List Cost) → AreCosts core costs
+        → IsAccepted text (record { program = program; core = core; wiring = wiring; costs = costs })
+    accepted cheap wiring its costs are = record {
+      program = h;
+      fine = least_core text program core is fine None (least_costs core None wires handlers cheap);
+      core = is;
+      wiring = its;
+      costs = are;
+    }
+
+-- a program that breaks a rule by itself is why, too
+check_told : (text : List ℕ) (program : Program) (told : CheckError) → IsProgramOf text program → IsUnchecked text program.decls told
+    → IsUnaccepted text (of_check told)
+check_told text program (checking.Refused refusal) h e = front.in_program program h refusal (refused_check text program refusal e)
+check_told text program checking.NoMemory h e = tt
+
+pub unchecked : (text : List ℕ) (program : Program) (given told : CheckError) (error : FrontError) → given ≡ told → IsProgramOf text program
+    → IsUnchecked text program.decls given → error ≡ of_check told → IsUnaccepted text error
+unchecked text program given told error same h e is_told =
+    subst (IsUnaccepted text) (sym is_told) (check_told text program told h (subst (IsUnchecked text program.decls) same e))
 
 -- the rules of an accepted source, phase by phase
 module _ (text : List ℕ) (accepted : Accepted) (h : IsAccepted text accepted) where

@@ -17,8 +17,8 @@ use Rattle.hume_check.specs.Refused.{IsRefusedFor}
 use Rattle.space_costs.specs.NodeCosts.{AreCosts}
 use Rattle.hume_front.specs.Broken.{BreaksProgram}
 use Rattle.hume_front.specs.declared.acceptance.Accepted.{Accepted}
-use Rattle.hume_front.specs.declared.acceptance.FrontError.{FrontError}
-use Rattle.hume_front.specs.declared.acceptance.FrontError.TheVariants.{Refused, NoMemory}
+use Rattle.hume_front.specs.declared.error.FrontError.{FrontError}
+use Rattle.hume_front.specs.declared.error.FrontError.TheVariants.{Refused, NoMemory}
 
 -- the source is short enough, its tokens are within the limits, and they stand for the program
 pub record IsProgramOf (text : List ℕ) (program : Program) : Type 0 where

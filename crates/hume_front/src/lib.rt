@@ -14,12 +14,12 @@
 #![tactic(auto)]
 
 mod acceptance;
-mod core_rules;
+mod error;
 mod laws;
 pub mod printable;
-mod program_rules;
 pub mod programs;
 mod refused;
 
-pub use acceptance::{Accepted, FrontError, accept};
+pub use acceptance::{Accepted, accept};
+pub use error::FrontError;
 pub use laws::{accepted_cores_are_sound, one_answer, one_program};

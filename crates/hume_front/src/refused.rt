@@ -5,7 +5,7 @@ ghost use Rattle.hume_lex.specs.BadPlaces.{IsRead, IsBadPlace};
 ghost use Rattle.parse_errors.specs.WrongTokens.{IsWrongPlace};
 ghost use Rattle.hume_front.specs.Accepted.{IsUnaccepted};
 
-use crate::acceptance::FrontError;
+use crate::error::FrontError;
 use hume_base::{Refusal, Rule, Token, line_of};
 use hume_lex::LexError;
 use parse_errors::ParseError;

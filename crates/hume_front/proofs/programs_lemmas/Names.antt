@@ -1,6 +1,5 @@
 -- Names and texts of declarations are among the tokens that the declarations are spelled with.
-use Rattle.std.proofs.Common.{◌≡◌, ℕ, List, [], ◌∷◌, ◌++◌, map, Bool, Option, refl}
-use Rattle.hume_base.specs.declared.symbol.Symbol.{Symbol}
+use Rattle.std.proofs.Common.{ℕ, List, [], ◌∷◌, ◌++◌, map}
 use Rattle.hume_base.specs.declared.symbol.Symbol.TheVariants as symbol
 use Rattle.hume_base.specs.declared.token.Kind.{Kind}
 use Rattle.hume_base.specs.declared.token.Kind.TheVariants.{Sign}
@@ -8,7 +7,7 @@ use Rattle.hume_ast.specs.declared.tree.TyExp.{TyExp}
 use Rattle.hume_ast.specs.declared.tree.Decl.{Decl}
 use Rattle.hume_ast.specs.declared.tree.Decl.TheVariants.{Sum, Exn, Fun, BoxD, Stream, Wire}
 use Rattle.hume_ast.specs.Fits.{Each}
-use Rattle.hume_ast.specs.Spelling.{separated, preceded, beside, ended, spelled_constructor, spelled_typed_name, spelled_side, spelled_decl, spelled_decls}
+use Rattle.hume_ast.specs.Spelling.{separated, preceded, spelled_constructor, spelled_typed_name, spelled_decl, spelled_decls}
 use Rattle.check_rules.specs.OfTokens.{HasNames, AreConstructorNames, ArePlaceNames}
 use Rattle.hume_front.proofs.programs_lemmas.SmallKinds.{IsSmall}
 

@@ -1,4 +1,4 @@
-use Rattle.std.proofs.Common.{◌≤◌, ℕ, List, length, arith}
+use Rattle.std.proofs.Common.{arith}
 use Rattle.hume_front.proofs.programs_lemmas.Lengths.{short, tokens_bound}
 use Rattle.hume_front.proofs.programs.laws.read_programs_are_short.Goals as goal
 
