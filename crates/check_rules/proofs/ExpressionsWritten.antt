@@ -70,7 +70,7 @@ module _ (s : Signatures) (have : HaveTypes s) (counts : Counts) where
   some least es le = let c = length-map (map alone es) (typing s) in omega arith
 
   level : (y : Exp-F Known) (depth : ℕ) → ExpParts (TypeFits MAX_DEPTH) (PatFits MAX_DEPTH 1) (ExpFits MAX_DEPTH depth) (exps y)
-      → expression_step counts (map-Exp Exp Bool (miscounts counts) (exps y)) ≡ false → IsGood s have (typing_step s Exp (λ e. e) (typing s) (exps y))
+      → expression_step counts (map-Exp Exp Bool (miscounts counts) (exps y)) ≡ false → IsGood s have (typing_step s Exp (typing s) (exps y))
   level (Exp-F.Let x a b) depth fits off =
       let flags = or_parts (miscounts counts a.0) (miscounts counts b.0) off in
       good_let s have x _ _ (a.1 depth 1 fits.0 flags.0) (b.1 depth 1 fits.1 flags.1)

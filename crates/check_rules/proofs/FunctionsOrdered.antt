@@ -81,7 +81,7 @@ module _ (s : Signatures) (bound : ℕ) where
       )
 
   level : (y : Exp-F Known) (names : List (List ℕ)) → Below (exp_step (map-Exp Exp ByScope mentions (parts y)) names)
-      → Goes s bound (typing_step s Exp (λ e. e) (typing s) (parts y))
+      → Goes s bound (typing_step s Exp (typing s) (parts y))
   level (Exp-F.Let x a b) names h =
       goes_let s bound x _ _ (a.1 names (below_left (mentions a.0 names) (mentions b.0 (names ++ x ∷ [])) h)) (b.1 (names ++ x ∷ []) (below_right (mentions a.0 names) (mentions b.0 (names ++ x ∷ [])) h))
   level (Exp-F.If a b d) names h =

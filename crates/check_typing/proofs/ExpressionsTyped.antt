@@ -31,7 +31,7 @@ module _ (s : Signatures) (core : Core) (of : HasSignatures s core) where
   arms_known [] = tt
   arms_known (arm ∷ arms) = (arm.1.1, arms_known arms)
 
-  level : (y : Exp-F Known) → IsSound s core of (typing_step s Exp (λ e. e) (typing s) (parts y))
+  level : (y : Exp-F Known) → IsSound s core of (typing_step s Exp (typing s) (parts y))
   level (Exp-F.Let x a b) = sound_let s core of x _ _ a.1 b.1
   level (Exp-F.If a b d) = sound_if s core of _ _ b.1 d.1 _ a.1
   level (Exp-F.Case a arms) = sound_case s core of _ a.1 _ (arms_known arms)

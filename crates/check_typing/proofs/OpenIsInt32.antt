@@ -107,11 +107,11 @@ module _ (s : Signatures) where
   abbrev Known : Type 0
   Known = (e : Exp) × Opens (typing s e)
 
-  app_never : (name : List ℕ) (es : List Known) → Opens (typing_step s Exp (λ e. e) (typing s) (map-Exp Known Exp (λ e. e.0) (Exp-F.App name es)))
+  app_never : (name : List ℕ) (es : List Known) → Opens (typing_step s Exp (typing s) (map-Exp Known Exp (λ e. e.0) (Exp-F.App name es)))
   app_never name [] = never _ refl
   app_never name (e ∷ es) = never _ refl
 
-  level : (y : Exp-F Known) → Opens (typing_step s Exp (λ e. e) (typing s) (map-Exp Known Exp (λ e. e.0) y))
+  level : (y : Exp-F Known) → Opens (typing_step s Exp (typing s) (map-Exp Known Exp (λ e. e.0) y))
   level (Exp-F.Let x a b) = opens_let x (typing s a.0) (typing s b.0) b.1
   level (Exp-F.If a b d) = opens_two (typing s b.0) (typing s d.0) (Branches (typing s a.0) (typing s b.0) (typing s d.0))
   level (Exp-F.Case a arms) = opens_case s (typing s a.0) (map (arm_with Exp (typing s)) (map (λ arm. (arm.0, arm.1.0)) arms))

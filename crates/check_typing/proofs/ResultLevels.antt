@@ -24,7 +24,7 @@ step s X v k j _ = refl
 natural : (s : Signatures) (X : Type 0) (v : X → Exp) (k : Exp → AsResult) (x : Exp-F X)
     → result_level s X v (λ p. k (v p)) x ≡ result_level s Exp (λ y. y) k (map-Exp X Exp v x)
 natural s X v k x =
-    step s X v k (typing_step s X v (λ p. typing s (v p)) x) x
+    step s X v k (typing_step s X (λ p. typing s (v p)) x) x
     ∙ ap (λ j. result_step s Exp (λ y. y) k j (map-Exp X Exp v x)) (typing_natural s X v (typing s) x)
 
 -- what is said of a result is said of one level of it

@@ -120,7 +120,7 @@ module _ (s : Signatures) where
   level Exp-F.Star j w o = agrees_star_result j w o
   level _ j w o = agrees_plain j w o
 
-  whole : (x : Exp-F Exp) → Agrees (typing_step s Exp (λ e. e) (typing s) x) (walk_step s (walks x))
+  whole : (x : Exp-F Exp) → Agrees (typing_step s Exp (typing s) x) (walk_step s (walks x))
   whole x =
       subst (λ j. Agrees j (walk_step s (walks x))) (typing_roll s x) (subst (Agrees (typing s (roll-Exp x))) (walk_level x) (part (roll-Exp x)))
 

@@ -16,7 +16,7 @@ arms-map v k [] = refl
 arms-map v k (arm ∷ arms) = ap (λ ys. arm_with _ k (arm.0, v arm.1) ∷ ys) (arms-map v k arms)
 
 pub natural : (s : Signatures) (X : Type 0) (v : X → Exp) (k : Exp → Judged) (x : Exp-F X)
-    → typing_step s X v (λ p. k (v p)) x ≡ typing_step s Exp (λ y. y) k (map-Exp X Exp v x)
+    → typing_step s X (λ p. k (v p)) x ≡ typing_step s Exp k (map-Exp X Exp v x)
 natural s X v k (Exp-F.Case a arms) = ap (case_typing s (k (v a))) (arms-map v k arms)
 natural s X v k (Exp-F.App name parts) = ap (app_typing s name) (map-map v k parts)
 natural s X v k (Exp-F.Con name parts) = ap (con_typing s name) (map-map v k parts)
@@ -27,5 +27,5 @@ natural s X v k (Exp-F.Raise name (Some a)) = refl
 natural s X v k _ = refl
 
 -- what is said of an expression is said of one level of it
-pub typing_roll : (s : Signatures) (x : Exp-F Exp) → typing s (roll-Exp x) ≡ typing_step s Exp (λ y. y) (typing s) x
-typing_roll s = rec-roll-Exp Judged (typing_step s) (natural s)
+pub typing_roll : (s : Signatures) (x : Exp-F Exp) → typing s (roll-Exp x) ≡ typing_step s Exp (typing s) x
+typing_roll s = rec-roll-Exp Judged (λ X v. typing_step s X) (natural s)

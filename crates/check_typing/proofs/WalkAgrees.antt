@@ -37,7 +37,7 @@ module _ (s : Signatures) where
   arms_known [] = tt
   arms_known (arm ∷ arms) = (refl, arm.1.1, arms_known arms)
 
-  level : (y : Exp-F Known) → Agrees (typing_step s Exp (λ e. e) (typing s) (parts y)) (walk_step s (map-Exp Exp Walk (walk s) (parts y)))
+  level : (y : Exp-F Known) → Agrees (typing_step s Exp (typing s) (parts y)) (walk_step s (map-Exp Exp Walk (walk s) (parts y)))
   level (Exp-F.Let x a b) = agrees_let x _ _ _ _ a.1 b.1
   level (Exp-F.If a b d) = agrees_if _ _ _ _ b.1 d.1 _ _ a.1
   level (Exp-F.Case a arms) = agrees_case s _ _ _ _ a.1 (arms_known arms)
@@ -60,7 +60,7 @@ module _ (s : Signatures) where
 
   rolled : (y : Exp-F Known) → AgreesOn (roll-Exp (parts y))
   rolled y = subst (λ j. Agrees j (walk s (roll-Exp (parts y)))) (sym (typing_roll s (parts y)))
-      (subst (Agrees (typing_step s Exp (λ e. e) (typing s) (parts y))) (sym (fold-roll-Exp Walk (walk_step s) (parts y))) (level y))
+      (subst (Agrees (typing_step s Exp (typing s) (parts y))) (sym (fold-roll-Exp Walk (walk_step s) (parts y))) (level y))
 
   pub walk_agrees : (e : Exp) → Agrees (typing s e) (walk s e)
   walk_agrees = ind-Exp AgreesOn (λ x y is. subst (λ x. AgreesOn (roll-Exp x)) is (rolled y))

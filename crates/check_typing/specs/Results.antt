@@ -170,7 +170,7 @@ result_step signatures X v k j _ = plain_result j
 
 -- one level of an expression
 abbrev pub result_level : Signatures → (X : Type 0) → (X → Exp) → (X → AsResult) → Exp-F X → AsResult
-result_level signatures X v k x = result_step signatures X v k (typing_step signatures X v (λ part. typing signatures (v part)) x) x
+result_level signatures X v k x = result_step signatures X v k (typing_step signatures X (λ part. typing signatures (v part)) x) x
 
 -- what is said of an expression where a result stands
 abbrev pub as_result : Signatures → Exp → AsResult

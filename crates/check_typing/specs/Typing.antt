@@ -279,30 +279,30 @@ abbrev pub arm_with : (X : Type 0) → (X → Judged) → Pat × X → Arm
 arm_with X k arm = record { pat = arm.0; body = k arm.1 }
 
 -- one level of an expression, with what is said of its parts
-abbrev pub typing_step : Signatures → (X : Type 0) → (X → Exp) → (X → Judged) → Exp-F X → Judged
-typing_step signatures X v k (Exp-F.Let name a b) = let_typing name (k a) (k b)
-typing_step signatures X v k (Exp-F.If test a b) = if_typing (k test) (k a) (k b)
-typing_step signatures X v k (Exp-F.Case a arms) = case_typing signatures (k a) (map (arm_with X k) arms)
-typing_step signatures X v k (Exp-F.Raise name None) = raise_typing signatures name
-typing_step signatures X v k (Exp-F.Raise name (Some a)) = raise_with_typing signatures name (k a)
-typing_step signatures X v k (Exp-F.Binary sign a b) = binary_typing sign (k a) (k b)
-typing_step signatures X v k (Exp-F.Neg a) = neg_typing (k a)
-typing_step signatures X v k (Exp-F.Not a) = not_typing (k a)
-typing_step signatures X v k (Exp-F.App name parts) = app_typing signatures name (map k parts)
-typing_step signatures X v k (Exp-F.Con name parts) = con_typing signatures name (map k parts)
-typing_step signatures X v k (Exp-F.Update a b d) = update_typing (k a) (k b) (k d)
-typing_step signatures X v k (Exp-F.Num negative amount) = literal_typing negative amount
-typing_step signatures X v k (Exp-F.Letter byte) = letter_typing byte
-typing_step signatures X v k (Exp-F.Truth truth) = truth_typing truth
-typing_step signatures X v k (Exp-F.Paren a) = k a
-typing_step signatures X v k (Exp-F.Tuple parts) = tuple_typing (map k parts)
-typing_step signatures X v k (Exp-F.Cast a type) = cast_typing signatures (k a) type
-typing_step signatures X v k (Exp-F.Vect parts) = vector_typing (map k parts)
-typing_step signatures X v k Exp-F.Star = star_typing
+abbrev pub typing_step : Signatures → (X : Type 0) → (X → Judged) → Exp-F X → Judged
+typing_step signatures X k (Exp-F.Let name a b) = let_typing name (k a) (k b)
+typing_step signatures X k (Exp-F.If test a b) = if_typing (k test) (k a) (k b)
+typing_step signatures X k (Exp-F.Case a arms) = case_typing signatures (k a) (map (arm_with X k) arms)
+typing_step signatures X k (Exp-F.Raise name None) = raise_typing signatures name
+typing_step signatures X k (Exp-F.Raise name (Some a)) = raise_with_typing signatures name (k a)
+typing_step signatures X k (Exp-F.Binary sign a b) = binary_typing sign (k a) (k b)
+typing_step signatures X k (Exp-F.Neg a) = neg_typing (k a)
+typing_step signatures X k (Exp-F.Not a) = not_typing (k a)
+typing_step signatures X k (Exp-F.App name parts) = app_typing signatures name (map k parts)
+typing_step signatures X k (Exp-F.Con name parts) = con_typing signatures name (map k parts)
+typing_step signatures X k (Exp-F.Update a b d) = update_typing (k a) (k b) (k d)
+typing_step signatures X k (Exp-F.Num negative amount) = literal_typing negative amount
+typing_step signatures X k (Exp-F.Letter byte) = letter_typing byte
+typing_step signatures X k (Exp-F.Truth truth) = truth_typing truth
+typing_step signatures X k (Exp-F.Paren a) = k a
+typing_step signatures X k (Exp-F.Tuple parts) = tuple_typing (map k parts)
+typing_step signatures X k (Exp-F.Cast a type) = cast_typing signatures (k a) type
+typing_step signatures X k (Exp-F.Vect parts) = vector_typing (map k parts)
+typing_step signatures X k Exp-F.Star = star_typing
 
 -- what is said of an expression
 abbrev pub typing : Signatures → Exp → Judged
-typing signatures = rec-Exp Judged (typing_step signatures)
+typing signatures = rec-Exp Judged (λ X part. typing_step signatures X)
 
 -- the expression has the type by itself, with this core
 abbrev pub HasByItself : Signatures → Scope → Exp → Ty → Cored → Type 0
