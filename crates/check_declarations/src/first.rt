@@ -1,5 +1,6 @@
 ghost use Rattle.std.specs.Prelude.{◌<◌, ◌^◌, length, IfOk};
 ghost use Rattle.hume_base.specs.Least.{IsLeast};
+ghost use Rattle.check_tasks.specs.States.{signatures_in};
 ghost use Rattle.check_rules.specs.SignaturesOf.{AreSignatures};
 ghost use Rattle.check_declarations.specs.Mistyped.{IsMistyped};
 ghost use Rattle.check_declarations.specs.inner.Verdicts.{Breaks};
@@ -51,7 +52,7 @@ fn first_by<'a>(
     decls: &'a [(u32, Decl)],
 ) -> Result<Option<Finding>, AllocError>
     requires { length decls.now < 2 ^ 32 }
-    ensures { IfOk result (IsLeast (Breaks at.old.0.0.2 decls.now)) }
+    ensures { IfOk result (IsLeast (Breaks (signatures_in at.old.0) decls.now)) }
 {
     for (i, decl) in decls.iter().enumerate() {
         if let Some(rule) = broken_rule(alloc, at, &decl.1)? {

@@ -1,6 +1,7 @@
 //! The rule that a declaration breaks.
 ghost use Rattle.std.specs.Prelude.{◌≡◌, Some, None, IfOk, IfErr, OnOk};
 ghost use Rattle.check_typing.specs.inner.DeclarationWalk.{declaration_walk};
+ghost use Rattle.check_tasks.specs.States.{signatures_in};
 ghost use Rattle.check_expressions.specs.declared.stop.Stop.TheVariants.{NoType};
 ghost use Rattle.check_declarations.specs.inner.Verdicts.{broken_by};
 
@@ -19,7 +20,7 @@ pub(crate) fn broken_rule<'a>(
     at: &mut ResultElaboration<'a>,
     decl: &'a Decl,
 ) -> Result<Option<Rule>, AllocError>
-    ensures is { IfOk result (λ rule. rule ≡ broken_by (declaration_walk at.old.0.0.2 decl.now)) }
+    ensures is { IfOk result (λ rule. rule ≡ broken_by (declaration_walk (signatures_in at.old.0) decl.now)) }
     ensures keeps { IfOk result (λ rule. rule ≡ None → at.new ≡ at.old) }
 {
     match has_wide_literal(alloc, at, decl) {
@@ -38,8 +39,8 @@ fn has_wide_literal<'a>(
     decl: &'a Decl,
 ) -> Result<bool, Stop>
     ensures keeps { OnOk result (at.new ≡ at.old) }
-    ensures ok { IfOk result (λ too_wide. declaration_walk at.old.0.0.2 decl.now ≡ Some too_wide) }
-    ensures none { IfErr result (λ stop. stop ≡ NoType → declaration_walk at.old.0.0.2 decl.now ≡ None) }
+    ensures ok { IfOk result (λ too_wide. declaration_walk (signatures_in at.old.0) decl.now ≡ Some too_wide) }
+    ensures none { IfErr result (λ stop. stop ≡ NoType → declaration_walk (signatures_in at.old.0) decl.now ≡ None) }
 {
     match decl {
         Decl::Fun(_, types, equations) => {

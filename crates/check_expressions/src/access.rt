@@ -5,6 +5,7 @@ ghost use Rattle.check_scopes.specs.types.Contexts.{top, shape_of as shape_seen}
 ghost use Rattle.check_typing.specs.Signatures.{exn_named};
 ghost use Rattle.check_scopes.specs.Known.{with_exception};
 ghost use Rattle.check_cores.specs.Stacks.{top_core, top_pattern};
+ghost use Rattle.check_tasks.specs.States.{scope_in, types_in, signatures_in};
 
 use crate::elaboration::Elaboration;
 use check_scopes::types::Shape;
@@ -15,14 +16,14 @@ use std::alloc::{AllocError, Global};
 impl<'a> Elaboration<'a> {
     /// How many variables are in scope.
     pub fn variables(&self) -> usize
-        ensures { result ≡ length self.now.0.0 }
+        ensures { result ≡ length (scope_in self.now) }
     {
         self.environment.variables()
     }
 
     /// What is seen of the last type.
     pub fn shape(&self) -> Result<Shape, AllocError>
-        ensures { IfOk result (λ shape. shape ≡ shape_seen (out-Ty (top self.now.0.1))) }
+        ensures { IfOk result (λ shape. shape ≡ shape_seen (out-Ty (top (types_in self.now)))) }
     {
         self.environment.shape()
     }
@@ -30,14 +31,14 @@ impl<'a> Elaboration<'a> {
     /// The last type as a tree.
     pub fn tree(&mut self, alloc: Global) -> Result<Ty, AllocError>
         ensures keeps { OnOk result (self.new ≡ self.old) }
-        ensures is { IfOk result (λ ty. ty ≡ top self.old.0.1) }
+        ensures is { IfOk result (λ ty. ty ≡ top (types_in self.old)) }
     {
         self.environment.tree(alloc)
     }
 
     /// The number of the exception of a name, and whether it carries something. The type of what it carries goes on the stack.
     pub fn push_exception(&mut self, name: &[u8]) -> Result<Option<(u32, bool)>, AllocError>
-        ensures found { IfOk result (λ exn. (exn, self.new.0) ≡ with_exception (exn_named name.now self.old.0.2) self.old.0) }
+        ensures found { IfOk result (λ exn. (exn, self.new.0) ≡ with_exception (exn_named name.now (signatures_in self.old)) self.old.0) }
         ensures keeps { OnOk result (self.new ≡ (self.new.0, self.old.1, self.old.2, self.old.3)) }
     {
         self.environment.push_exception(name)

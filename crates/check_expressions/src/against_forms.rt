@@ -2,6 +2,7 @@
 ghost use Rattle.std.specs.Prelude.{◌≡◌, OnOk, IfErr};
 ghost use Rattle.check_scopes.specs.types.Contexts.{top};
 ghost use Rattle.check_typing.specs.inner.Walk.{walk, let_walk, if_walk, case_walk, arithmetic_walk, neg_walk, update_walk, tuple_walk};
+ghost use Rattle.check_tasks.specs.States.{scope_in, types_in, signatures_in};
 ghost use Rattle.check_tasks.specs.Tasks.{walks, arm_walks};
 ghost use Rattle.check_expressions.specs.inner.Plans.{DoesAgainst};
 ghost use Rattle.check_expressions.specs.declared.stop.Stop.TheVariants.{NoMemory};
@@ -23,7 +24,7 @@ pub(crate) fn let_against<'a>(
     a: &'a Exp,
     b: &'a Exp,
 ) -> Result<(), Stop>
-    ensures ok { OnOk result (DoesAgainst ((let_walk name.now (walk at.now.0.2 a.now) (walk at.now.0.2 b.now)).against at.now.0.0 (top at.now.0.1)) at.now tasks.old tasks.new) }
+    ensures ok { OnOk result (DoesAgainst ((let_walk name.now (walk (signatures_in at.now) a.now) (walk (signatures_in at.now) b.now)).against (scope_in at.now) (top (types_in at.now))) at.now tasks.old tasks.new) }
     ensures none { IfErr result (λ stop. stop ≡ NoMemory) }
 {
     let count = at.environment.variables();
@@ -47,7 +48,7 @@ pub(crate) fn if_against<'a>(
     a: &'a Exp,
     b: &'a Exp,
 ) -> Result<(), Stop>
-    ensures ok { OnOk result (DoesAgainst ((if_walk (walk at.now.0.2 test.now) (walk at.now.0.2 a.now) (walk at.now.0.2 b.now)).against at.now.0.0 (top at.now.0.1)) at.now tasks.old tasks.new) }
+    ensures ok { OnOk result (DoesAgainst ((if_walk (walk (signatures_in at.now) test.now) (walk (signatures_in at.now) a.now) (walk (signatures_in at.now) b.now)).against (scope_in at.now) (top (types_in at.now))) at.now tasks.old tasks.new) }
     ensures none { IfErr result (λ stop. stop ≡ NoMemory) }
 {
     first(
@@ -70,7 +71,7 @@ pub(crate) fn case_against<'a>(
     a: &'a Exp,
     arms: &'a [(Pat, Exp)],
 ) -> Result<(), Stop>
-    ensures ok { OnOk result (DoesAgainst ((case_walk at.now.0.2 (walk at.now.0.2 a.now) (arm_walks at.now.0.2 arms.now)).against at.now.0.0 (top at.now.0.1)) at.now tasks.old tasks.new) }
+    ensures ok { OnOk result (DoesAgainst ((case_walk (signatures_in at.now) (walk (signatures_in at.now) a.now) (arm_walks (signatures_in at.now) arms.now)).against (scope_in at.now) (top (types_in at.now))) at.now tasks.old tasks.new) }
     ensures none { IfErr result (λ stop. stop ≡ NoMemory) }
 {
     first(
@@ -94,7 +95,7 @@ pub(crate) fn arithmetic_against<'a>(
     a: &'a Exp,
     b: &'a Exp,
 ) -> Result<(), Stop>
-    ensures ok { OnOk result (DoesAgainst ((arithmetic_walk operation (walk at.now.0.2 a.now) (walk at.now.0.2 b.now)).against at.now.0.0 (top at.now.0.1)) at.now tasks.old tasks.new) }
+    ensures ok { OnOk result (DoesAgainst ((arithmetic_walk operation (walk (signatures_in at.now) a.now) (walk (signatures_in at.now) b.now)).against (scope_in at.now) (top (types_in at.now))) at.now tasks.old tasks.new) }
     ensures none { IfErr result (λ stop. stop ≡ NoMemory) }
 {
     first(
@@ -114,7 +115,7 @@ pub(crate) fn neg_against<'a>(
     tasks: &mut Stack<Task<'a>>,
     a: &'a Exp,
 ) -> Result<(), Stop>
-    ensures ok { OnOk result (DoesAgainst ((neg_walk (walk at.now.0.2 a.now)).against at.now.0.0 (top at.now.0.1)) at.now tasks.old tasks.new) }
+    ensures ok { OnOk result (DoesAgainst ((neg_walk (walk (signatures_in at.now) a.now)).against (scope_in at.now) (top (types_in at.now))) at.now tasks.old tasks.new) }
     ensures none { IfErr result (λ stop. stop ≡ NoMemory) }
 {
     first(
@@ -135,7 +136,7 @@ pub(crate) fn update_against<'a>(
     b: &'a Exp,
     d: &'a Exp,
 ) -> Result<(), Stop>
-    ensures ok { OnOk result (DoesAgainst ((update_walk (walk at.now.0.2 a.now) (walk at.now.0.2 b.now) (walk at.now.0.2 d.now)).against at.now.0.0 (top at.now.0.1)) at.now tasks.old tasks.new) }
+    ensures ok { OnOk result (DoesAgainst ((update_walk (walk (signatures_in at.now) a.now) (walk (signatures_in at.now) b.now) (walk (signatures_in at.now) d.now)).against (scope_in at.now) (top (types_in at.now))) at.now tasks.old tasks.new) }
     ensures none { IfErr result (λ stop. stop ≡ NoMemory) }
 {
     first(tasks, &[Task::Against(a), Task::Update(b, d)])
@@ -147,7 +148,7 @@ pub(crate) fn tuple_against<'a>(
     tasks: &mut Stack<Task<'a>>,
     parts: &'a [Exp],
 ) -> Result<(), Stop>
-    ensures ok { OnOk result (DoesAgainst ((tuple_walk (walks at.now.0.2 parts.now)).against at.now.0.0 (top at.now.0.1)) at.now tasks.old tasks.new) }
+    ensures ok { OnOk result (DoesAgainst ((tuple_walk (walks (signatures_in at.now) parts.now)).against (scope_in at.now) (top (types_in at.now))) at.now tasks.old tasks.new) }
     ensures none { IfErr result (λ stop. stop ≡ NoMemory) }
 {
     first(

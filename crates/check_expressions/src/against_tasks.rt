@@ -3,6 +3,7 @@ ghost use Rattle.std.specs.Prelude.{◌≡◌, None, OnOk, IfErr};
 ghost use Rattle.check_scopes.specs.types.Contexts.{top};
 ghost use Rattle.check_typing.specs.Partial.{given};
 ghost use Rattle.check_typing.specs.inner.Walk.{walk, expected, binary_walk, vector_walk};
+ghost use Rattle.check_tasks.specs.States.{scope_in, types_in, signatures_in};
 ghost use Rattle.check_tasks.specs.Tasks.{run, against_of, walks};
 ghost use Rattle.check_expressions.specs.inner.Plans.{DoesAgainst};
 ghost use Rattle.check_expressions.specs.declared.stop.Stop.TheVariants.{NoType, NoMemory};
@@ -28,8 +29,8 @@ pub(crate) fn against_tasks<'a>(
     tasks: &mut Stack<Task<'a>>,
     e: &'a Exp,
 ) -> Result<(), Stop>
-    ensures ok { OnOk result (run tasks.new at.new ≡ given (against_of ((walk at.old.0.2 e.now).against at.old.0.0 (top at.old.0.1)) at.old) (run tasks.old)) }
-    ensures none { IfErr result (λ stop. stop ≡ NoType → (walk at.old.0.2 e.now).against at.old.0.0 (top at.old.0.1) ≡ None) }
+    ensures ok { OnOk result (run tasks.new at.new ≡ given (against_of ((walk (signatures_in at.old) e.now).against (scope_in at.old) (top (types_in at.old))) at.old) (run tasks.old)) }
+    ensures none { IfErr result (λ stop. stop ≡ NoType → (walk (signatures_in at.old) e.now).against (scope_in at.old) (top (types_in at.old)) ≡ None) }
 {
     match e {
         Exp::Let(name, a, b) => let_against(at, tasks, name, a, b),
@@ -57,7 +58,7 @@ pub(crate) fn against_tasks<'a>(
 // An expression that must have the last type by itself.
 #[tactic(auto, using(crate::proofs::Forms::closed_steps))]
 fn closed<'a>(at: &Elaboration<'a>, tasks: &mut Stack<Task<'a>>, e: &'a Exp) -> Result<(), Stop>
-    ensures ok { OnOk result (DoesAgainst (expected ((walk at.now.0.2 e.now).own at.now.0.0) (top at.now.0.1)) at.now tasks.old tasks.new) }
+    ensures ok { OnOk result (DoesAgainst (expected ((walk (signatures_in at.now) e.now).own (scope_in at.now)) (top (types_in at.now))) at.now tasks.old tasks.new) }
     ensures none { IfErr result (λ stop. stop ≡ NoMemory) }
 {
     first(tasks, &[Task::Own(e), Task::Types(TypeTask::IsSame)])
@@ -73,7 +74,7 @@ fn binary_against<'a>(
     a: &'a Exp,
     b: &'a Exp,
 ) -> Result<(), Stop>
-    ensures ok { walk at.now.0.2 e.now ≡ binary_walk sign (walk at.now.0.2 a.now) (walk at.now.0.2 b.now) → OnOk result (DoesAgainst ((walk at.now.0.2 e.now).against at.now.0.0 (top at.now.0.1)) at.now tasks.old tasks.new) }
+    ensures ok { walk (signatures_in at.now) e.now ≡ binary_walk sign (walk (signatures_in at.now) a.now) (walk (signatures_in at.now) b.now) → OnOk result (DoesAgainst ((walk (signatures_in at.now) e.now).against (scope_in at.now) (top (types_in at.now))) at.now tasks.old tasks.new) }
     ensures none { IfErr result (λ stop. stop ≡ NoMemory) }
 {
     match sign {
@@ -100,7 +101,7 @@ fn paren_against<'a>(
     tasks: &mut Stack<Task<'a>>,
     a: &'a Exp,
 ) -> Result<(), Stop>
-    ensures ok { OnOk result (DoesAgainst ((walk at.now.0.2 a.now).against at.now.0.0 (top at.now.0.1)) at.now tasks.old tasks.new) }
+    ensures ok { OnOk result (DoesAgainst ((walk (signatures_in at.now) a.now).against (scope_in at.now) (top (types_in at.now))) at.now tasks.old tasks.new) }
     ensures none { IfErr result (λ stop. stop ≡ NoMemory) }
 {
     first(tasks, &[Task::Against(a)])
@@ -112,8 +113,8 @@ fn vector_against<'a>(
     tasks: &mut Stack<Task<'a>>,
     parts: &'a [Exp],
 ) -> Result<(), Stop>
-    ensures ok { OnOk result (DoesAgainst ((vector_walk (walks at.now.0.2 parts.now)).against at.now.0.0 (top at.now.0.1)) at.now tasks.old tasks.new) }
-    ensures none { IfErr result (λ stop. stop ≡ NoType → (vector_walk (walks at.now.0.2 parts.now)).against at.now.0.0 (top at.now.0.1) ≡ None) }
+    ensures ok { OnOk result (DoesAgainst ((vector_walk (walks (signatures_in at.now) parts.now)).against (scope_in at.now) (top (types_in at.now))) at.now tasks.old tasks.new) }
+    ensures none { IfErr result (λ stop. stop ≡ NoType → (vector_walk (walks (signatures_in at.now) parts.now)).against (scope_in at.now) (top (types_in at.now)) ≡ None) }
 {
     let count = at.expect_vector()?;
     if parts.len() != count as usize {

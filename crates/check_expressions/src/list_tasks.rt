@@ -1,7 +1,7 @@
 //! The tasks of lists.
 ghost use Rattle.std.specs.Prelude.{◌≡◌, ◌∷◌, ◌++◌, true, false, None, OnOk, IfErr};
 ghost use Rattle.check_typing.specs.Partial.{given};
-ghost use Rattle.check_tasks.specs.States.{State};
+ghost use Rattle.check_tasks.specs.States.{State, signatures_in};
 ghost use Rattle.check_typing.specs.inner.Walk.{walk, arm_walks_open};
 ghost use Rattle.check_tasks.specs.Tasks.{run, step, arm_walks};
 ghost use Rattle.check_tasks.specs.declared.task.Task.TheVariants.{Two as TwoTask, Parts as PartsTask, Each as EachTask, OwnParts as OwnPartsTask, OwnEach as OwnEachTask, Arms as ArmsTask, OwnArms as OwnArmsTask, Index as IndexTask, Update as UpdateTask};
@@ -200,8 +200,8 @@ fn parted_arms_tasks<'a>(
     behind: &'a [(Pat, Exp)],
 ) -> Result<(), Stop>
     requires whole { arms.now ≡ front.now ++ (pattern.now, body.now) ∷ behind.now }
-    requires all_open { arm_walks_open (arm_walks at.now.0.2 front.now) ≡ true }
-    requires is_closed { (walk at.now.0.2 body.now).is_open ≡ false }
+    requires all_open { arm_walks_open (arm_walks (signatures_in at.now) front.now) ≡ true }
+    requires is_closed { (walk (signatures_in at.now) body.now).is_open ≡ false }
     ensures ok { OnOk result (run tasks.new at.now ≡ given (step (OwnArmsTask arms.entry) at.now) (run tasks.old)) }
     ensures none { IfErr result (λ stop. stop ≡ NoMemory) }
 {

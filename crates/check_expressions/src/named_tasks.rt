@@ -5,6 +5,7 @@ ghost use Rattle.check_typing.specs.Partial.{given};
 ghost use Rattle.check_typing.specs.Signatures.{exn_named};
 ghost use Rattle.check_typing.specs.Cores.{raise_core, raise_with_core};
 ghost use Rattle.check_typing.specs.inner.Walk.{walk, app_walk, con_walk, cast_walk, raise_walk, raise_with_walk, raised_alone, raised_with};
+ghost use Rattle.check_tasks.specs.States.{scope_in, signatures_in};
 ghost use Rattle.check_tasks.specs.Tasks.{run, own_of, against_of, walks};
 ghost use Rattle.check_expressions.specs.declared.stop.Stop.TheVariants.{NoType};
 
@@ -21,8 +22,8 @@ use hume_base::Text;
 /// A variable by itself.
 #[tactic(auto, using(crate::proofs::Named::named_steps))]
 pub(crate) fn variable_own(at: &mut Elaboration, name: &Text) -> Result<(), Stop>
-    ensures ok { OnOk result (own_of ((app_walk at.old.0.2 name.now []).own at.old.0.0) at.old ≡ Some at.new) }
-    ensures none { IfErr result (λ stop. stop ≡ NoType → (app_walk at.old.0.2 name.now []).own at.old.0.0 ≡ None) }
+    ensures ok { OnOk result (own_of ((app_walk (signatures_in at.old) name.now []).own (scope_in at.old)) at.old ≡ Some at.new) }
+    ensures none { IfErr result (λ stop. stop ≡ NoType → (app_walk (signatures_in at.old) name.now []).own (scope_in at.old) ≡ None) }
 {
     let Some(number) = at.environment.find(name.bytes())? else {
         return Err(Stop::NoType);
@@ -39,8 +40,8 @@ pub(crate) fn call_own<'a>(
     name: &Text,
     parts: &'a [Exp],
 ) -> Result<(), Stop>
-    ensures ok { (part : Expression) (rest : List Expression) → parts.now ≡ part ∷ rest → OnOk result (run tasks.new at.new ≡ given (own_of ((app_walk at.old.0.2 name.now (walks at.old.0.2 parts.now)).own at.old.0.0) at.old) (run tasks.old)) }
-    ensures none { (part : Expression) (rest : List Expression) → parts.now ≡ part ∷ rest → IfErr result (λ stop. stop ≡ NoType → (app_walk at.old.0.2 name.now (walks at.old.0.2 parts.now)).own at.old.0.0 ≡ None) }
+    ensures ok { (part : Expression) (rest : List Expression) → parts.now ≡ part ∷ rest → OnOk result (run tasks.new at.new ≡ given (own_of ((app_walk (signatures_in at.old) name.now (walks (signatures_in at.old) parts.now)).own (scope_in at.old)) at.old) (run tasks.old)) }
+    ensures none { (part : Expression) (rest : List Expression) → parts.now ≡ part ∷ rest → IfErr result (λ stop. stop ≡ NoType → (app_walk (signatures_in at.old) name.now (walks (signatures_in at.old) parts.now)).own (scope_in at.old) ≡ None) }
 {
     let Some(number) = at.environment.push_function(name.bytes())? else {
         return Err(Stop::NoType);
@@ -66,8 +67,8 @@ pub(crate) fn constructor_own<'a>(
     name: &Text,
     parts: &'a [Exp],
 ) -> Result<(), Stop>
-    ensures ok { OnOk result (run tasks.new at.new ≡ given (own_of ((con_walk at.old.0.2 name.now (walks at.old.0.2 parts.now)).own at.old.0.0) at.old) (run tasks.old)) }
-    ensures none { IfErr result (λ stop. stop ≡ NoType → (con_walk at.old.0.2 name.now (walks at.old.0.2 parts.now)).own at.old.0.0 ≡ None) }
+    ensures ok { OnOk result (run tasks.new at.new ≡ given (own_of ((con_walk (signatures_in at.old) name.now (walks (signatures_in at.old) parts.now)).own (scope_in at.old)) at.old) (run tasks.old)) }
+    ensures none { IfErr result (λ stop. stop ≡ NoType → (con_walk (signatures_in at.old) name.now (walks (signatures_in at.old) parts.now)).own (scope_in at.old) ≡ None) }
 {
     let Some((sum, place)) = at.environment.push_constructor(name.bytes())? else {
         return Err(Stop::NoType);
@@ -86,8 +87,8 @@ pub(crate) fn constructor_own<'a>(
 /// An exception that carries nothing.
 #[tactic(auto, using(crate::proofs::Named::named_steps))]
 pub(crate) fn raise_alone(at: &mut Elaboration, name: &Text) -> Result<(), Stop>
-    ensures ok { OnOk result (against_of (given (raised_alone (exn_named name.now at.old.0.2)) (λ number. Some (raise_core number))) at.old ≡ Some at.new) }
-    ensures none { IfErr result (λ stop. stop ≡ NoType → raised_alone (exn_named name.now at.old.0.2) ≡ None) }
+    ensures ok { OnOk result (against_of (given (raised_alone (exn_named name.now (signatures_in at.old))) (λ number. Some (raise_core number))) at.old ≡ Some at.new) }
+    ensures none { IfErr result (λ stop. stop ≡ NoType → raised_alone (exn_named name.now (signatures_in at.old)) ≡ None) }
 {
     match at.environment.push_exception(name.bytes())? {
         None => Err(Stop::NoType),
@@ -102,8 +103,8 @@ pub(crate) fn raise_alone(at: &mut Elaboration, name: &Text) -> Result<(), Stop>
 /// An exception that carries nothing, by itself.
 #[tactic(auto, using(crate::proofs::Named::opened_steps))]
 pub(crate) fn raise_own(at: &mut Elaboration, name: &Text) -> Result<(), Stop>
-    ensures ok { OnOk result (own_of ((raise_walk at.old.0.2 name.now).own at.old.0.0) at.old ≡ Some at.new) }
-    ensures none { IfErr result (λ stop. stop ≡ NoType → (raise_walk at.old.0.2 name.now).own at.old.0.0 ≡ None) }
+    ensures ok { OnOk result (own_of ((raise_walk (signatures_in at.old) name.now).own (scope_in at.old)) at.old ≡ Some at.new) }
+    ensures none { IfErr result (λ stop. stop ≡ NoType → (raise_walk (signatures_in at.old) name.now).own (scope_in at.old) ≡ None) }
 {
     at.environment.push(Node::Int(32))?;
     raise_alone(at, name)
@@ -117,8 +118,8 @@ pub(crate) fn raise_with_own<'a>(
     name: &Text,
     a: &'a Exp,
 ) -> Result<(), Stop>
-    ensures ok { OnOk result (run tasks.new at.new ≡ given (own_of ((raise_with_walk at.old.0.2 name.now (walk at.old.0.2 a.now)).own at.old.0.0) at.old) (run tasks.old)) }
-    ensures none { IfErr result (λ stop. stop ≡ NoType → (raise_with_walk at.old.0.2 name.now (walk at.old.0.2 a.now)).own at.old.0.0 ≡ None) }
+    ensures ok { OnOk result (run tasks.new at.new ≡ given (own_of ((raise_with_walk (signatures_in at.old) name.now (walk (signatures_in at.old) a.now)).own (scope_in at.old)) at.old) (run tasks.old)) }
+    ensures none { IfErr result (λ stop. stop ≡ NoType → (raise_with_walk (signatures_in at.old) name.now (walk (signatures_in at.old) a.now)).own (scope_in at.old) ≡ None) }
 {
     at.environment.push(Node::Int(32))?;
     raise_with(at, tasks, name, a)
@@ -132,8 +133,8 @@ pub(crate) fn raise_with<'a>(
     name: &Text,
     a: &'a Exp,
 ) -> Result<(), Stop>
-    ensures ok { OnOk result (run tasks.new at.new ≡ given (against_of (given (raised_with (exn_named name.now at.old.0.2) (walk at.old.0.2 a.now) at.old.0.0) (λ raised. Some (raise_with_core raised.0 raised.1))) at.old) (run tasks.old)) }
-    ensures none { IfErr result (λ stop. stop ≡ NoType → given (raised_with (exn_named name.now at.old.0.2) (walk at.old.0.2 a.now) at.old.0.0) (λ raised. Some (raise_with_core raised.0 raised.1)) ≡ None) }
+    ensures ok { OnOk result (run tasks.new at.new ≡ given (against_of (given (raised_with (exn_named name.now (signatures_in at.old)) (walk (signatures_in at.old) a.now) (scope_in at.old)) (λ raised. Some (raise_with_core raised.0 raised.1))) at.old) (run tasks.old)) }
+    ensures none { IfErr result (λ stop. stop ≡ NoType → given (raised_with (exn_named name.now (signatures_in at.old)) (walk (signatures_in at.old) a.now) (scope_in at.old)) (λ raised. Some (raise_with_core raised.0 raised.1)) ≡ None) }
 {
     match at.environment.push_exception(name.bytes())? {
         None => Err(Stop::NoType),
@@ -157,8 +158,8 @@ pub(crate) fn cast_own<'a>(
     a: &'a Exp,
     ty: &TyExp,
 ) -> Result<(), Stop>
-    ensures ok { OnOk result (run tasks.new at.new ≡ given (own_of ((cast_walk at.old.0.2 (walk at.old.0.2 a.now) ty.now).own at.old.0.0) at.old) (run tasks.old)) }
-    ensures none { IfErr result (λ stop. stop ≡ NoType → (cast_walk at.old.0.2 (walk at.old.0.2 a.now) ty.now).own at.old.0.0 ≡ None) }
+    ensures ok { OnOk result (run tasks.new at.new ≡ given (own_of ((cast_walk (signatures_in at.old) (walk (signatures_in at.old) a.now) ty.now).own (scope_in at.old)) at.old) (run tasks.old)) }
+    ensures none { IfErr result (λ stop. stop ≡ NoType → (cast_walk (signatures_in at.old) (walk (signatures_in at.old) a.now) ty.now).own (scope_in at.old) ≡ None) }
 {
     let Some(node) = number_node(ty) else {
         return Err(Stop::NoType);

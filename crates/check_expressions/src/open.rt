@@ -1,6 +1,7 @@
 //! Whether an expression has no type of its own.
 ghost use Rattle.std.specs.Prelude.{◌≡◌, ◌<◌, true, length, IfSome, MatchOption};
 ghost use Rattle.check_typing.specs.inner.Walk.{walk, arm_walks_open};
+ghost use Rattle.check_tasks.specs.States.{signatures_in};
 ghost use Rattle.check_tasks.specs.Tasks.{walks, arm_walks, walks_open};
 ghost use Rattle.check_expressions.specs.inner.Open.{is_arithmetic_sign, IsFirstClosed, IsFirstClosedArm};
 
@@ -11,7 +12,7 @@ use hume_ast::{BinOp, Exp, Pat};
 #[cycle(is_open)]
 #[tactic(auto, using(crate::proofs::Opening::open_steps))]
 pub(crate) fn is_open(at: &Elaboration, e: &Exp) -> bool
-    ensures { result ≡ (walk at.now.0.2 e.now).is_open }
+    ensures { result ≡ (walk (signatures_in at.now) e.now).is_open }
 {
     match e {
         Exp::Let(_, _, b) => is_open(at, b),
@@ -40,7 +41,7 @@ pub(crate) fn is_open(at: &Elaboration, e: &Exp) -> bool
 #[cycle(is_open)]
 #[tactic(auto, using(crate::proofs::Opening::open_steps))]
 fn are_arms_open(at: &Elaboration, arms: &[(Pat, Exp)]) -> bool
-    ensures { result ≡ arm_walks_open (arm_walks at.now.0.2 arms.now) }
+    ensures { result ≡ arm_walks_open (arm_walks (signatures_in at.now) arms.now) }
 {
     for arm in arms {
         if !is_open(at, &arm.1) {
@@ -64,7 +65,7 @@ fn is_arithmetic(sign: BinOp) -> bool
 /// The place of the first of the expressions that has a type of its own.
 #[tactic(auto, using(crate::proofs::Opening::first_steps))]
 pub(crate) fn first_closed(at: &Elaboration, parts: &[Exp]) -> Option<usize>
-    ensures is { MatchOption result (walks_open (walks at.now.0.2 parts.now) ≡ true) (IsFirstClosed at.now.0.2 parts.now) }
+    ensures is { MatchOption result (walks_open (walks (signatures_in at.now) parts.now) ≡ true) (IsFirstClosed (signatures_in at.now) parts.now) }
     ensures within { IfSome result (λ place. place < length parts.now) }
 {
     for place in 0..parts.len() {
@@ -78,7 +79,7 @@ pub(crate) fn first_closed(at: &Elaboration, parts: &[Exp]) -> Option<usize>
 /// The place of the first of the alternatives whose body has a type of its own.
 #[tactic(auto, using(crate::proofs::Opening::first_steps))]
 pub(crate) fn first_closed_arm(at: &Elaboration, arms: &[(Pat, Exp)]) -> Option<usize>
-    ensures is { MatchOption result (arm_walks_open (arm_walks at.now.0.2 arms.now) ≡ true) (IsFirstClosedArm at.now.0.2 arms.now) }
+    ensures is { MatchOption result (arm_walks_open (arm_walks (signatures_in at.now) arms.now) ≡ true) (IsFirstClosedArm (signatures_in at.now) arms.now) }
     ensures within { IfSome result (λ place. place < length arms.now) }
 {
     for place in 0..arms.len() {

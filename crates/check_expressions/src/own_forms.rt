@@ -2,6 +2,7 @@
 ghost use Rattle.std.specs.Prelude.{◌≡◌, OnOk, IfErr};
 ghost use Rattle.check_typing.specs.Cores.{and_core, or_core};
 ghost use Rattle.check_typing.specs.inner.Walk.{walk, let_walk, if_walk, case_walk, arithmetic_walk, comparison_walk, logic_walk, index_walk, neg_walk, not_walk, update_walk, tuple_walk, vector_walk};
+ghost use Rattle.check_tasks.specs.States.{scope_in, signatures_in};
 ghost use Rattle.check_tasks.specs.Tasks.{walks, arm_walks};
 ghost use Rattle.check_expressions.specs.inner.Plans.{DoesOwn};
 ghost use Rattle.check_expressions.specs.declared.stop.Stop.TheVariants.{NoMemory};
@@ -23,7 +24,7 @@ pub(crate) fn let_own<'a>(
     a: &'a Exp,
     b: &'a Exp,
 ) -> Result<(), Stop>
-    ensures ok { OnOk result (DoesOwn ((let_walk name.now (walk at.now.0.2 a.now) (walk at.now.0.2 b.now)).own at.now.0.0) at.now tasks.old tasks.new) }
+    ensures ok { OnOk result (DoesOwn ((let_walk name.now (walk (signatures_in at.now) a.now) (walk (signatures_in at.now) b.now)).own (scope_in at.now)) at.now tasks.old tasks.new) }
     ensures none { IfErr result (λ stop. stop ≡ NoMemory) }
 {
     let count = at.environment.variables();
@@ -47,7 +48,7 @@ pub(crate) fn if_own<'a>(
     a: &'a Exp,
     b: &'a Exp,
 ) -> Result<(), Stop>
-    ensures ok { OnOk result (DoesOwn ((if_walk (walk at.now.0.2 test.now) (walk at.now.0.2 a.now) (walk at.now.0.2 b.now)).own at.now.0.0) at.now tasks.old tasks.new) }
+    ensures ok { OnOk result (DoesOwn ((if_walk (walk (signatures_in at.now) test.now) (walk (signatures_in at.now) a.now) (walk (signatures_in at.now) b.now)).own (scope_in at.now)) at.now tasks.old tasks.new) }
     ensures none { IfErr result (λ stop. stop ≡ NoMemory) }
 {
     first(
@@ -69,7 +70,7 @@ pub(crate) fn case_own<'a>(
     a: &'a Exp,
     arms: &'a [(Pat, Exp)],
 ) -> Result<(), Stop>
-    ensures ok { OnOk result (DoesOwn ((case_walk at.now.0.2 (walk at.now.0.2 a.now) (arm_walks at.now.0.2 arms.now)).own at.now.0.0) at.now tasks.old tasks.new) }
+    ensures ok { OnOk result (DoesOwn ((case_walk (signatures_in at.now) (walk (signatures_in at.now) a.now) (arm_walks (signatures_in at.now) arms.now)).own (scope_in at.now)) at.now tasks.old tasks.new) }
     ensures none { IfErr result (λ stop. stop ≡ NoMemory) }
 {
     first(
@@ -93,7 +94,7 @@ pub(crate) fn arithmetic_own<'a>(
     a: &'a Exp,
     b: &'a Exp,
 ) -> Result<(), Stop>
-    ensures ok { OnOk result (DoesOwn ((arithmetic_walk operation (walk at.now.0.2 a.now) (walk at.now.0.2 b.now)).own at.now.0.0) at.now tasks.old tasks.new) }
+    ensures ok { OnOk result (DoesOwn ((arithmetic_walk operation (walk (signatures_in at.now) a.now) (walk (signatures_in at.now) b.now)).own (scope_in at.now)) at.now tasks.old tasks.new) }
     ensures none { IfErr result (λ stop. stop ≡ NoMemory) }
 {
     first(
@@ -114,7 +115,7 @@ pub(crate) fn comparison_own<'a>(
     a: &'a Exp,
     b: &'a Exp,
 ) -> Result<(), Stop>
-    ensures ok { OnOk result (DoesOwn ((comparison_walk operation (walk at.now.0.2 a.now) (walk at.now.0.2 b.now)).own at.now.0.0) at.now tasks.old tasks.new) }
+    ensures ok { OnOk result (DoesOwn ((comparison_walk operation (walk (signatures_in at.now) a.now) (walk (signatures_in at.now) b.now)).own (scope_in at.now)) at.now tasks.old tasks.new) }
     ensures none { IfErr result (λ stop. stop ≡ NoMemory) }
 {
     first(
@@ -136,7 +137,7 @@ pub(crate) fn and_own<'a>(
     a: &'a Exp,
     b: &'a Exp,
 ) -> Result<(), Stop>
-    ensures ok { OnOk result (DoesOwn ((logic_walk and_core (walk at.now.0.2 a.now) (walk at.now.0.2 b.now)).own at.now.0.0) at.now tasks.old tasks.new) }
+    ensures ok { OnOk result (DoesOwn ((logic_walk and_core (walk (signatures_in at.now) a.now) (walk (signatures_in at.now) b.now)).own (scope_in at.now)) at.now tasks.old tasks.new) }
     ensures none { IfErr result (λ stop. stop ≡ NoMemory) }
 {
     first(
@@ -157,7 +158,7 @@ pub(crate) fn or_own<'a>(
     a: &'a Exp,
     b: &'a Exp,
 ) -> Result<(), Stop>
-    ensures ok { OnOk result (DoesOwn ((logic_walk or_core (walk at.now.0.2 a.now) (walk at.now.0.2 b.now)).own at.now.0.0) at.now tasks.old tasks.new) }
+    ensures ok { OnOk result (DoesOwn ((logic_walk or_core (walk (signatures_in at.now) a.now) (walk (signatures_in at.now) b.now)).own (scope_in at.now)) at.now tasks.old tasks.new) }
     ensures none { IfErr result (λ stop. stop ≡ NoMemory) }
 {
     first(
@@ -178,7 +179,7 @@ pub(crate) fn index_own<'a>(
     a: &'a Exp,
     b: &'a Exp,
 ) -> Result<(), Stop>
-    ensures ok { OnOk result (DoesOwn ((index_walk (walk at.now.0.2 a.now) (walk at.now.0.2 b.now)).own at.now.0.0) at.now tasks.old tasks.new) }
+    ensures ok { OnOk result (DoesOwn ((index_walk (walk (signatures_in at.now) a.now) (walk (signatures_in at.now) b.now)).own (scope_in at.now)) at.now tasks.old tasks.new) }
     ensures none { IfErr result (λ stop. stop ≡ NoMemory) }
 {
     first(tasks, &[Task::Own(a), Task::Index(b)])
@@ -190,7 +191,7 @@ pub(crate) fn neg_own<'a>(
     tasks: &mut Stack<Task<'a>>,
     a: &'a Exp,
 ) -> Result<(), Stop>
-    ensures ok { OnOk result (DoesOwn ((neg_walk (walk at.now.0.2 a.now)).own at.now.0.0) at.now tasks.old tasks.new) }
+    ensures ok { OnOk result (DoesOwn ((neg_walk (walk (signatures_in at.now) a.now)).own (scope_in at.now)) at.now tasks.old tasks.new) }
     ensures none { IfErr result (λ stop. stop ≡ NoMemory) }
 {
     first(
@@ -209,7 +210,7 @@ pub(crate) fn not_own<'a>(
     tasks: &mut Stack<Task<'a>>,
     a: &'a Exp,
 ) -> Result<(), Stop>
-    ensures ok { OnOk result (DoesOwn ((not_walk (walk at.now.0.2 a.now)).own at.now.0.0) at.now tasks.old tasks.new) }
+    ensures ok { OnOk result (DoesOwn ((not_walk (walk (signatures_in at.now) a.now)).own (scope_in at.now)) at.now tasks.old tasks.new) }
     ensures none { IfErr result (λ stop. stop ≡ NoMemory) }
 {
     first(
@@ -230,7 +231,7 @@ pub(crate) fn update_own<'a>(
     b: &'a Exp,
     d: &'a Exp,
 ) -> Result<(), Stop>
-    ensures ok { OnOk result (DoesOwn ((update_walk (walk at.now.0.2 a.now) (walk at.now.0.2 b.now) (walk at.now.0.2 d.now)).own at.now.0.0) at.now tasks.old tasks.new) }
+    ensures ok { OnOk result (DoesOwn ((update_walk (walk (signatures_in at.now) a.now) (walk (signatures_in at.now) b.now) (walk (signatures_in at.now) d.now)).own (scope_in at.now)) at.now tasks.old tasks.new) }
     ensures none { IfErr result (λ stop. stop ≡ NoMemory) }
 {
     first(tasks, &[Task::Own(a), Task::Update(b, d)])
@@ -242,7 +243,7 @@ pub(crate) fn tuple_own<'a>(
     tasks: &mut Stack<Task<'a>>,
     parts: &'a [Exp],
 ) -> Result<(), Stop>
-    ensures ok { OnOk result (DoesOwn ((tuple_walk (walks at.now.0.2 parts.now)).own at.now.0.0) at.now tasks.old tasks.new) }
+    ensures ok { OnOk result (DoesOwn ((tuple_walk (walks (signatures_in at.now) parts.now)).own (scope_in at.now)) at.now tasks.old tasks.new) }
     ensures none { IfErr result (λ stop. stop ≡ NoMemory) }
 {
     first(
@@ -260,7 +261,7 @@ pub(crate) fn vector_own<'a>(
     tasks: &mut Stack<Task<'a>>,
     parts: &'a [Exp],
 ) -> Result<(), Stop>
-    ensures ok { OnOk result (DoesOwn ((vector_walk (walks at.now.0.2 parts.now)).own at.now.0.0) at.now tasks.old tasks.new) }
+    ensures ok { OnOk result (DoesOwn ((vector_walk (walks (signatures_in at.now) parts.now)).own (scope_in at.now)) at.now tasks.old tasks.new) }
     ensures none { IfErr result (λ stop. stop ≡ NoMemory) }
 {
     first(

@@ -2,6 +2,7 @@
 ghost use Rattle.std.specs.Prelude.{◌≡◌, None, OnOk, IfErr};
 ghost use Rattle.check_typing.specs.Partial.{given};
 ghost use Rattle.check_typing.specs.inner.Walk.{walk, binary_walk};
+ghost use Rattle.check_tasks.specs.States.{scope_in, signatures_in};
 ghost use Rattle.check_tasks.specs.Tasks.{run, own_of};
 ghost use Rattle.check_expressions.specs.inner.Plans.{DoesOwn};
 ghost use Rattle.check_expressions.specs.declared.stop.Stop.TheVariants.{NoType, NoMemory};
@@ -29,8 +30,8 @@ pub(crate) fn own_tasks<'a>(
     tasks: &mut Stack<Task<'a>>,
     e: &'a Exp,
 ) -> Result<(), Stop>
-    ensures ok { OnOk result (run tasks.new at.new ≡ given (own_of ((walk at.old.0.2 e.now).own at.old.0.0) at.old) (run tasks.old)) }
-    ensures none { IfErr result (λ stop. stop ≡ NoType → (walk at.old.0.2 e.now).own at.old.0.0 ≡ None) }
+    ensures ok { OnOk result (run tasks.new at.new ≡ given (own_of ((walk (signatures_in at.old) e.now).own (scope_in at.old)) at.old) (run tasks.old)) }
+    ensures none { IfErr result (λ stop. stop ≡ NoType → (walk (signatures_in at.old) e.now).own (scope_in at.old) ≡ None) }
 {
     match e {
         Exp::Let(name, a, b) => let_own(at, tasks, name, a, b),
@@ -66,7 +67,7 @@ fn binary_own<'a>(
     a: &'a Exp,
     b: &'a Exp,
 ) -> Result<(), Stop>
-    ensures ok { OnOk result (DoesOwn ((binary_walk sign (walk at.now.0.2 a.now) (walk at.now.0.2 b.now)).own at.now.0.0) at.now tasks.old tasks.new) }
+    ensures ok { OnOk result (DoesOwn ((binary_walk sign (walk (signatures_in at.now) a.now) (walk (signatures_in at.now) b.now)).own (scope_in at.now)) at.now tasks.old tasks.new) }
     ensures none { IfErr result (λ stop. stop ≡ NoMemory) }
 {
     match sign {
@@ -89,7 +90,7 @@ fn binary_own<'a>(
 
 #[tactic(auto, using(crate::proofs::Dispatch::same_steps))]
 fn paren_own<'a>(at: &Elaboration<'a>, tasks: &mut Stack<Task<'a>>, a: &'a Exp) -> Result<(), Stop>
-    ensures ok { OnOk result (DoesOwn ((walk at.now.0.2 a.now).own at.now.0.0) at.now tasks.old tasks.new) }
+    ensures ok { OnOk result (DoesOwn ((walk (signatures_in at.now) a.now).own (scope_in at.now)) at.now tasks.old tasks.new) }
     ensures none { IfErr result (λ stop. stop ≡ NoMemory) }
 {
     first(tasks, &[Task::Own(a)])

@@ -6,6 +6,7 @@ ghost use Rattle.check_scopes.specs.types.Contexts.{top};
 ghost use Rattle.check_typing.specs.Partial.{given};
 ghost use Rattle.check_typing.specs.Signatures.{con_named};
 ghost use Rattle.check_typing.specs.Patterns.{pattern, pattern_step, con_bound, tuple_bound};
+ghost use Rattle.check_tasks.specs.States.{types_in, signatures_in};
 ghost use Rattle.check_tasks.specs.declared.task.Task.TheVariants.{MatchParts as MatchPartsTask};
 ghost use Rattle.check_tasks.specs.Tasks.{run, step, bound_of};
 ghost use Rattle.check_expressions.specs.declared.stop.Stop.TheVariants.{NoType, NoMemory};
@@ -27,8 +28,8 @@ pub(crate) fn pattern_tasks<'a>(
     tasks: &mut Stack<Task<'a>>,
     p: &'a Pat,
 ) -> Result<(), Stop>
-    ensures ok { OnOk result (run tasks.new at.new ≡ given (bound_of (pattern at.old.0.2 p.now (top at.old.0.1)) at.old) (run tasks.old)) }
-    ensures none { IfErr result (λ stop. stop ≡ NoType → pattern at.old.0.2 p.now (top at.old.0.1) ≡ None) }
+    ensures ok { OnOk result (run tasks.new at.new ≡ given (bound_of (pattern (signatures_in at.old) p.now (top (types_in at.old))) at.old) (run tasks.old)) }
+    ensures none { IfErr result (λ stop. stop ≡ NoType → pattern (signatures_in at.old) p.now (top (types_in at.old)) ≡ None) }
 {
     match p {
         Pat::Name(name) => name_pattern(at, name),
@@ -51,8 +52,8 @@ fn constructor_pattern<'a>(
     name: &Text,
     parts: &'a [Pat],
 ) -> Result<(), Stop>
-    ensures ok { OnOk result (run tasks.new at.new ≡ given (bound_of (con_bound (con_named name.now at.old.0.2) (map (pattern at.old.0.2) parts.now) (top at.old.0.1)) at.old) (run tasks.old)) }
-    ensures none { IfErr result (λ stop. stop ≡ NoType → con_bound (con_named name.now at.old.0.2) (map (pattern at.old.0.2) parts.now) (top at.old.0.1) ≡ None) }
+    ensures ok { OnOk result (run tasks.new at.new ≡ given (bound_of (con_bound (con_named name.now (signatures_in at.old)) (map (pattern (signatures_in at.old)) parts.now) (top (types_in at.old))) at.old) (run tasks.old)) }
+    ensures none { IfErr result (λ stop. stop ≡ NoType → con_bound (con_named name.now (signatures_in at.old)) (map (pattern (signatures_in at.old)) parts.now) (top (types_in at.old)) ≡ None) }
 {
     let Shape::Named(expected) = at.environment.shape()? else {
         return Err(Stop::NoType);
@@ -79,7 +80,7 @@ fn tuple_pattern<'a>(
     tasks: &mut Stack<Task<'a>>,
     parts: &'a [Pat],
 ) -> Result<(), Stop>
-    ensures ok { OnOk result (run tasks.new at.now ≡ given (bound_of (tuple_bound (map (pattern at.now.0.2) parts.now) (out-Ty (top at.now.0.1))) at.now) (run tasks.old)) }
+    ensures ok { OnOk result (run tasks.new at.now ≡ given (bound_of (tuple_bound (map (pattern (signatures_in at.now)) parts.now) (out-Ty (top (types_in at.now)))) at.now) (run tasks.old)) }
     ensures none { IfErr result (λ stop. stop ≡ NoMemory) }
 {
     first(
@@ -97,7 +98,7 @@ fn paren_pattern<'a>(
     tasks: &mut Stack<Task<'a>>,
     inner: &'a Pat,
 ) -> Result<(), Stop>
-    ensures ok { OnOk result (run tasks.new at.now ≡ given (bound_of (pattern at.now.0.2 inner.now (top at.now.0.1)) at.now) (run tasks.old)) }
+    ensures ok { OnOk result (run tasks.new at.now ≡ given (bound_of (pattern (signatures_in at.now) inner.now (top (types_in at.now))) at.now) (run tasks.old)) }
     ensures none { IfErr result (λ stop. stop ≡ NoMemory) }
 {
     first(tasks, &[Task::Match(inner)])
@@ -141,7 +142,7 @@ pub(crate) fn match_parts_tasks<'a>(
 
 #[tactic(auto, using(crate::proofs::Binding::leaf_steps))]
 fn name_pattern<'a>(at: &mut Elaboration<'a>, name: &'a Text) -> Result<(), Stop>
-    ensures ok { OnOk result (bound_of (pattern_step at.old.0.2 (kind.Name name.now) (top at.old.0.1)) at.old ≡ Some at.new) }
+    ensures ok { OnOk result (bound_of (pattern_step (signatures_in at.old) (kind.Name name.now) (top (types_in at.old))) at.old ≡ Some at.new) }
     ensures none { IfErr result (λ stop. stop ≡ NoMemory) }
 {
     at.environment.repeat()?;
@@ -152,7 +153,7 @@ fn name_pattern<'a>(at: &mut Elaboration<'a>, name: &'a Text) -> Result<(), Stop
 
 #[tactic(auto, using(crate::proofs::Binding::leaf_steps))]
 fn any_pattern(at: &mut Elaboration) -> Result<(), Stop>
-    ensures ok { OnOk result (bound_of (pattern_step at.old.0.2 kind.Any (top at.old.0.1)) at.old ≡ Some at.new) }
+    ensures ok { OnOk result (bound_of (pattern_step (signatures_in at.old) kind.Any (top (types_in at.old))) at.old ≡ Some at.new) }
     ensures none { IfErr result (λ stop. stop ≡ NoMemory) }
 {
     at.builder.any_value()?;
@@ -161,8 +162,8 @@ fn any_pattern(at: &mut Elaboration) -> Result<(), Stop>
 
 #[tactic(auto, using(crate::proofs::Binding::leaf_steps))]
 fn number_pattern(at: &mut Elaboration, negative: bool, amount: u64) -> Result<(), Stop>
-    ensures ok { OnOk result (bound_of (pattern_step at.old.0.2 (kind.Num negative amount) (top at.old.0.1)) at.old ≡ Some at.new) }
-    ensures none { IfErr result (λ stop. stop ≡ NoType → pattern_step at.old.0.2 (kind.Num negative amount) (top at.old.0.1) ≡ None) }
+    ensures ok { OnOk result (bound_of (pattern_step (signatures_in at.old) (kind.Num negative amount) (top (types_in at.old))) at.old ≡ Some at.new) }
+    ensures none { IfErr result (λ stop. stop ≡ NoType → pattern_step (signatures_in at.old) (kind.Num negative amount) (top (types_in at.old)) ≡ None) }
 {
     let shape = at.environment.shape()?;
     match literal_of(shape, negative, amount) {
@@ -176,8 +177,8 @@ fn number_pattern(at: &mut Elaboration, negative: bool, amount: u64) -> Result<(
 
 #[tactic(auto, using(crate::proofs::Binding::leaf_steps))]
 fn letter_pattern(at: &mut Elaboration, byte: u8) -> Result<(), Stop>
-    ensures ok { OnOk result (bound_of (pattern_step at.old.0.2 (kind.Letter byte) (top at.old.0.1)) at.old ≡ Some at.new) }
-    ensures none { IfErr result (λ stop. stop ≡ NoType → pattern_step at.old.0.2 (kind.Letter byte) (top at.old.0.1) ≡ None) }
+    ensures ok { OnOk result (bound_of (pattern_step (signatures_in at.old) (kind.Letter byte) (top (types_in at.old))) at.old ≡ Some at.new) }
+    ensures none { IfErr result (λ stop. stop ≡ NoType → pattern_step (signatures_in at.old) (kind.Letter byte) (top (types_in at.old)) ≡ None) }
 {
     match at.environment.shape()? {
         Shape::Char => {
@@ -190,8 +191,8 @@ fn letter_pattern(at: &mut Elaboration, byte: u8) -> Result<(), Stop>
 
 #[tactic(auto, using(crate::proofs::Binding::leaf_steps))]
 fn truth_pattern(at: &mut Elaboration, truth: bool) -> Result<(), Stop>
-    ensures ok { OnOk result (bound_of (pattern_step at.old.0.2 (kind.Truth truth) (top at.old.0.1)) at.old ≡ Some at.new) }
-    ensures none { IfErr result (λ stop. stop ≡ NoType → pattern_step at.old.0.2 (kind.Truth truth) (top at.old.0.1) ≡ None) }
+    ensures ok { OnOk result (bound_of (pattern_step (signatures_in at.old) (kind.Truth truth) (top (types_in at.old))) at.old ≡ Some at.new) }
+    ensures none { IfErr result (λ stop. stop ≡ NoType → pattern_step (signatures_in at.old) (kind.Truth truth) (top (types_in at.old)) ≡ None) }
 {
     match at.environment.shape()? {
         Shape::Bool => {

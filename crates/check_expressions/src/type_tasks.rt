@@ -5,6 +5,7 @@ ghost use Rattle.hume_model.specs.Typing.{is_number_type, is_comparison};
 ghost use Rattle.check_scopes.specs.types.Contexts.{top, below, item_of};
 ghost use Rattle.check_typing.specs.inner.SameTypes.{is_same};
 ghost use Rattle.check_typing.specs.inner.Walk.{vector_parts, tuple_parts};
+ghost use Rattle.check_tasks.specs.States.{types_in};
 ghost use Rattle.check_tasks.specs.Tasks.{type_step};
 ghost use Rattle.check_expressions.specs.inner.Shapes.{HasParts};
 ghost use Rattle.check_expressions.specs.declared.stop.Stop.TheVariants.{NoType};
@@ -45,8 +46,8 @@ impl<'a> Elaboration<'a> {
     // The last type must be one of numbers.
     #[tactic(auto, using(crate::proofs::Steps::shape_steps))]
     fn expect_number(&self) -> Result<(), Stop>
-        ensures ok { OnOk result (is_number_type (top self.now.0.1) ≡ true) }
-        ensures none { IfErr result (λ stop. stop ≡ NoType → is_number_type (top self.now.0.1) ≡ false) }
+        ensures ok { OnOk result (is_number_type (top (types_in self.now)) ≡ true) }
+        ensures none { IfErr result (λ stop. stop ≡ NoType → is_number_type (top (types_in self.now)) ≡ false) }
     {
         let shape = self.environment.shape()?;
         if is_number_shape(shape) {
@@ -59,8 +60,8 @@ impl<'a> Elaboration<'a> {
     // The operation must compare operands of the last type.
     #[tactic(auto, using(crate::proofs::Steps::shape_steps))]
     fn expect_comparison(&self, operation: Op) -> Result<(), Stop>
-        ensures ok { OnOk result (is_comparison operation (top self.now.0.1) ≡ true) }
-        ensures none { IfErr result (λ stop. stop ≡ NoType → is_comparison operation (top self.now.0.1) ≡ false) }
+        ensures ok { OnOk result (is_comparison operation (top (types_in self.now)) ≡ true) }
+        ensures none { IfErr result (λ stop. stop ≡ NoType → is_comparison operation (top (types_in self.now)) ≡ false) }
     {
         let shape = self.environment.shape()?;
         if compares(operation, shape) {
@@ -73,8 +74,8 @@ impl<'a> Elaboration<'a> {
     // The last two types must be the same.
     #[tactic(auto, using(crate::proofs::Steps::same_steps))]
     fn expect_same(&self) -> Result<(), Stop>
-        ensures ok { OnOk result (is_same (top self.now.0.1) (top (below self.now.0.1)) ≡ true) }
-        ensures none { IfErr result (λ stop. stop ≡ NoType → is_same (top self.now.0.1) (top (below self.now.0.1)) ≡ false) }
+        ensures ok { OnOk result (is_same (top (types_in self.now)) (top (below (types_in self.now))) ≡ true) }
+        ensures none { IfErr result (λ stop. stop ≡ NoType → is_same (top (types_in self.now)) (top (below (types_in self.now))) ≡ false) }
     {
         if self.environment.are_same()? {
             Ok(())
@@ -86,8 +87,8 @@ impl<'a> Elaboration<'a> {
     /// The length of the last type, which must be a vector.
     #[tactic(auto, using(crate::proofs::Steps::shape_steps))]
     pub(crate) fn expect_vector(&self) -> Result<u32, Stop>
-        ensures ok { IfOk result (λ count. vector_parts (top self.now.0.1) ≡ Some (count, item_of (out-Ty (top self.now.0.1)))) }
-        ensures none { IfErr result (λ stop. stop ≡ NoType → vector_parts (top self.now.0.1) ≡ None) }
+        ensures ok { IfOk result (λ count. vector_parts (top (types_in self.now)) ≡ Some (count, item_of (out-Ty (top (types_in self.now))))) }
+        ensures none { IfErr result (λ stop. stop ≡ NoType → vector_parts (top (types_in self.now)) ≡ None) }
     {
         match self.environment.shape()? {
             Shape::Vector(count) => Ok(count),
@@ -98,8 +99,8 @@ impl<'a> Elaboration<'a> {
     /// The number of parts of the last type, which must be a tuple.
     #[tactic(auto, using(crate::proofs::Steps::shape_steps))]
     pub(crate) fn expect_tuple(&self) -> Result<usize, Stop>
-        ensures ok { IfOk result (λ count. HasParts count (top self.now.0.1)) }
-        ensures none { IfErr result (λ stop. stop ≡ NoType → tuple_parts (top self.now.0.1) ≡ None) }
+        ensures ok { IfOk result (λ count. HasParts count (top (types_in self.now))) }
+        ensures none { IfErr result (λ stop. stop ≡ NoType → tuple_parts (top (types_in self.now)) ≡ None) }
     {
         match self.environment.shape()? {
             Shape::Tuple(count) => Ok(count),

@@ -3,6 +3,7 @@ ghost use Rattle.std.specs.Prelude.{◌≡◌, Some, None, OnOk, IfErr};
 ghost use Rattle.check_scopes.specs.types.Contexts.{top};
 ghost use Rattle.check_typing.specs.Partial.{given};
 ghost use Rattle.check_typing.specs.inner.Walk.{walk};
+ghost use Rattle.check_tasks.specs.States.{scope_in, types_in, signatures_in};
 ghost use Rattle.check_tasks.specs.Tasks.{run, step, own_of, against_of};
 ghost use Rattle.check_expressions.specs.declared.stop.Stop.TheVariants.{NoType};
 
@@ -23,8 +24,8 @@ use std::alloc::Global;
 /// The type and the core of an expression by itself. They go on the stacks.
 #[tactic(auto, using(crate::proofs::Walking::walk_steps))]
 pub fn own<'a>(alloc: Global, at: &mut Elaboration<'a>, e: &'a Exp) -> Result<(), Stop>
-    ensures ok { OnOk result (own_of ((walk at.old.0.2 e.now).own at.old.0.0) at.old ≡ Some at.new) }
-    ensures none { IfErr result (λ stop. stop ≡ NoType → (walk at.old.0.2 e.now).own at.old.0.0 ≡ None) }
+    ensures ok { OnOk result (own_of ((walk (signatures_in at.old) e.now).own (scope_in at.old)) at.old ≡ Some at.new) }
+    ensures none { IfErr result (λ stop. stop ≡ NoType → (walk (signatures_in at.old) e.now).own (scope_in at.old) ≡ None) }
 {
     let mut tasks = Stack::new(alloc);
     tasks.push(Task::Own(e))?;
@@ -34,8 +35,8 @@ pub fn own<'a>(alloc: Global, at: &mut Elaboration<'a>, e: &'a Exp) -> Result<()
 /// The core of an expression against the last type of the stack. It goes on the stack of cores.
 #[tactic(auto, using(crate::proofs::Walking::walk_steps))]
 pub fn against<'a>(alloc: Global, at: &mut Elaboration<'a>, e: &'a Exp) -> Result<(), Stop>
-    ensures ok { OnOk result (against_of ((walk at.old.0.2 e.now).against at.old.0.0 (top at.old.0.1)) at.old ≡ Some at.new) }
-    ensures none { IfErr result (λ stop. stop ≡ NoType → (walk at.old.0.2 e.now).against at.old.0.0 (top at.old.0.1) ≡ None) }
+    ensures ok { OnOk result (against_of ((walk (signatures_in at.old) e.now).against (scope_in at.old) (top (types_in at.old))) at.old ≡ Some at.new) }
+    ensures none { IfErr result (λ stop. stop ≡ NoType → (walk (signatures_in at.old) e.now).against (scope_in at.old) (top (types_in at.old)) ≡ None) }
 {
     let mut tasks = Stack::new(alloc);
     tasks.push(Task::Against(e))?;

@@ -11,6 +11,17 @@ use Rattle.check_typing.specs.declared.signatures.Signatures.{Signatures}
 abbrev pub State : Type 0
 State = (Scope × List Ty × Signatures) × List Cored × List CoredPat × List CoredArm
 
+-- the variables in scope
+abbrev pub scope_in : State → Scope
+scope_in state = state.0.0
+
+-- the stack of types
+abbrev pub types_in : State → List Ty
+types_in state = state.0.1
+
+abbrev pub signatures_in : State → Signatures
+signatures_in state = state.0.2
+
 -- with other types on the stack
 abbrev pub with_types : List Ty → State → State
 with_types tys state = ((state.0.0, tys, state.0.2), state.1, state.2, state.3)

@@ -1,6 +1,7 @@
 //! Boxes from their ports, rules and handlers to cores.
 ghost use Rattle.std.specs.Prelude.{◌≡◌, [], Some, None, OnOk, IfOk, IfErr};
 ghost use Rattle.check_typing.specs.inner.DeclarationWalk.{box_walk};
+ghost use Rattle.check_tasks.specs.States.{scope_in, signatures_in};
 ghost use Rattle.check_expressions.specs.declared.stop.Stop.TheVariants.{NoType};
 ghost use Rattle.check_declarations.specs.boxes.Boxes.{box_found};
 ghost use Rattle.check_declarations.specs.boxes.inner.Ports.{ported, unported};
@@ -36,8 +37,8 @@ pub fn box_cores<'a>(
     handlers: &'a [(Text, Option<Pat>, Exp)],
 ) -> Result<BoxCores, Stop>
     ensures keeps { OnOk result (at.new ≡ at.old) }
-    ensures ok { IfOk result (λ found. box_found (box_walk at.old.0.0.2 inputs.now outputs.now rules.now handlers.now) ≡ Some (found.rules, found.handlers, found.too_wide)) }
-    ensures none { IfErr result (λ stop. stop ≡ NoType → box_walk at.old.0.0.2 inputs.now outputs.now rules.now handlers.now ≡ None) }
+    ensures ok { IfOk result (λ found. box_found (box_walk (signatures_in at.old.0) inputs.now outputs.now rules.now handlers.now) ≡ Some (found.rules, found.handlers, found.too_wide)) }
+    ensures none { IfErr result (λ stop. stop ≡ NoType → box_walk (signatures_in at.old.0) inputs.now outputs.now rules.now handlers.now ≡ None) }
 {
     enter_ports(at, inputs, outputs)?;
     let (rules, wide_in_rules) = rule_cores(alloc, at, rules)?;
@@ -57,7 +58,7 @@ fn enter_ports(
     inputs: &[(Text, TyExp)],
     outputs: &[(Text, TyExp)],
 ) -> Result<(), Stop>
-    ensures scope { OnOk result (at.old.0.0.0 ≡ []) }
+    ensures scope { OnOk result ((scope_in at.old.0) ≡ []) }
     ensures ok { OnOk result (ported inputs.now outputs.now at.old ≡ Some at.new) }
     ensures none { IfErr result (λ stop. stop ≡ NoType → ported inputs.now outputs.now at.old ≡ None) }
 {

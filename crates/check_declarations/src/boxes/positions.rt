@@ -3,6 +3,7 @@ ghost use Rattle.std.specs.Prelude.{◌≡◌, Some, None, OnOk, IfOk, IfErr};
 ghost use Rattle.hume_ast.specs.declared.tree.Pat.{out-Pat};
 ghost use Rattle.check_scopes.specs.types.Contexts.{top};
 ghost use Rattle.check_typing.specs.inner.Walk.{tuple_parts};
+ghost use Rattle.check_tasks.specs.States.{types_in};
 ghost use Rattle.check_expressions.specs.declared.stop.Stop.TheVariants.{NoType};
 ghost use Rattle.check_declarations.specs.boxes.inner.Rules.{HasParts, bare as bare_position, with_position, with_position_of, with_positions};
 
@@ -42,7 +43,7 @@ pub(crate) fn positions<'a>(
 #[tactic(auto, using(crate::proofs::boxes_lemmas::PositionLaws::count_steps))]
 fn count_parts(at: &Elaboration) -> Result<usize, Stop>
     ensures count { IfOk result (λ count. HasParts count at.now) }
-    ensures none { IfErr result (λ stop. stop ≡ NoType → tuple_parts (top at.now.0.1) ≡ None) }
+    ensures none { IfErr result (λ stop. stop ≡ NoType → tuple_parts (top (types_in at.now)) ≡ None) }
 {
     match at.environment.shape()? {
         Shape::Tuple(count) => Ok(count),

@@ -1,6 +1,7 @@
 //! Functions from their types and equations to cores.
 ghost use Rattle.std.specs.Prelude.{◌≡◌, ℕ, List as ListOf, Some, None, OnOk, IfOk, IfErr};
 ghost use Rattle.check_typing.specs.inner.DeclarationWalk.{function_walk};
+ghost use Rattle.check_tasks.specs.States.{signatures_in};
 ghost use Rattle.check_expressions.specs.declared.stop.Stop.TheVariants.{NoType};
 ghost use Rattle.check_declarations.specs.functions.Functions.{found_together};
 
@@ -22,8 +23,8 @@ pub fn function_cores<'a>(
     equations: &'a [(Text, List<Pat>, Exp)],
 ) -> Result<(List<EqC>, bool), Stop>
     ensures keeps { OnOk result (at.new ≡ at.old) }
-    ensures ok { IfOk result (λ found. (name : ListOf ℕ) → found_together (function_walk at.old.0.2 name types.now equations.now) ≡ Some found) }
-    ensures none { IfErr result (λ stop. stop ≡ NoType → (name : ListOf ℕ) → function_walk at.old.0.2 name types.now equations.now ≡ None) }
+    ensures ok { IfOk result (λ found. (name : ListOf ℕ) → found_together (function_walk (signatures_in at.old) name types.now equations.now) ≡ Some found) }
+    ensures none { IfErr result (λ stop. stop ≡ NoType → (name : ListOf ℕ) → function_walk (signatures_in at.old) name types.now equations.now ≡ None) }
 {
     if at.environment.variables() != 0 {
         return Err(Stop::NoMemory);

@@ -2,6 +2,7 @@
 ghost use Rattle.std.specs.Prelude.{◌≡◌, None, length, OnOk, IfErr};
 ghost use Rattle.check_typing.specs.inner.Walk.{walk};
 ghost use Rattle.check_typing.specs.inner.ResultWalk.{result_walk, tuple_result_walk};
+ghost use Rattle.check_tasks.specs.States.{signatures_in};
 ghost use Rattle.check_expressions.specs.declared.stop.Stop.TheVariants.{NoType, NoMemory};
 ghost use Rattle.check_tasks.specs.results.ResultTasks.{last_outputs, result_walks};
 ghost use Rattle.check_declarations.specs.results.inner.ResultPlans.{IsLeaf, EndsHere, DoesResult, HasNoResult};
@@ -21,9 +22,9 @@ pub(crate) fn single_result<'a>(
     tasks: &mut Stack<ResultTask<'a>>,
     e: &'a Exp,
 ) -> Result<(), Stop>
-    requires { IsLeaf (result_walk at.now.0.0.2 e.now) }
-    ensures ok { OnOk result (DoesResult (result_walk at.now.0.0.2 e.now) at.now tasks.old tasks.new) }
-    ensures none { IfErr result (λ stop. stop ≡ NoType → HasNoResult (result_walk at.now.0.0.2 e.now) at.now) }
+    requires { IsLeaf (result_walk (signatures_in at.now.0) e.now) }
+    ensures ok { OnOk result (DoesResult (result_walk (signatures_in at.now.0) e.now) at.now tasks.old tasks.new) }
+    ensures none { IfErr result (λ stop. stop ≡ NoType → HasNoResult (result_walk (signatures_in at.now.0) e.now) at.now) }
 {
     if at.output_count()? != 1 {
         return Err(Stop::NoType);
@@ -39,8 +40,8 @@ pub(crate) fn tuple_result<'a>(
     e: &'a Exp,
     parts: &'a [Exp],
 ) -> Result<(), Stop>
-    requires { result_walk at.now.0.0.2 e.now ≡ tuple_result_walk (walk at.now.0.0.2 e.now) (result_walks at.now.0.0.2 parts.now) }
-    ensures ok { OnOk result (DoesResult (result_walk at.now.0.0.2 e.now) at.now tasks.old tasks.new) }
+    requires { result_walk (signatures_in at.now.0) e.now ≡ tuple_result_walk (walk (signatures_in at.now.0) e.now) (result_walks (signatures_in at.now.0) parts.now) }
+    ensures ok { OnOk result (DoesResult (result_walk (signatures_in at.now.0) e.now) at.now tasks.old tasks.new) }
     ensures none { IfErr result (λ stop. stop ≡ NoMemory) }
 {
     if at.output_count()? == 1 {
@@ -63,8 +64,8 @@ fn one_output<'a>(
     e: &'a Exp,
 ) -> Result<(), Stop>
     requires one { length (last_outputs at.now) ≡ 1 }
-    requires leaf { EndsHere (result_walk at.now.0.0.2 e.now) at.now }
-    ensures ok { OnOk result (DoesResult (result_walk at.now.0.0.2 e.now) at.now tasks.old tasks.new) }
+    requires leaf { EndsHere (result_walk (signatures_in at.now.0) e.now) at.now }
+    ensures ok { OnOk result (DoesResult (result_walk (signatures_in at.now.0) e.now) at.now tasks.old tasks.new) }
     ensures none { IfErr result (λ stop. stop ≡ NoMemory) }
 {
     first(

@@ -2,6 +2,7 @@
 ghost use Rattle.std.specs.Prelude.{◌≡◌, None, OnOk, IfErr};
 ghost use Rattle.check_typing.specs.Partial.{given};
 ghost use Rattle.check_typing.specs.inner.ResultWalk.{result_walk};
+ghost use Rattle.check_tasks.specs.States.{signatures_in};
 ghost use Rattle.check_expressions.specs.declared.stop.Stop.TheVariants.{NoType, NoMemory};
 ghost use Rattle.check_tasks.specs.declared.results.task.ResultTask.TheVariants.{Outputs as OutputsTask, Arms as ArmsTask};
 ghost use Rattle.check_tasks.specs.results.ResultTasks.{result_run, result_step};
@@ -22,7 +23,7 @@ pub(crate) fn output_tasks<'a>(
     tasks: &mut Stack<ResultTask<'a>>,
     e: &'a Exp,
 ) -> Result<(), Stop>
-    ensures ok { OnOk result (DoesOutput (result_walk at.now.0.0.2 e.now) at.now tasks.old tasks.new) }
+    ensures ok { OnOk result (DoesOutput (result_walk (signatures_in at.now.0) e.now) at.now tasks.old tasks.new) }
     ensures none { IfErr result (λ stop. stop ≡ NoMemory) }
 {
     match e {
@@ -55,8 +56,8 @@ fn value_output<'a>(
     tasks: &mut Stack<ResultTask<'a>>,
     e: &'a Exp,
 ) -> Result<(), Stop>
-    requires { IsValued at.now.0.0.2 e.now }
-    ensures ok { OnOk result (DoesOutput (result_walk at.now.0.0.2 e.now) at.now tasks.old tasks.new) }
+    requires { IsValued (signatures_in at.now.0) e.now }
+    ensures ok { OnOk result (DoesOutput (result_walk (signatures_in at.now.0) e.now) at.now tasks.old tasks.new) }
     ensures none { IfErr result (λ stop. stop ≡ NoMemory) }
 {
     first(

@@ -1,6 +1,7 @@
 //! The tasks of forms through which a result is followed.
 ghost use Rattle.std.specs.Prelude.{◌≡◌, OnOk, IfErr};
 ghost use Rattle.check_typing.specs.inner.ResultWalk.{result_walk};
+ghost use Rattle.check_tasks.specs.States.{signatures_in};
 ghost use Rattle.check_expressions.specs.declared.stop.Stop.TheVariants.{NoMemory};
 ghost use Rattle.check_declarations.specs.results.inner.ResultPlans.{DoesResult, let_found, if_found, case_found};
 
@@ -21,7 +22,7 @@ pub(crate) fn let_result<'a>(
     a: &'a Exp,
     b: &'a Exp,
 ) -> Result<(), Stop>
-    ensures ok { OnOk result (DoesResult (let_found at.now.0.0.2 name.now a.now b.now) at.now tasks.old tasks.new) }
+    ensures ok { OnOk result (DoesResult (let_found (signatures_in at.now.0) name.now a.now b.now) at.now tasks.old tasks.new) }
     ensures none { IfErr result (λ stop. stop ≡ NoMemory) }
 {
     let count = at.plain.variables();
@@ -45,7 +46,7 @@ pub(crate) fn if_result<'a>(
     a: &'a Exp,
     b: &'a Exp,
 ) -> Result<(), Stop>
-    ensures ok { OnOk result (DoesResult (if_found at.now.0.0.2 test.now a.now b.now) at.now tasks.old tasks.new) }
+    ensures ok { OnOk result (DoesResult (if_found (signatures_in at.now.0) test.now a.now b.now) at.now tasks.old tasks.new) }
     ensures none { IfErr result (λ stop. stop ≡ NoMemory) }
 {
     first(
@@ -68,7 +69,7 @@ pub(crate) fn case_result<'a>(
     a: &'a Exp,
     arms: &'a [(Pat, Exp)],
 ) -> Result<(), Stop>
-    ensures ok { OnOk result (DoesResult (case_found at.now.0.0.2 a.now arms.now) at.now tasks.old tasks.new) }
+    ensures ok { OnOk result (DoesResult (case_found (signatures_in at.now.0) a.now arms.now) at.now tasks.old tasks.new) }
     ensures none { IfErr result (λ stop. stop ≡ NoMemory) }
 {
     first(
@@ -90,7 +91,7 @@ pub(crate) fn paren_result<'a>(
     tasks: &mut Stack<ResultTask<'a>>,
     a: &'a Exp,
 ) -> Result<(), Stop>
-    ensures ok { OnOk result (DoesResult (result_walk at.now.0.0.2 a.now) at.now tasks.old tasks.new) }
+    ensures ok { OnOk result (DoesResult (result_walk (signatures_in at.now.0) a.now) at.now tasks.old tasks.new) }
     ensures none { IfErr result (λ stop. stop ≡ NoMemory) }
 {
     first(tasks, &[ResultTask::Result(a)])

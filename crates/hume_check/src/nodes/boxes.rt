@@ -1,6 +1,7 @@
 //! The boxes of a core.
 ghost use Rattle.std.specs.Prelude.{◌≡◌, None, IfOk, IfErr, OnOk};
 ghost use Rattle.hume_ast.specs.declared.tree.Decl.{Decl as Declaration};
+ghost use Rattle.check_tasks.specs.States.{signatures_in};
 ghost use Rattle.check_expressions.specs.declared.stop.Stop.TheVariants.{NoType};
 ghost use Rattle.check_rules.specs.CoreOf.{IsBoxOf};
 ghost use Rattle.hume_check.specs.nodes.inner.Parts.{numbered, HasInterface, found_of};
@@ -35,7 +36,7 @@ pub(crate) fn box_core<'a>(
     place: u32,
     parts: BoxParts<'a>,
 ) -> Result<BoxC, Stop>
-    requires { at.old.0.0.2 ≡ table.now }
+    requires { (signatures_in at.old.0) ≡ table.now }
     ensures keeps { OnOk result (at.new ≡ at.old) }
     ensures ok { IfOk result (λ b. (decl : Declaration)
         → IsBoxOf lines.now table.now (numbered number (place, decl)) parts.entry.name.now parts.entry.inputs.now

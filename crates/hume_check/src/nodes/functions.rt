@@ -2,6 +2,7 @@
 ghost use Rattle.std.specs.Prelude.{◌≡◌, Some, None, IfOk, IfErr, OnOk};
 ghost use Rattle.check_typing.specs.Declarations.{InPlaces, signature_written};
 ghost use Rattle.check_typing.specs.inner.DeclarationWalk.{function_walk};
+ghost use Rattle.check_tasks.specs.States.{signatures_in};
 ghost use Rattle.check_expressions.specs.declared.stop.Stop.TheVariants.{NoType};
 ghost use Rattle.check_rules.specs.Declared.{function_of, in_order};
 ghost use Rattle.check_rules.specs.CoreOf.{IsFunctionOf};
@@ -45,7 +46,7 @@ fn all_functions<'a>(
     order: &[u32],
     signatures: &Signatures,
 ) -> Result<List<FunC>, Stop>
-    requires same { at.old.0.2 ≡ signatures.now }
+    requires same { (signatures_in at.old) ≡ signatures.now }
     requires signed { AreSigned signatures.now (in_order function_of order.now decls.now) }
     ensures functions { IfOk result
         (InPlaces (IsFunctionOf lines.now signatures.now) (in_order function_of order.now decls.now)) }
@@ -69,11 +70,11 @@ fn function_core<'a>(
     parts: FunctionParts<'a>,
     signature: &Signature,
 ) -> Result<FunC, Stop>
-    requires { signature_written at.old.0.2.types parts.name.now parts.types.now ≡ Some signature.now }
+    requires { signature_written (signatures_in at.old).types parts.name.now parts.types.now ≡ Some signature.now }
     ensures keeps { OnOk result (at.new ≡ at.old) }
-    ensures ok { IfOk result (IsFunctionOf lines.now at.old.0.2 (seen parts.entry)) }
+    ensures ok { IfOk result (IsFunctionOf lines.now (signatures_in at.old) (seen parts.entry)) }
     ensures none { IfErr result (λ stop. stop ≡ NoType
-        → function_walk at.old.0.2 parts.entry.name.now parts.entry.types.now parts.entry.equations.now ≡ None) }
+        → function_walk (signatures_in at.old) parts.entry.name.now parts.entry.types.now parts.entry.equations.now ≡ None) }
 {
     let (equations, _) = function_cores(alloc, at, parts.types, parts.equations)?;
     let Signature {

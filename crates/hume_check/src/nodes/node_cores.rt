@@ -2,6 +2,7 @@
 ghost use Rattle.std.specs.Prelude.{◌≡◌, ◌<◌, ◌^◌, length, IfOk, IfErr, OnOk};
 ghost use Rattle.hume_ast.specs.declared.tree.Decl.{Decl as Declaration};
 ghost use Rattle.check_typing.specs.Declarations.{InPlaces, HasNoType};
+ghost use Rattle.check_tasks.specs.States.{signatures_in};
 ghost use Rattle.check_expressions.specs.declared.stop.Stop.TheVariants.{NoType};
 ghost use Rattle.check_rules.specs.Declared.{Numbered, nodes_in};
 ghost use Rattle.check_rules.specs.CoreOf.{IsNodeOf, stream_core as stream_core_of};
@@ -46,7 +47,7 @@ fn all_nodes<'a>(
     decls: &'a [(u32, Decl)],
 ) -> Result<List<NodeC>, Stop>
     requires few { length decls.now < 2 ^ 32 }
-    requires same { at.old.0.0.2 ≡ table.now }
+    requires same { (signatures_in at.old.0) ≡ table.now }
     ensures nodes { IfOk result
         (InPlaces (λ (d : Numbered) node. IsNodeOf lines.now table.now d d.decl node) (nodes_in decls.now)) }
     ensures untyped { IfErr result (λ stop. stop ≡ NoType → HasUntyped table.now decls.now) }
@@ -70,7 +71,7 @@ fn node_core<'a>(
     number: u32,
     d: &'a (u32, Decl),
 ) -> Result<Option<NodeC>, Stop>
-    requires { at.old.0.0.2 ≡ table.now }
+    requires { (signatures_in at.old.0) ≡ table.now }
     ensures keeps { OnOk result (at.new ≡ at.old) }
     ensures ok { IfOk result (IsNodeIfOne lines.now table.now (numbered number d.now)) }
     ensures none { IfErr result (λ stop. stop ≡ NoType → HasNoType table.now d.now.1) }
