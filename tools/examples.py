@@ -15,6 +15,9 @@ from program import TOP, Usage, built, call
 
 NOT_INPUTS = ("words", "README.md", "expected.py", "expected", "stdin")
 NOT_OUTPUTS = ("status", "table", "taken", "stdout", "hints")
+# which word of a call is WORKERS, and the numbers that are tried
+WORKERS_AT = {"run": 2, "trace": 2, "demo": 3}
+WORKERS = ("1", "2", "3", "16")
 
 
 def read(*path):
@@ -114,6 +117,27 @@ def compare_call(example):
         )
 
 
+def compare_workers(example):
+    """Other numbers of workers write the same bytes and end alike."""
+    words, wanted = words_of(example), os.path.join(example, "expected")
+    at, status = WORKERS_AT.get(words[0]), read(wanted, "status").strip()
+    if at is None or status == b"1":
+        return None
+    for workers in WORKERS:
+        if workers == words[at]:
+            continue
+        with Room(example) as room:
+            files = room.files() | {it: read(wanted, it) for it in outputs(example)}
+            done = room.call_program([*words[:at], workers, *words[at + 1 :]])
+            if difference := (
+                first_difference("status", status, str(done.returncode).encode())
+                or first_difference("standard output", read(wanted, "table") + read(wanted, "stdout"), done.stdout)
+                or file_differences(files, room.files())
+            ):
+                return f"with {workers} workers: {difference}"
+    return None
+
+
 def compare_check(example):
     """A check of the same source writes the table, and nothing else."""
     words, table = words_of(example), read(example, "expected", "table")
@@ -165,7 +189,7 @@ def compare_worked_out(example):
 
 
 def compare(example):
-    for part in (compare_call, compare_check, compare_counts, compare_worked_out):
+    for part in (compare_call, compare_workers, compare_check, compare_counts, compare_worked_out):
         if difference := part(example):
             return difference
     return None
