@@ -1,0 +1,7 @@
+pub mod Stacks
+pub mod Turning
+pub mod Placing
+pub mod Joined
+pub mod TreesCross
+pub mod CoresCross
+pub mod CellsCross
