@@ -1,4 +1,5 @@
 pub mod Stacks
+pub mod Claimed
 pub mod Turning
 pub mod Placing
 pub mod Joined

@@ -22,10 +22,6 @@ use Rattle.turn_locker.proofs.Callers.{passed_node, passed_wire}
 use Rattle.turn_locker.proofs.Updates.{held_here, held_else, pair_here, or_right}
 use Rattle.turn_workers.specs.inner.Stacks.{stack, pairs_of}
 
-
-
-
-
 -- the wires of the side of a node, each once
 pub record IsSide (plan : Plan) (time node : ℕ) (side : List ℕ) : Type 0 where
   pub of_side : (k : ℕ) → k < length side → IsOfSide plan time node (slice_index side k)
@@ -80,10 +76,7 @@ module _ (plan : Plan) (node t : ℕ) (side : List ℕ) (lt : node < plan.nodes)
       rw (eq-eqb i i refl) (without_absent i (stack plan.nodes node t side k) (wire_gone plan.nodes node t side k w lt (λ j below e. let same : j ≡ k = is.once j k (omega arith) near e in omega (arith, same))))
 
   module _ (k : ℕ) (near : k < length side) (v : View) (held : v.held ≡ stack plan.nodes node t side (suc k)) (passed : v.passed ≡ pairs_of node (drop (suc k) side)) where
-    w : ℕ
-    w = slice_index side k
-
-    moves : mover plan t w ≡ node
+    moves : mover plan t (slice_index side k) ≡ node
     moves = (is.of_side k near).1
 
     pub may_pass_wire : MayPassWire plan (slice_index side k) t v
@@ -130,13 +123,6 @@ pub alone_goes : (node t : ℕ) → without node ((node, t) ∷ []) ≡ []
 alone_goes node t = rw (eq-eqb node node refl) refl
 
 -- on the way through a side, as the code meets it
-
--- one wire more is held
-pub one_claimed : (nodes node t : ℕ) (side : List ℕ) (k m wire : ℕ) (v new : View) → v.held ≡ stack nodes node t side k → m ≡ k + 1 → wire ≡ slice_index side k
-    → new ≡ claims (nodes + wire) t v → new.held ≡ stack nodes node t side m
-one_claimed nodes node t side k m wire v new held longer is claimed =
-    let e : suc k ≡ m = omega (arith, longer) in
-    ap (λ (x : View). x.held) claimed ∙ ((λ i. (nodes + is i, t) ∷ held i) ∙ ap (stack nodes node t side) e)
 
 module _ (plan : Plan) (node t : ℕ) (side : List ℕ) (lt : node < plan.nodes) (is : IsSide plan t node side) (k m : ℕ) (near : k < length side) (longer : m ≡ k + 1)
     (v : View) (held : v.held ≡ stack plan.nodes node t side m) (number : ℕ) (at : number ≡ slice_index side k) where

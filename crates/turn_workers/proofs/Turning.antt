@@ -88,3 +88,19 @@ module _ (opened : Opening → Type 0) (side : List ℕ) where
       until = (let at = last_time in omega (arith, at, until));
       right = λ opening is. held.right opening is (length cells) cell (last_get cells cell);
     }
+
+  -- the cell on top
+  pub record IsTop (steps time k : ℕ) (cell : CellView) (rest : List CellView) : Type 0 where
+    pub number : slice_get side k ≡ Some cell.number
+    pub at : cell.time ≡ time
+    pub right : IsWireRight opened steps cell
+    pub below : AreHeld opened side time rest
+
+  pub top_of : (steps time k : ℕ) (cells rest : List CellView) (cell : CellView) → AreHeld opened side time cells → cells ≡ rest ++ cell ∷ [] → length rest ≡ k
+      → time ≤ 2 * steps → IsTop steps time k cell rest
+  top_of steps time k cells rest cell held is long until = let all = subst (AreHeld opened side time) is held in record {
+    number = subst (λ n. slice_get side n ≡ Some cell.number) long (last_number time rest cell all);
+    at = last_time time rest cell all;
+    right = last_right time rest cell all steps until;
+    below = held_less time rest cell all;
+  }

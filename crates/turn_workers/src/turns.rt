@@ -144,7 +144,7 @@ fn half_step<G: Gate>(core: &Core, gate: &G, node: &mut BoxCell, bench: &mut Vec
     ensures right { (opening : Opening) → IsOpeningOf core.now opening → AreRight opening node.old bench.old.items → AreRight opening node.new bench.new.items }
 {
     if node.time() % 2 == 0 {
-        gate.pass();
+        gate.pass(node.number());
         node.execute(core, bench.as_mut_slice());
     } else {
         node.super_step(core, bench.as_mut_slice());
