@@ -1,7 +1,8 @@
 -- From cells at rest to a locker's items, and from the values of a closed locker to cells in their places.
 use Rattle.std.proofs.Common.{◌≡◌, ℕ, zero, suc, ◌+◌, ◌-◌, ◌*◌, ◌/◌, ◌<◌, ◌≤◌, List, [], ◌∷◌, map, take, length, Option, None, Some, slice_get, refl, ap, sym, subst, ◌∙◌, arith}
-use Rattle.std.proofs.lemmas.List.{length-map}
-use Rattle.std.proofs.lemmas.Option.{slice_get_within}
+use Rattle.std.specs.Option.{option_map}
+use Rattle.std.proofs.lemmas.List.{length-map, length-take-le}
+use Rattle.std.proofs.lemmas.Option.{slice_get-map, slice_get_within}
 use Rattle.hume_model.specs.declared.core_tree.Core.{Core}
 use Rattle.hume_net.specs.declared.plan.Plan.{Plan}
 use Rattle.hume_net.specs.Plan.{IsPlan, plan_of, wires_of, consumer_of, producer_of}
@@ -14,6 +15,7 @@ use Rattle.box_step.specs.nodes.Openings.{Opening, IsOpeningOf}
 use Rattle.box_step.specs.nodes.Right.{IsRightWire}
 use Rattle.step_turns.specs.Homes.{AreRightHome, IsHome}
 use Rattle.step_turns.specs.Rounds.{AllRight, AreInPlace, AreUntil, node_time, time_there}
+use Rattle.step_turns.proofs.Lifting.{take_get}
 use Rattle.turn_locker.specs.Closing.{AreHome}
 use Rattle.turn_locker.specs.Held.{items_of}
 use Rattle.turn_workers.specs.declared.cells.NetCell.{NetCell}
@@ -88,6 +90,29 @@ module _ (opened : Opening → Type 0) (nodes steps : ℕ) where
       let there : is.0.cell ≡ cell = ap (λ (i : Item P). i.cell) same ∙ was.2 in
       ap time_in (sym there) ∙ is.3
 
+-- the first of them are the items of nodes
+
+pub cells_first : (P : Type 0) (count : ℕ) (items : List (Item P)) → count ≤ length items → (k : ℕ) (cell : NetCell)
+    → slice_get (cells_of (take count items)) k ≡ Some cell → slice_get (cells_of items) k ≡ Some cell
+cells_first P count items few k cell at =
+    let inside = slice_get_within (cells_of (take count items)) k cell at in
+    let same = length-map (take count items) (λ (i : Item P). i.cell) in
+    let long = length-take-le count items few in
+    slice_get-map (λ (i : Item P). i.cell) items k
+    ∙ (ap (option_map (λ (i : Item P). i.cell)) (sym (take_get count items k (omega (arith, inside, same, long))))
+    ∙ (sym (slice_get-map (λ (i : Item P). i.cell) (take count items) k) ∙ at))
+
+pub first_items : (P : Type 0) (opened : Opening → Type 0) (nodes steps count : ℕ) (items : List (Item P)) → nodes ≤ count
+    → AreItems opened nodes steps count (cells_of items) → AreItems opened nodes steps nodes (cells_of (take nodes items))
+first_items P opened nodes steps count items few all =
+    let whole = length-map items (λ (i : Item P). i.cell) in
+    let counted = all.long in
+    let enough : nodes ≤ length items = omega (arith, whole, counted, few) in
+    record {
+      long = length-map (take nodes items) (λ (i : Item P). i.cell) ∙ length-take-le nodes items enough;
+      each = λ item cell at. all.each item cell (cells_first P nodes items enough item cell at);
+    }
+
 there_at : {X : Type 0} (xs : List X) (i : ℕ) → i < length xs → (x : X) × (slice_get xs i ≡ Some x)
 there_at [] i below = absurd (omega arith)
 there_at (x ∷ xs) zero below = (x, refl)
@@ -155,3 +180,35 @@ module _ (opened : Opening → Type 0) (steps : ℕ) (core : Core) (planned : Is
           subst (IsRightWire opening) same ((items.each (length core.nodes + w) (Wire back.cell (length core.nodes + w)) back.was).right.1.right opening is);
     };
   }
+
+-- all cells are back from a closed locker
+module _ (P : Type 0) (opened : Opening → Type 0) (nodes steps : ℕ) (core : Core) (planned : IsPlan (plan_of core)) (same : nodes ≡ length core.nodes)
+    (plan : Plan) (is : plan ≡ plan_of core) (values : List (Item P))
+    (closed : AreHome (λ (i : Item P). number_in i.cell) (λ (i : Item P). time_in i.cell) (λ (i : Item P). IsRight opened nodes steps i.cell) plan values)
+    (cells : List BoxCell) (home : List (Option CellView)) (count : length cells ≡ nodes)
+    (node_back : (n : ℕ) (cell : BoxCell) → slice_get cells n ≡ Some cell → slice_get (cells_of (take nodes values)) n ≡ Some (Node cell))
+    (long : length home ≡ length core.wires)
+    (wire_back : (w : ℕ) → w < length core.wires → IsWireBack nodes w (cells_of values) home) where
+  of_core : AreHome (λ (i : Item P). number_in i.cell) (λ (i : Item P). time_in i.cell) (λ (i : Item P). IsRight opened (length core.nodes) steps i.cell) (plan_of core) values
+  of_core = subst (λ (x : ℕ × Plan). AreHome (λ (i : Item P). number_in i.cell) (λ (i : Item P). time_in i.cell) (λ (i : Item P). IsRight opened x.0 steps i.cell) x.1 values)
+      (λ i. (same i, is i)) closed
+
+  node_home : (n : ℕ) (cell : BoxCell) → slice_get cells n ≡ Some cell → slice_get (cells_of values) n ≡ Some (Node cell)
+  node_home n cell at =
+      let counted = of_core.count in
+      cells_first P nodes values (omega (arith, counted, same)) n (Node cell) (node_back n cell at)
+
+  wire_home : (w : ℕ) → w < length core.wires → IsWireBack (length core.nodes) w (cells_of values) home
+  wire_home w less = subst (λ n. IsWireBack n w (cells_of values) home) same (wire_back w less)
+
+  pub back_in_place : AreInPlace core cells home
+  back_in_place = in_place opened steps core planned (cells_of values) of_core.clock (all_items opened (length core.nodes) steps (plan_of core) values of_core)
+      (time_of_item opened (length core.nodes) steps (plan_of core) values of_core) of_core.balanced of_core.wires cells home (count ∙ same) node_home long wire_home
+
+  pub back_until : AreUntil (2 * steps) cells
+  back_until = until_end opened steps core planned (cells_of values) of_core.clock (all_items opened (length core.nodes) steps (plan_of core) values of_core)
+      (time_of_item opened (length core.nodes) steps (plan_of core) values of_core) of_core.balanced of_core.wires cells home (count ∙ same) node_home long wire_home
+
+  pub back_right : (opening : Opening) → opened opening → AllRight opening cells home
+  back_right = all_right opened steps core planned (cells_of values) of_core.clock (all_items opened (length core.nodes) steps (plan_of core) values of_core)
+      (time_of_item opened (length core.nodes) steps (plan_of core) values of_core) of_core.balanced of_core.wires cells home (count ∙ same) node_home long wire_home

@@ -27,7 +27,7 @@ pub place-requires-clause-vacant : goal.place-requires-clause-vacant
 place-requires-clause-vacant g c = λ κs le.
     let item = g.O.Opens.nodes + c.args.w in
     let same : c.args.nodes + c.args.w ≡ item = (let nodes = c.requires.plan.0 in omega (arith, nodes)) in (
-      ap (λ n. held_at n _) same ∙ still_held c.args.locker.now.plan item (item + 1) _ c.requires.view refl,
+      ap (λ n. held_at n (view_of c.args.seat.now).held) same ∙ still_held c.args.locker.now.plan item (item + 1) _ c.requires.view refl,
       none_passed c.args.locker.now.plan (item + 1) _ c.requires.view,
     )
 

@@ -1,4 +1,4 @@
-use Rattle.std.proofs.Common.{rules, ◌≡◌, ℕ, suc, ◌+◌, ◌-◌, ◌<◌, ◌≤◌, [], ◌∷◌, ◌++◌, length, take, vec_len, Some, slice_get, sym, ap, ◌∙◌, subst, inl, inr, arith}
+use Rattle.std.proofs.Common.{rules, ◌≡◌, ℕ, suc, ◌+◌, ◌-◌, ◌<◌, ◌≤◌, [], ◌∷◌, ◌++◌, length, take, vec_len, Some, slice_get, slice_set, sym, ap, ◌∙◌, subst, inl, inr, arith}
 use Rattle.std.proofs.lemmas.Bool.{cases_eq}
 use Rattle.std.proofs.lemmas.List.{take-take}
 use Rattle.step_turns.proofs.Lifting.{set_here, set_elsewhere}
@@ -31,8 +31,8 @@ unpacking-preserved g c =
     c.requires.items k.left c.in-Some.ensures.items (omega (arith, shorter, ok)) in
     let number = it.1.number in
     let is = it.0 ∙ ap (λ x. Some x) (c.into_wire.ensures ∙ ap (λ n. Wire c.into_wire.result n) number) in
-    let count = c.len-2.ensures in
-    let w : ℕ = c.len-2.result - c.args.nodes in
+    let count = c.len-in-unpacking.ensures in
+    let w : ℕ = c.len-in-unpacking.result - c.args.nodes in
     let here : w + g.O.Opens.nodes ≡ length c.pop.new.self.items = omega (arith, shorter, ok, above, nodes, count) in
     let home_ok = c.unpacking.home.ok.0 in let long = k.long in
     record {
@@ -44,7 +44,7 @@ unpacking-preserved g c =
       back = λ v inside later. elim (cases_eq w v) [
         | inl same ↦ (let place : g.O.Opens.nodes + v ≡ length c.pop.new.self.items = omega (arith, here, same) in record {
             cell = c.into_wire.result;
-            there = ap (λ hs. slice_get hs v) c.put_to.ensures.0 ∙ (ap (λ n. slice_get _ n) (sym same)
+            there = ap (λ hs. slice_get hs v) c.put_to.ensures.0 ∙ (ap (λ n. slice_get (slice_set c.unpacking.home.items w (Some c.into_wire.result)) n) (sym same)
                 ∙ set_here c.unpacking.home.items w (Some c.into_wire.result) (omega (arith, inside, same, home_ok, long)));
             was = ap (slice_get (cells_of c.args.items.now.items)) place ∙ (is ∙ ap (λ n. Some (Wire c.into_wire.result n)) (sym place));
           })
