@@ -6,3 +6,4 @@ pub mod Joined
 pub mod TreesCross
 pub mod CoresCross
 pub mod CellsCross
+pub mod Captured
