@@ -1,7 +1,7 @@
 -- What a worker's closure captures may go to another thread.
 use denote.RattleType.{RattleType}
 use denote.Plain.{UInt}
-use mir.Syntax.{w32, Dict}
+use mir.Syntax.{w32}
 use mathlib.Core.List.{List, [], ◌∷◌}
 use mir.Syntax.{Sym}
 use denote.Struct.Struct.{Struct}
@@ -13,7 +13,6 @@ use Rattle.std.specs.contracts.alloc.Global as global
 use Rattle.std.proofs.Crossing.{crosses}
 use Rattle.hume_base.specs.contracts.list.List as a_list
 use Rattle.hume_base.proofs.list.List.TheSendSync as list
-use Rattle.wire_cells.specs.contracts.cell.WireCell as wire
 use Rattle.wire_cells.proofs.cell.WireCell.TheSendSync as wires
 use Rattle.step_turns.specs.contracts.sides.Sides as sides
 use Rattle.turn_locker.specs.contracts.locker.Locker as locker

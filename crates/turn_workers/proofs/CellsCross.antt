@@ -1,5 +1,4 @@
 -- The cells of nodes may go to another thread, and be seen by several.
-use denote.RattleType.{RattleType}
 use denote.Plain.{UInt}
 use mir.Syntax.{w32}
 use denote.Param.Send.{IsSend, IsSync, sendable}

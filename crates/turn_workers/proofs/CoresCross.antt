@@ -1,24 +1,9 @@
 -- Cores may be seen by several threads.
-use denote.RattleType.{RattleType}
-use denote.Param.Send.{IsSend, IsSync, sendable}
-use denote.Param.SendFields.{as_row_send, as_row_sync}
+use denote.Param.Send.{IsSync, sendable}
 use Rattle.hume_base.proofs.list.List.TheSendSync as list
-use Rattle.hume_base.proofs.boxed.Box.TheSendSync as boxed
 use Rattle.hume_base.proofs.text.Text.TheSendSync as text
-use Rattle.hume_base.specs.contracts.list.List as a_list
-use Rattle.hume_base.specs.contracts.boxed.Box as a_box
-use Rattle.hume_base.proofs.types.Ty.TheLaws.TheKnot as ty_knot
 use Rattle.hume_base.specs.contracts.types.Ty as ty
-use Rattle.hume_base.proofs.types.Value.TheLaws.TheKnot as value_knot
-use Rattle.hume_base.specs.contracts.types.Value as value
-use Rattle.hume_model.proofs.core_tree.PatC.TheLaws.TheKnot as pat_knot
 use Rattle.hume_model.specs.contracts.core_tree.PatC as pat
-use Rattle.hume_model.proofs.core_tree.Expr.TheLaws.TheKnot as expr_knot
-use Rattle.hume_model.specs.contracts.core_tree.Expr as expr
-use Rattle.hume_model.proofs.core_tree.Res.TheLaws.TheKnot as res_knot
-use Rattle.hume_model.specs.contracts.core_tree.Res as res
-use mathlib.Core.List.{[], ◌∷◌}
-use denote.Struct.Tuple.{Tuple}
 use Rattle.hume_base.specs.contracts.text.Text as a_text
 use Rattle.hume_base.specs.contracts.types.ConDef as con
 use Rattle.hume_base.specs.contracts.types.SumDef as sum
@@ -36,7 +21,7 @@ use Rattle.hume_model.specs.contracts.core_tree.EqC as eq
 use Rattle.hume_model.specs.contracts.core_tree.FunC as function
 use Rattle.hume_model.specs.contracts.core_tree.Core as core
 
-use Rattle.turn_workers.proofs.TreesCross.{ty_sync, ty_field_sync, value_sync, pat_sync, pat_field_sync, expr_sync, expr_field_sync, res_sync, res_field_sync}
+use Rattle.turn_workers.proofs.TreesCross.{ty_sync, ty_field_sync, value_sync, pat_sync, pat_field_sync, expr_field_sync, res_field_sync}
 
 pub text_sync : IsSync a_text.the_row
 text_sync = text.the_sync

@@ -1,19 +1,18 @@
 -- From cells at rest to a locker's items, and from the values of a closed locker to cells in their places.
-use Rattle.std.proofs.Common.{◌≡◌, ℕ, zero, suc, ◌+◌, ◌-◌, ◌*◌, ◌/◌, ◌<◌, ◌≤◌, List, [], ◌∷◌, map, take, length, Option, None, Some, slice_get, refl, ap, sym, subst, ◌∙◌, arith}
+use Rattle.std.proofs.Common.{◌≡◌, ℕ, zero, suc, ◌+◌, ◌*◌, ◌<◌, ◌≤◌, List, [], ◌∷◌, take, length, Option, Some, slice_get, refl, ap, sym, subst, ◌∙◌, arith}
 use Rattle.std.specs.Option.{option_map}
 use Rattle.std.proofs.lemmas.List.{length-map, length-take-le}
 use Rattle.std.proofs.lemmas.Option.{slice_get-map, slice_get_within}
 use Rattle.hume_model.specs.declared.core_tree.Core.{Core}
 use Rattle.hume_net.specs.declared.plan.Plan.{Plan}
 use Rattle.hume_net.specs.Plan.{IsPlan, plan_of, wires_of, consumer_of, producer_of}
-use Rattle.hume_net.specs.Times.{AreBalanced, IsBalanced, wire_time}
+use Rattle.hume_net.specs.Times.{AreBalanced, wire_time}
 use Rattle.hume_net.proofs.Plans.{wires_counted}
 use Rattle.model_bare.proofs.Frames.{was_there}
 use Rattle.wire_cells.specs.Cells.{CellView}
 use Rattle.box_step.specs.declared.nodes.cell.BoxCell.{BoxCell}
 use Rattle.box_step.specs.nodes.Openings.{Opening, IsOpeningOf}
 use Rattle.box_step.specs.nodes.Right.{IsRightWire}
-use Rattle.step_turns.specs.Homes.{AreRightHome, IsHome}
 use Rattle.step_turns.specs.Rounds.{AllRight, AreInPlace, AreUntil, node_time, time_there}
 use Rattle.step_turns.proofs.Lifting.{take_get}
 use Rattle.turn_locker.specs.Closing.{AreHome}
@@ -21,7 +20,7 @@ use Rattle.turn_locker.specs.Held.{items_of}
 use Rattle.turn_workers.specs.declared.cells.NetCell.{NetCell}
 use Rattle.turn_workers.specs.declared.cells.NetCell.TheVariants.{Node, Wire}
 use Rattle.turn_workers.specs.declared.items.Item.{Item}
-use Rattle.turn_workers.specs.Items.{IsNodeRight, IsWireRight, IsRight, number_in, time_in}
+use Rattle.turn_workers.specs.Items.{IsRight, number_in, time_in}
 use Rattle.turn_workers.specs.inner.Moved.{cells_of, AreItems, AreNodesAtRest, IsItemAt, IsWireAtRest, IsWireBack}
 
 module _ (opened : Opening → Type 0) (steps : ℕ) (core : Core) (nodes : List BoxCell) (home : List (Option CellView)) (place : AreInPlace core nodes home)

@@ -1,7 +1,6 @@
 -- Items are put home from the last one down, and come back in their order.
-use Rattle.std.proofs.Common.{◌≡◌, ℕ, zero, suc, ◌+◌, ◌-◌, ◌<◌, ◌≤◌, List, [], ◌∷◌, ◌++◌, map, take, length, Option, None, Some, slice_get, get_or, reverse, refl, ap, sym, subst, ◌∙◌, arith}
+use Rattle.std.proofs.Common.{◌≡◌, ℕ, suc, ◌+◌, ◌-◌, ◌<◌, List, [], ◌∷◌, ◌++◌, take, length, Option, Some, slice_get, reverse, ap, sym, ◌∙◌, arith}
 use Rattle.std.specs.Option.{option_map}
-use Rattle.std.proofs.Math.ListN.{set}
 use mathlib.Core.Option.{some}
 use Rattle.std.proofs.lemmas.List.{get_or-reverse, length-reverse}
 use Rattle.std.proofs.lemmas.Option.{slice_get-map, slice_get_within, slice_get-get_or, get_or_from_slice_get}
@@ -15,7 +14,7 @@ use Rattle.turn_locker.specs.Held.{held_at, without}
 use Rattle.turn_locker.specs.Views.{held_at_first, newcomer, puts_back}
 use Rattle.turn_locker.proofs.Callers.{last_held, without_last}
 use Rattle.turn_workers.specs.declared.cells.NetCell.{NetCell}
-use Rattle.turn_workers.specs.declared.cells.NetCell.TheVariants.{Node, Wire}
+use Rattle.turn_workers.specs.declared.cells.NetCell.TheVariants.{Node}
 use Rattle.turn_workers.specs.declared.items.Item.{Item}
 use Rattle.turn_workers.specs.inner.Moved.{cells_of, AreItems, AreNodesAtRest, IsItemAt, AreNodesBack, IsWireAtRest, still_holds}
 use Rattle.turn_workers.specs.Items.{IsNodeRight}

@@ -1,5 +1,5 @@
 -- What a seat holds on its way through a side, and what it may pass and put back there.
-use Rattle.std.proofs.Common.{◌≡◌, ◌≢◌, ℕ, zero, suc, eqb, Bool, true, false, ◌==◌, ◌||◌, ◌+◌, ◌-◌, ◌<◌, ◌≤◌, List, [], ◌∷◌, map, drop, length, get_or, Some, slice_get, sym, refl, ap, ◌∙◌, subst, if◌then◌else◌, eq-eqb, ne_eqb, arith}
+use Rattle.std.proofs.Common.{◌≡◌, ◌≢◌, ℕ, zero, suc, true, false, ◌+◌, ◌-◌, ◌<◌, List, [], ◌∷◌, drop, length, get_or, Some, sym, refl, ap, ◌∙◌, subst, eq-eqb, ne_eqb, arith}
 use mathlib.Core.Logic.{dite}
 use mathlib.Core.Option.{none, some, some-ne-none}
 use native.Mathlib.Decide.{ℕ_discrete, dec_le}
@@ -9,7 +9,7 @@ use Rattle.std.proofs.lemmas.Option.{slice_get-get_or, slice_get_within, get_or_
 use Rattle.std.proofs.Math.Seq.{drop-cons}
 use Rattle.hume_model.specs.declared.core_tree.Core.{Core}
 use Rattle.hume_net.specs.declared.plan.Plan.{Plan}
-use Rattle.hume_net.specs.Plan.{plan_of, wires_of}
+use Rattle.hume_net.specs.Plan.{plan_of}
 use Rattle.hume_net.specs.Times.{mover, IsOfSide}
 use Rattle.step_turns.specs.Rounds.{IsWholeSide}
 use Rattle.step_turns.proofs.OneTurn.{is_of_side}
@@ -17,7 +17,7 @@ use Rattle.step_turns.proofs.Turning.{side_apart}
 use Rattle.turn_locker.specs.declared.view.View.{View}
 use Rattle.turn_locker.specs.Asking.{MayPassNode, MayPassWire, MayPutBack}
 use Rattle.turn_locker.specs.Held.{held_at, without, has_pair, pairs_but}
-use Rattle.turn_locker.specs.Views.{claims, passes, puts_back}
+use Rattle.turn_locker.specs.Views.{passes, puts_back}
 use Rattle.turn_locker.proofs.Callers.{passed_node, passed_wire}
 use Rattle.turn_locker.proofs.Updates.{held_here, held_else, pair_here, or_right}
 use Rattle.turn_workers.specs.inner.Stacks.{stack, pairs_of}

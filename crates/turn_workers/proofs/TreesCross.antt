@@ -4,9 +4,6 @@ use denote.Param.Send.{IsSend, IsSync, sendable}
 use denote.Param.SendFields.{as_row_send, as_row_sync}
 use Rattle.hume_base.proofs.list.List.TheSendSync as list
 use Rattle.hume_base.proofs.boxed.Box.TheSendSync as boxed
-use Rattle.hume_base.proofs.text.Text.TheSendSync as text
-use Rattle.hume_base.specs.contracts.list.List as a_list
-use Rattle.hume_base.specs.contracts.boxed.Box as a_box
 use Rattle.hume_base.proofs.types.Ty.TheLaws.TheKnot as ty_knot
 use Rattle.hume_base.specs.contracts.types.Ty as ty
 use Rattle.hume_base.proofs.types.Value.TheLaws.TheKnot as value_knot
@@ -21,22 +18,6 @@ use Rattle.hume_model.proofs.core_tree.Res.TheLaws.TheKnot as res_knot
 use Rattle.hume_model.specs.contracts.core_tree.Res as res
 use mathlib.Core.List.{[], ◌∷◌}
 use denote.Struct.Tuple.{Tuple}
-use Rattle.hume_base.specs.contracts.text.Text as a_text
-use Rattle.hume_base.specs.contracts.types.ConDef as con
-use Rattle.hume_base.specs.contracts.types.SumDef as sum
-use Rattle.hume_base.specs.contracts.types.Types as types
-use Rattle.hume_model.specs.contracts.core_tree.InPat as in_pat
-use Rattle.hume_model.specs.contracts.core_tree.RuleC as rule
-use Rattle.hume_model.specs.contracts.core_tree.HandC as hand
-use Rattle.hume_model.specs.contracts.core_tree.PortC as port
-use Rattle.hume_model.specs.contracts.core_tree.BoxC as a_box_core
-use Rattle.hume_model.specs.contracts.core_tree.StreamC as stream
-use Rattle.hume_model.specs.contracts.core_tree.NodeC as node
-use Rattle.hume_model.specs.contracts.core_tree.WireC as wire
-use Rattle.hume_model.specs.contracts.core_tree.ExnDef as exn
-use Rattle.hume_model.specs.contracts.core_tree.EqC as eq
-use Rattle.hume_model.specs.contracts.core_tree.FunC as function
-use Rattle.hume_model.specs.contracts.core_tree.Core as core
 
 pub ty_field_sync : IsSync (ty.the_field).row
 ty_field_sync = ty_knot.sync-Ty (search sendable) (λ h s. list.the_sync h s) (search sendable) (λ h s. boxed.the_sync h s)

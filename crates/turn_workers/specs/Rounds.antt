@@ -1,11 +1,10 @@
 -- What the workers of a round share, and what each keeps between two half steps.
-use Rattle.std.specs.Prelude.{◌≡◌, ℕ, ◌+◌, ◌*◌, ◌^◌, ◌<◌, Option}
+use Rattle.std.specs.Prelude.{◌≡◌, ℕ, ◌^◌, ◌<◌, Option}
 use Rattle.atomic_table.specs.declared.shared.Seat.{Seat}
 use Rattle.hume_model.specs.declared.core_tree.Core.{Core}
 use Rattle.hume_net.specs.Plan.{plan_of}
 use Rattle.box_step.specs.nodes.Openings.{Opening, IsOpeningOf}
-use Rattle.step_turns.specs.declared.sides.Sides.{Sides}
-use Rattle.step_turns.specs.Rounds.{AreSides, HaveSpan}
+use Rattle.step_turns.specs.Rounds.{HaveSpan}
 use Rattle.turn_locker.specs.declared.view.View.{View}
 use Rattle.turn_locker.specs.Held.{items_of}
 use Rattle.turn_locker.specs.Seats.{LockerView, IsSeatOf, view_of}

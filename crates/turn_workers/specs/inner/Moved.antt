@@ -1,5 +1,5 @@
 -- The cells of a net on their way into a locker and back.
-use Rattle.std.specs.Prelude.{◌≡◌, ℕ, ◌+◌, ◌-◌, ◌<◌, List, map, length, Option, Some, slice_get}
+use Rattle.std.specs.Prelude.{◌≡◌, ℕ, ◌+◌, ◌-◌, List, map, length, Option, Some, slice_get}
 use Rattle.hume_net.specs.declared.plan.Plan.{Plan}
 use Rattle.wire_cells.specs.Cells.{CellView}
 use Rattle.box_step.specs.declared.nodes.cell.BoxCell.{BoxCell}

@@ -1,4 +1,4 @@
-use Rattle.std.proofs.Common.{◌≡◌, ◌+◌, refl, sym, ap, ◌∙◌, subst, arith}
+use Rattle.std.proofs.Common.{◌+◌, refl, sym, ap, ◌∙◌, subst}
 use Rattle.turn_workers.specs.Items.{IsRight, number_in, time_in}
 use Rattle.turn_workers.proofs.Placing.{still_held, none_passed, one_home}
 use Rattle.turn_workers.proofs.moving.place_node.Goals as goal

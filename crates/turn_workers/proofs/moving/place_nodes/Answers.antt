@@ -1,6 +1,4 @@
-use Rattle.std.proofs.Common.{◌≡◌, ◌+◌, ◌<◌, ◌≤◌, [], ◌∷◌, ◌++◌, length, length-append, vec_len, refl, sym, ap, ◌∙◌, subst, arith}
-use Rattle.turn_locker.specs.declared.view.View.{View}
-use Rattle.turn_locker.specs.Seats.{view_of}
+use Rattle.std.proofs.Common.{◌≡◌, ◌+◌, vec_len, ap, ◌∙◌, subst, arith}
 use Rattle.turn_workers.specs.inner.Moved.{AreNodesAtRest, still_holds}
 use Rattle.turn_workers.proofs.Placing.{nodes_less, last_node}
 use Rattle.turn_workers.proofs.moving.place_nodes.Goals as goal

@@ -1,7 +1,6 @@
-use Rattle.std.proofs.Common.{◌≡◌, ◌+◌, ◌<◌, Some, refl, sym, ap, ◌∙◌, subst, arith}
+use Rattle.std.proofs.Common.{◌≡◌, ◌+◌, Some, refl, sym, ap, ◌∙◌, subst, arith}
 use Rattle.wire_cells.specs.Cells.{CellView}
 use Rattle.turn_workers.specs.Items.{IsRight, IsWireRight, number_in, time_in}
-use Rattle.turn_workers.specs.declared.cells.NetCell.TheVariants.{Wire}
 use Rattle.turn_workers.proofs.Placing.{still_held, none_passed, one_home}
 use Rattle.turn_locker.specs.Held.{held_at}
 use Rattle.turn_locker.specs.Seats.{view_of}

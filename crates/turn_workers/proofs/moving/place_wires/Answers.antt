@@ -1,7 +1,5 @@
-use Rattle.std.proofs.Common.{◌≡◌, ◌+◌, ◌-◌, ◌<◌, ◌≤◌, slice_get, vec_len, refl, sym, ap, ◌∙◌, subst, arith}
+use Rattle.std.proofs.Common.{◌-◌, slice_get, ap, ◌∙◌, arith}
 use Rattle.step_turns.proofs.Lifting.{set_elsewhere}
-use Rattle.turn_locker.specs.Seats.{view_of}
-use Rattle.turn_workers.specs.inner.Moved.{still_holds}
 use Rattle.turn_workers.proofs.Placing.{wire_by}
 use Rattle.turn_workers.proofs.moving.place_wires.Goals as goal
 

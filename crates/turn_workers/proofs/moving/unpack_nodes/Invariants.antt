@@ -1,4 +1,4 @@
-use Rattle.std.proofs.Common.{◌≡◌, ◌+◌, ◌≤◌, length, take, vec_len, vec_capacity}
+use Rattle.std.proofs.Common.{◌≡◌, ◌+◌, ◌≤◌, take, vec_len, vec_capacity}
 use Rattle.turn_workers.specs.inner.Moved.{cells_of, AreNodesBack}
 use Rattle.turn_workers.proofs.moving.unpack_nodes.Given as goal
 

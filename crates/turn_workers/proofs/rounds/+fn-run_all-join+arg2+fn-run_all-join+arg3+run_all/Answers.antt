@@ -1,6 +1,6 @@
 use denote.Exit.{no}
 use denote.Param.{param}
-use denote.Param.Send.{IsSend, IsSync, param_send, arg_send, shr_send}
+use denote.Param.Send.{IsSync, param_send, arg_send, shr_send}
 use Rattle.turn_workers.specs.contracts.items.Item as item
 use Rattle.turn_workers.specs.contracts.items.ItemTimed.TheImpl.{ghosts, no_dict}
 use Rattle.turn_workers.proofs.CoresCross.{core_sync}

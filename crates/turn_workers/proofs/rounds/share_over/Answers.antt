@@ -1,4 +1,4 @@
-use Rattle.std.proofs.Common.{◌≡◌, ℕ, ◌+◌, ◌<◌, ◌≤◌, length, take, vec_len, Some, slice_get, sym, ap, ◌∙◌, subst, arith}
+use Rattle.std.proofs.Common.{◌≡◌, ◌+◌, vec_len, slice_get, sym, ap, ◌∙◌, subst, arith}
 use Rattle.hume_net.proofs.Plans.{wires_counted}
 use Rattle.turn_locker.specs.Held.{items_of}
 use Rattle.turn_workers.specs.inner.Moved.{cells_of, AreItems, AreNodesAtRest}

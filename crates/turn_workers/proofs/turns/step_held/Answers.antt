@@ -1,5 +1,4 @@
-use Rattle.std.proofs.Common.{◌≡◌, ◌*◌, ◌<◌, ℕ, length, refl, sym, ap, ◌∙◌, subst, arith}
-use Rattle.box_step.specs.nodes.Openings.{Opening}
+use Rattle.std.proofs.Common.{◌<◌, ℕ, refl, sym, subst, arith}
 use Rattle.step_turns.proofs.OneTurn.{has_room, has_span}
 use Rattle.turn_workers.specs.inner.Benches.{AreHeld}
 use Rattle.turn_workers.proofs.Turning.{side_held, wires_held, held_later}
