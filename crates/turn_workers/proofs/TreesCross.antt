@@ -43,7 +43,6 @@ pat_field_sync = pat_knot.sync-PatC (search sendable) (search sendable) (λ h s.
 pub pat_sync : IsSync pat.the_row
 pat_sync = as_row_sync pat.the_field pat_field_sync
 
-
 pair_sync : (a b : RattleType) → IsSync a → IsSync b → IsSync (Tuple (a ∷ b ∷ []))
 pair_sync a b x y = search sendable
 

@@ -92,12 +92,7 @@ pub(crate) fn place_nodes<O: Opens>(
     }
 }
 
-fn place_node<O: Opens>(
-    locker: &Locker<Item<O>>,
-    seat: &mut Seat<Item<O>>,
-    n: u32,
-    cell: BoxCell,
-)
+fn place_node<O: Opens>(locker: &Locker<Item<O>>, seat: &mut Seat<Item<O>>, n: u32, cell: BoxCell)
     requires own { IsSeatOf locker.now seat.old }
     requires view { view_of seat.old ≡ still_holds locker.now.plan (n + 1) }
     requires plan { (n < O.nodes) × (O.nodes ≡ locker.now.plan.nodes) }

@@ -55,7 +55,9 @@ pub fn share_round<R: Threads + Sync, G: Gate>(
     if workers <= 1 || core.nodes.is_empty() {
         return Ok(());
     }
-    share_on::<Brand, R, G>(rt, alloc, core, sides, room, steps, workers, gate, nodes, home)
+    share_on::<Brand, R, G>(
+        rt, alloc, core, sides, room, steps, workers, gate, nodes, home,
+    )
 }
 
 fn share_on<O: Opens, R: Threads + Sync, G: Gate>(
@@ -87,7 +89,9 @@ fn share_on<O: Opens, R: Threads + Sync, G: Gate>(
 {
     let plan = find_plan(alloc, core)?;
     let (locker, seat) = Locker::<Item<O>>::vacant(alloc, plan)?;
-    share_over::<O, R, G>(rt, alloc, core, sides, room, steps, workers, gate, locker, seat, nodes, home);
+    share_over::<O, R, G>(
+        rt, alloc, core, sides, room, steps, workers, gate, locker, seat, nodes, home,
+    );
     Ok(())
 }
 
@@ -125,7 +129,9 @@ fn share_over<O: Opens, R: Threads + Sync, G: Gate>(
     let count = core.nodes.len() as u32;
     place_wires(&locker, &mut seat, count, home);
     place_nodes(&locker, &mut seat, nodes);
-    let seat = run_all::<O, R, G>(rt, alloc, core, sides, room, gate, &locker, seat, count, steps, 0, count, workers);
+    let seat = run_all::<O, R, G>(
+        rt, alloc, core, sides, room, gate, &locker, seat, count, steps, 0, count, workers,
+    );
     let mut items = locker.close(seat);
     unpack_wires(&mut items, count as usize, home);
     unpack_nodes(items, nodes);
@@ -156,7 +162,9 @@ fn run_all<O: Opens, R: Threads + Sync, G: Gate>(
     ensures share { (view_of result).share ≡ (view_of seat).share }
 {
     if workers <= 1 {
-        return alone(alloc, core, sides, room, gate, locker, seat, nodes, steps, from);
+        return alone(
+            alloc, core, sides, room, gate, locker, seat, nodes, steps, from,
+        );
     }
     let half = workers / 2;
     let rest = workers - half;
@@ -167,11 +175,19 @@ fn run_all<O: Opens, R: Threads + Sync, G: Gate>(
         move || -> Seat<Item<O>>
             requires { IsSync R.row × IsSync G.row × IsShared O.opened O.nodes O.steps core.now locker.now × (nodes ≡ O.nodes) × (steps ≡ O.steps) × (from ≤ middle) × (middle ≤ nodes) × AreSides core.now room sides.now × IsIdle locker.now left × (rest ≤ (view_of left).share) }
             ensures { IsIdle locker.entry.now result × ((view_of result).share ≡ (view_of left).share) }
-        { run_all::<O, R, G>(rt, alloc, core, sides, room, gate, locker, left, nodes, steps, from, middle, rest) },
+        {
+            run_all::<O, R, G>(
+                rt, alloc, core, sides, room, gate, locker, left, nodes, steps, from, middle, rest,
+            )
+        },
         move || -> Seat<Item<O>>
             requires { IsSync R.row × IsSync G.row × IsShared O.opened O.nodes O.steps core.now locker.now × (nodes ≡ O.nodes) × (steps ≡ O.steps) × (middle ≤ to) × (to ≤ nodes) × AreSides core.now room sides.now × IsIdle locker.now right × (half ≤ (view_of right).share) }
             ensures { IsIdle locker.entry.now result × ((view_of result).share ≡ (view_of right).share) }
-        { run_all::<O, R, G>(rt, alloc, core, sides, room, gate, locker, right, nodes, steps, middle, to, half) },
+        {
+            run_all::<O, R, G>(
+                rt, alloc, core, sides, room, gate, locker, right, nodes, steps, middle, to, half,
+            )
+        },
     );
     locker.join(a, b)
 }
@@ -198,6 +214,8 @@ fn alone<O: Opens, G: Gate>(
 {
     match Vec::with_capacity(alloc, room) {
         Err(_) => seat,
-        Ok(mut bench) => work(core, sides, gate, locker, seat, &mut bench, nodes, steps, first),
+        Ok(mut bench) => work(
+            core, sides, gate, locker, seat, &mut bench, nodes, steps, first,
+        ),
     }
 }

@@ -49,7 +49,9 @@ pub(crate) fn work<O: Opens, G: Gate>(
 {
     let mut idle = 0;
     for _ in 0..u64::MAX {
-        let found = scan(core, sides, gate, locker, &mut seat, bench, nodes, steps, first);
+        let found = scan(
+            core, sides, gate, locker, &mut seat, bench, nodes, steps, first,
+        );
         if !found.before_end || idle >= IDLE_SCANS {
             return seat;
         }
@@ -89,7 +91,11 @@ fn scan<O: Opens, G: Gate>(
         before_end: false,
     };
     for i in 0..nodes {
-        let node = if i < nodes - first { first + i } else { i - (nodes - first) };
+        let node = if i < nodes - first {
+            first + i
+        } else {
+            i - (nodes - first)
+        };
         let time = locker.time_of(seat, node);
         if time < 2 * steps as u64 {
             found.before_end = true;

@@ -43,16 +43,16 @@ unpacking-preserved g c =
       most = omega (arith, shorter, most);
       back = λ v inside later. elim (cases_eq w v) [
         | inl same ↦ (let place : g.O.Opens.nodes + v ≡ length c.pop.new.self.items = omega (arith, here, same) in record {
-            cell = c.into_wire.result;
-            there = ap (λ hs. slice_get hs v) c.put_to.ensures.0 ∙ (ap (λ n. slice_get (slice_set c.unpacking.home.items w (Some c.into_wire.result)) n) (sym same)
-                ∙ set_here c.unpacking.home.items w (Some c.into_wire.result) (omega (arith, inside, same, home_ok, long)));
-            was = ap (slice_get (cells_of c.args.items.now.items)) place ∙ (is ∙ ap (λ n. Some (Wire c.into_wire.result n)) (sym place));
-          })
+          cell = c.into_wire.result;
+          there = ap (λ hs. slice_get hs v) c.put_to.ensures.0 ∙ (ap (λ n. slice_get (slice_set c.unpacking.home.items w (Some c.into_wire.result)) n) (sym same)
+              ∙ set_here c.unpacking.home.items w (Some c.into_wire.result) (omega (arith, inside, same, home_ok, long)));
+          was = ap (slice_get (cells_of c.args.items.now.items)) place ∙ (is ∙ ap (λ n. Some (Wire c.into_wire.result n)) (sym place));
+        })
         | inr apart ↦ (let old = k.back v inside (omega (arith, later, shorter, ok, here, apart)) in record {
-            cell = old.cell;
-            there = ap (λ hs. slice_get hs v) c.put_to.ensures.0 ∙ (set_elsewhere c.unpacking.home.items w v (Some c.into_wire.result) apart ∙ old.there);
-            was = old.was;
-          })
+          cell = old.cell;
+          there = ap (λ hs. slice_get hs v) c.put_to.ensures.0 ∙ (set_elsewhere c.unpacking.home.items w v (Some c.into_wire.result) apart ∙ old.there);
+          was = old.was;
+        })
       ];
       long = c.put_to.ensures.1 ∙ long;
     }

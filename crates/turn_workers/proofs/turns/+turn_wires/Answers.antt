@@ -23,9 +23,9 @@ turn_wires-made-requires-clause-bench g n c = λ κs le.
     let near : vec_len c.args.bench.now < length c.args.side.now = omega (arith, some_left, apart) in
     let some = c.in-Some.ensures.some in let ok = c.args.bench.now.ok.0 in let long = c.push_reserved.ensures.len in
     let number : slice_get c.args.side.now (length c.args.bench.now.items) ≡ Some c.in-Some.cell.number = ap (slice_get c.args.side.now) (sym ok)
-        ∙ (slice_get-get_or c.args.side.now (vec_len c.args.bench.now) 0 near ∙ ap (λ w. Some w) (sym (some.0 ∙ ap (slice_index c.args.side.now) c.len-place.ensures))) in (
+    ∙ (slice_get-get_or c.args.side.now (vec_len c.args.bench.now) 0 near ∙ ap (λ w. Some w) (sym (some.0 ∙ ap (slice_index c.args.side.now) c.len-place.ensures))) in (
       subst (AreHeld g.O.Opens.opened c.args.side.now c.args.node.now.time) (sym c.push_reserved.ensures.items)
-      (held_more g.O.Opens.opened c.args.side.now g.O.Opens.steps c.args.node.now.time c.args.bench.now.items c.in-Some.cell c.requires.bench.0 number (some.1 ∙ c.time.ensures) some.2),
+          (held_more g.O.Opens.opened c.args.side.now g.O.Opens.steps c.args.node.now.time c.args.bench.now.items c.in-Some.cell c.requires.bench.0 number (some.1 ∙ c.time.ensures) some.2),
       omega (arith, long, near),
     )
 
@@ -114,7 +114,7 @@ put_wire_back-requires-clause-may g n c = λ κs le.
     top_put_back _ _ _ _ _ c.requires.shared _ _ _ _ c.requires.side c.requires.node.number (vec_len c.args.bench.now) (vec_len c.push_reserved.new.self) near c.push_reserved.ensures.len (view_of c.turn_wires-made.new.seat) held c.in-Some-pop.cell.number top.number c.if-made.ensures.passed c.in-Some-pop.cell.time still
 
 pub returns-then-made-clause-held : goal.returns-then-made-clause-held
-returns-then-made-clause-held g n c = 
+returns-then-made-clause-held g n c =
     let same = c.turn_wires-made.ensures.bench.1 in let more = c.push_reserved.ensures.len in
     let ok = c.pop.new.self.ok.0 in let shorter = c.in-Some-pop.ensures.len in
     let top = top_of g.O.Opens.opened c.args.side.now g.O.Opens.steps c.turn_wires-made.new.node.time (vec_len c.args.bench.now) _ c.pop.new.self.items c.in-Some-pop.cell
@@ -128,7 +128,7 @@ returns-then-made-clause-held g n c =
     below_passed _ _ _ _ _ c.requires.shared _ _ _ _ c.requires.side c.requires.node.number (vec_len c.args.bench.now) (vec_len c.push_reserved.new.self) near c.push_reserved.ensures.len (view_of c.turn_wires-made.new.seat) held c.in-Some-pop.cell.number top.number c.if-made.ensures.passed c.in-Some-pop.cell.time later (view_of c.pass_wire.new.seat) c.pass_wire.ensures.view ∙ sym c.requires.held
 
 pub returns-then-made-clause-passed : goal.returns-then-made-clause-passed
-returns-then-made-clause-passed g n c = 
+returns-then-made-clause-passed g n c =
     let same = c.turn_wires-made.ensures.bench.1 in let more = c.push_reserved.ensures.len in
     let ok = c.pop.new.self.ok.0 in let shorter = c.in-Some-pop.ensures.len in
     let top = top_of g.O.Opens.opened c.args.side.now g.O.Opens.steps c.turn_wires-made.new.node.time (vec_len c.args.bench.now) _ c.pop.new.self.items c.in-Some-pop.cell
@@ -143,7 +143,7 @@ returns-then-made-clause-passed g n c =
     ∙ sym (λ i. if c.if-made.true i then pairs_of c.args.node.now.number (drop (vec_len c.args.bench.now) c.args.side.now) else [])
 
 pub returns-then-made-clause-bench : goal.returns-then-made-clause-bench
-returns-then-made-clause-bench g n c = 
+returns-then-made-clause-bench g n c =
     let same = c.turn_wires-made.ensures.bench.1 in let more = c.push_reserved.ensures.len in
     let ok = c.pop.new.self.ok.0 in let shorter = c.in-Some-pop.ensures.len in
     let top = top_of g.O.Opens.opened c.args.side.now g.O.Opens.steps c.turn_wires-made.new.node.time (vec_len c.args.bench.now) _ c.pop.new.self.items c.in-Some-pop.cell
@@ -154,7 +154,7 @@ returns-then-made-clause-bench g n c =
     )
 
 pub returns-else-made-clause-held : goal.returns-else-made-clause-held
-returns-else-made-clause-held g n c = 
+returns-else-made-clause-held g n c =
     let same = c.turn_wires-made.ensures.bench.1 in let more = c.push_reserved.ensures.len in
     let ok = c.pop.new.self.ok.0 in let shorter = c.in-Some-pop.ensures.len in
     let top = top_of g.O.Opens.opened c.args.side.now g.O.Opens.steps c.turn_wires-made.new.node.time (vec_len c.args.bench.now) _ c.pop.new.self.items c.in-Some-pop.cell
@@ -167,7 +167,7 @@ returns-else-made-clause-held g n c =
     below_put_back _ _ _ _ _ c.requires.shared _ _ _ _ c.requires.side c.requires.node.number (vec_len c.args.bench.now) (vec_len c.push_reserved.new.self) near c.push_reserved.ensures.len (view_of c.turn_wires-made.new.seat) held c.in-Some-pop.cell.number top.number (view_of c.put_wire_back.new.seat) c.put_wire_back.ensures.view ∙ sym c.requires.held
 
 pub returns-else-made-clause-bench : goal.returns-else-made-clause-bench
-returns-else-made-clause-bench g n c = 
+returns-else-made-clause-bench g n c =
     let same = c.turn_wires-made.ensures.bench.1 in let more = c.push_reserved.ensures.len in
     let ok = c.pop.new.self.ok.0 in let shorter = c.in-Some-pop.ensures.len in
     let top = top_of g.O.Opens.opened c.args.side.now g.O.Opens.steps c.turn_wires-made.new.node.time (vec_len c.args.bench.now) _ c.pop.new.self.items c.in-Some-pop.cell
