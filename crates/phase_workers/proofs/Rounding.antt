@@ -1,22 +1,21 @@
 -- What a round does to an engine.
-use Rattle.std.proofs.Common.{◌≡◌, ◌≤◌, ◌<◌, ◌+◌, ◌*◌, ◌/◌, ◌%◌, ◌^◌, ℕ, max, List, [], ◌∷◌, ◌++◌, map, length, Option, None, Some, slice_get, slice_index_or, refl, ap, sym, ◌∙◌, subst, arith, inl, inr, ◌⊎◌, append_assoc}
+use Rattle.std.proofs.Common.{◌≡◌, ◌≤◌, ◌<◌, ◌+◌, ◌*◌, ◌/◌, ◌%◌, ◌^◌, ℕ, max, List, [], ◌++◌, map, length, Option, None, Some, slice_get, slice_index_or, refl, ap, sym, ◌∙◌, subst, arith, inl, inr, append_assoc}
 use Rattle.std.proofs.lemmas.List.{length-map}
 use Rattle.std.specs.Option.{option_map}
 use Rattle.std.proofs.lemmas.Bool.{cases_lt}
 use Rattle.std.proofs.lemmas.Option.{slice_get_past, slice_get_within, slice_get-map}
 use Rattle.hume_base.specs.declared.limits.TheConstants.{MAX_NODES, MAX_WIRES}
-use Rattle.hume_base.specs.declared.types.Value.{Value}
 use Rattle.hume_model.specs.declared.core_tree.StreamC.{StreamC}
 use Rattle.hume_model.specs.declared.core_tree.NodeC.{NodeC}
 use Rattle.hume_model.specs.declared.core_tree.NodeC.TheVariants.{Rules, From, To}
 use Rattle.hume_model.specs.declared.core_tree.Core.{Core}
 use Rattle.hume_net.specs.declared.state.State.{State}
-use Rattle.hume_net.specs.Lockstep.{lockstep, at_time, wire_at, supers, executes}
+use Rattle.hume_net.specs.Lockstep.{lockstep, at_time}
 use Rattle.hume_net.specs.Nodes.{IsInput, IsInputStream, IsOutput, IsOutputStream}
 use Rattle.hume_net.specs.Plan.{IsPlan, plan_of, wires_of, producer_of, consumer_of}
 use Rattle.hume_net.specs.Sides.{on_wire, part_of}
 use Rattle.hume_net.specs.StreamSteps.{HasShrunk}
-use Rattle.hume_net.specs.Times.{AreBalanced, wire_time}
+use Rattle.hume_net.specs.Times.{wire_time}
 use Rattle.hume_net.proofs.AtTimes.{types_after}
 use Rattle.hume_net.proofs.Plans.{plan_joins, wires_counted}
 use Rattle.hume_net.proofs.StatePlaces.{lockstep_state}
@@ -28,13 +27,12 @@ use Rattle.model_bare.proofs.SameCores.{same_count}
 use Rattle.model_bare.specs.Bare.{bare_of}
 use Rattle.net_costs.specs.Steps.{peaks}
 use Rattle.box_costs.specs.declared.cost.Cost.{Cost}
-use Rattle.hume_streams.specs.Queues.{QueueView, first_view}
+use Rattle.hume_streams.specs.Queues.{first_view}
 use Rattle.hume_streams.specs.Logs.{LogView}
 use Rattle.wire_cells.specs.Cells.{CellView, Holds}
-use Rattle.box_step.specs.declared.nodes.cell.Kind.{Kind}
 use Rattle.box_step.specs.declared.nodes.cell.BoxCell.{BoxCell}
-use Rattle.box_step.specs.nodes.Lends.{queue_in, log_in}
-use Rattle.box_step.specs.nodes.Openings.{Opening, IsOpeningOf, opening_after}
+use Rattle.box_step.specs.nodes.Lends.{queue_in}
+use Rattle.box_step.specs.nodes.Openings.{Opening, opening_after}
 use Rattle.box_step.specs.nodes.Right.{IsRightNode, IsRightWire, heap_peak_of, stack_peak_of}
 use Rattle.box_step.proofs.nodes_lemmas.Begun.{begun_node, first_state}
 use Rattle.step_turns.specs.declared.sides.Sides.{Sides}
@@ -45,8 +43,8 @@ use Rattle.phase_workers.specs.StreamTypes.{type_at}
 use Rattle.phase_workers.specs.RightQueues.{IsRightBehind}
 use Rattle.phase_workers.specs.inner.Begun.{begun_cell, begun_wire}
 use Rattle.phase_workers.specs.inner.Whole.{IsWhole, IsQueueFor, queue_without, log_without, queues_of, logs_of, heaps_of, stacks_of, opening_at}
-use Rattle.phase_workers.proofs.Indexes.{index_mapped, index_past, some_at}
-use Rattle.phase_workers.proofs.CellsSeen.{IsSeenAt, IsNoBox, seen_at, right_as_seen, same_queue, same_log, logged, heap_after, stack_after, no_heap, no_peaks}
+use Rattle.phase_workers.proofs.Indexes.{index_past, some_at}
+use Rattle.phase_workers.proofs.CellsSeen.{IsNoBox, seen_at, right_as_seen, same_queue, same_log, heap_after, stack_after, no_heap, no_peaks}
 
 -- a node that is no node has no box
 past_no_box : (core : Core) (n : ℕ) → length core.nodes ≤ n → IsNoBox (slice_get core.nodes n)

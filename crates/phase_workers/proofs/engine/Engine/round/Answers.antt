@@ -1,4 +1,4 @@
-use Rattle.std.proofs.Common.{◌≡◌, slice_get, slice_index_or, length, map, max, sym, ap, ◌∙◌, vec_len, vec_capacity}
+use Rattle.std.proofs.Common.{slice_get, slice_index_or, length, map, max, sym, ap, ◌∙◌, vec_len, vec_capacity}
 use Rattle.hume_streams.specs.Queues.{first_view}
 use Rattle.net_costs.specs.Steps.{peaks}
 use Rattle.phase_workers.specs.Engines.{EngineView, core_of, heap_peak_at, queue_at, stack_peak_at, state_of}
