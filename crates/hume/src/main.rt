@@ -1,5 +1,5 @@
 //! The program: `hume check SOURCE`, `hume run STEPS WORKERS SOURCE PORT..`, or `hume trace` with the words of a run, where the
-//! words from SOURCE on name the files that are ports.
+//! words from SOURCE on name the files that are ports; or `hume demo NUMBER STEPS WORKERS`.
 //!
 //! The ports `std_in` and `std_out` are always there.
 //!
@@ -28,8 +28,8 @@ fn run(rt: &HostRuntime) -> Result<Status, AllocError> {
     let alloc = rt.alloc();
     let words = words_of_command(rt, alloc)?;
     let mut ports: Vec<Box<dyn Port>> = Vec::new(alloc);
-    if let Some(order) = read_words(&words) {
-        for word in words.iter().skip(order.source() as usize) {
+    if let Some(place) = read_words(&words).and_then(|order| order.source()) {
+        for word in words.iter().skip(place as usize) {
             if !is_standard(word) && find(&ports, word).is_none() {
                 ports.push(Box::new(alloc, FilePort::make(rt, alloc, word)?)?)?;
             }

@@ -25,7 +25,7 @@ ghost use Rattle.hume_run.specs.declared.order.Order.{Order};
 ghost use Rattle.hume_run.specs.declared.status.Status.{Status};
 ghost use Rattle.hume_run.specs.declared.status.Status.TheVariants.{Usage, NoMemory};
 ghost use Rattle.hume_run.specs.Streams.{unfit_line};
-ghost use Rattle.hume_run.specs.Owed.{IsOwed, owed_refused, owed_check, owed_run, refused_line, run_finishes, table_writes};
+ghost use Rattle.hume_run.specs.Owed.{IsOwed, owed_refused, owed_check, owed_demo, owed_run, demo_writes, refused_line, run_finishes, table_writes};
 ghost use Rattle.hume_run.specs.Few.{call_few};
 ghost use Rattle.hume_run.specs.Headline.{source_reads, Headline};
 ghost use Rattle.hume_run.specs.Words.{order_of, source_of};
@@ -79,10 +79,12 @@ pub fn equal_calls_end_alike()
     inputs_are_unique();
 }
 
-/// A refused call writes its one line, a check the table, and a run the table and then what its inputs give.
+/// A refused call writes its one line, a check the table, a run the table and then what its inputs give, and a demo the bounds of all
+/// boxes together and its chains.
 pub fn calls_write_their_lines()
     ensures refused { (refusal : Refusal) → written (owed_refused refusal).acts ≡ (std_out, refused_line refusal) ∷ [] }
     ensures check { (core : Core) → written (owed_check core).acts ≡ table_writes core }
+    ensures demo { (core : Core) (steps : ℕ) → written (owed_demo steps core).acts ≡ demo_writes steps core }
     ensures run { (core : Core) (coming : Inputs) (traced : Bool) (steps : ℕ)
         → written (owed_run traced steps core coming).acts ≡ table_writes core ++ writes core coming traced steps }
 {

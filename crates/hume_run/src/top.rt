@@ -1,4 +1,4 @@
-ghost use Rattle.std.specs.Prelude.{◌≡◌, ◌↔◌, ◌⊎◌, map, string_bytes};
+ghost use Rattle.std.specs.Prelude.{◌≡◌, ◌↔◌, ◌⊎◌, map, string_bytes, IsSome};
 ghost use Rattle.hume_ports.specs.Ports.{names};
 ghost use Rattle.port_acts.specs.Early.{EndsEarly};
 ghost use Rattle.port_acts.specs.Places.{IsPlaceOf};
@@ -6,9 +6,11 @@ ghost use Rattle.hume_run.specs.declared.status.Status.TheVariants.{Fault, NoMem
 ghost use Rattle.hume_run.specs.Few.{source_few};
 ghost use Rattle.hume_run.specs.Headline.{Headline, IsUsage, AnswersFrom, source_reads};
 ghost use Rattle.hume_run.specs.inner.Ended.{EndsText};
+ghost use Rattle.hume_run.specs.inner.Places.{source_place};
 ghost use Rattle.run_rounds.specs.Streams.{std_out};
 
 use crate::check::check_text;
+use crate::demo::show_demo;
 use crate::order::Order;
 use crate::run::run_text;
 use crate::source::{SourceError, read_source};
@@ -29,14 +31,19 @@ pub fn hume(alloc: Global, words: &[String], ports: &mut [Box<dyn Port>]) -> Sta
     let Some(out) = find(ports, "std_out") else {
         return Status::Usage;
     };
-    let name = words[order.source() as usize].as_str();
-    let Some(at) = find(ports, name) else {
-        return Status::Usage;
-    };
-    answer(alloc, ports, order, name, at, out)
+    match order {
+        Order::Demo { number, steps, .. } => show_demo(alloc, ports, number, steps, out),
+        Order::Run { source, .. } | Order::Check { source } => {
+            let name = words[source as usize].as_str();
+            let Some(at) = find(ports, name) else {
+                return Status::Usage;
+            };
+            answer(alloc, ports, order, name, at, out)
+        }
+    }
 }
 
-// Reads the source from the port at the place `at`, and goes on by the words.
+// Reads the source from the port at the place `at`, and goes on by the words, which name a source.
 fn answer(
     alloc: Global,
     ports: &mut [Box<dyn Port>],
@@ -45,6 +52,7 @@ fn answer(
     at: usize,
     out: usize,
 ) -> Status
+    requires sourced { IsSome (source_place order) }
     requires source { IsPlaceOf name.now (names (map view ports.old)) at }
     requires out { IsPlaceOf std_out (names (map view ports.old)) out }
     ensures { EndsEarly (source_few name.now) (source_reads name.now) NoMemory Fault (map view ports.old) (map view ports.new) result
@@ -65,7 +73,8 @@ fn answer_text(
     text: &[u8],
     out: usize,
 ) -> Status
-    requires { IsPlaceOf std_out (names (map view ports.old)) out }
+    requires sourced { IsSome (source_place order) }
+    requires out { IsPlaceOf std_out (names (map view ports.old)) out }
     ensures { EndsText order source.now text.now (map view ports.old) (map view ports.new) result }
 {
     match order {
@@ -73,5 +82,6 @@ fn answer_text(
             run_text(alloc, ports, steps, traced, source, text, out)
         }
         Order::Check { .. } => check_text(alloc, ports, text, out),
+        Order::Demo { .. } => unreachable!(),
     }
 }

@@ -1,13 +1,12 @@
 use Rattle.std.proofs.Common.{◌∙◌, ap, inl, inr, refl, Err}
-use Rattle.hume_run.specs.declared.order.Order.TheVariants.{Run}
-use Rattle.hume_run.proofs.Answering.{run_text, unfit_text}
+use Rattle.hume_run.proofs.Answering.{refused_run, run_text, unfit_text}
 use Rattle.hume_run.proofs.run.run_text.Goals as goal
 
 pub run_accepted-requires-clause-accepted : goal.run_accepted-requires-clause-accepted
 run_accepted-requires-clause-accepted g c = (_, c.in-Ok.ensures.accepted)
 
 pub returns-in-Err : goal.returns-in-Err
-returns-in-Err g c workers place = c.end_unaccepted.ensures (Run c.args.steps workers place c.args.traced) _ _ c.in-Err.ensures.error
+returns-in-Err g c workers place = refused_run c.args.steps workers place c.args.traced _ _ _ _ _ (c.end_unaccepted.ensures _ c.in-Err.ensures.error)
 
 pub returns-in-Ok-find_places : goal.returns-in-Ok-find_places
 returns-in-Ok-find_places g c workers place = run_text _ _ c.in-Ok.accepted c.in-Ok.ensures.accepted c.args.steps workers place c.args.traced _ _ _
