@@ -44,10 +44,14 @@ pub record AnswersFrom (order : Order) (source : List ℕ) (old new : List PortV
   pub owes : IsOwed order source text (names old) texts owed
   pub ends : EndsAs (call_few source text) (after_reads (source_reads source) owed) Fault old new status
 
+-- what a call without a source owes: no text is spoken of
+abbrev pub OwesAlone : Order → List PortView → Owed Status → Type 0
+OwesAlone order ports owed = IsOwed order [] [] (names ports) (λ name. []) owed
+
 -- The call reads nothing, and ends as one that owes what the words ask for, or memory ran out and no port was touched.
 abbrev pub AnswersAlone : Order → List PortView → List PortView → Status → Type 0
 AnswersAlone order old new status =
-    ((status ≡ NoMemory) × (new ≡ old)) ⊎ ((owed : Owed Status) × IsOwed order [] [] (names old) (λ name. []) owed × EndsAs never owed Fault old new status)
+    ((status ≡ NoMemory) × (new ≡ old)) ⊎ ((owed : Owed Status) × OwesAlone order old owed × EndsAs never owed Fault old new status)
 
 -- A call with a source is answered as the source says. Or it ends early, when it has read nothing but its source: a read failed, or
 -- memory ran out. A demo has no source.

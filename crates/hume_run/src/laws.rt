@@ -1,5 +1,5 @@
 //! Laws of the definitions, as contracts of functions that do nothing.
-ghost use Rattle.std.specs.Prelude.{◌≡◌, ◌⊎◌, ◌++◌, ◌∷◌, [], ℕ, Bool, List, None, Some, false, true, slice_get};
+ghost use Rattle.std.specs.Prelude.{◌≡◌, ◌⊎◌, ◌++◌, ◌∷◌, [], ℕ, Bool, List, None, Some, IsSomeAnd, false, true, slice_get};
 ghost use Rattle.std.specs.Str.{bytes_eq};
 ghost use Rattle.hume_base.specs.declared.rule.Refusal.{Refusal};
 ghost use Rattle.hume_model.specs.declared.core_tree.BoxC.{BoxC};
@@ -72,7 +72,7 @@ pub fn calls_with_room_are_answered()
 /// and the same bytes to each port that had told the same: however their reads cut the texts.
 pub fn equal_calls_end_alike()
     ensures { (words : List (List ℕ)) (order : Order) (old new others later : List PortView) (status other : Status) → order_of words ≡ Some order
-        → (place_of (source_of words order) (names old) ≡ None → ⊥) → HaveSameTexts old others → Headline words old new status → Headline words others later other
+        → (IsSomeAnd (source_of words order) (λ source. place_of source (names old) ≡ None) → ⊥) → HaveSameTexts old others → Headline words old new status → Headline words others later other
         → IsThrough status → IsThrough other
         → (status ≡ other) × ((name had : List ℕ) → bytes_of name old ≡ Some had → bytes_of name others ≡ Some had → bytes_of name new ≡ bytes_of name later) }
 {
