@@ -12,6 +12,7 @@ use std::alloc::{AllocError, Global};
 use std::env;
 use std::io::ErrorKind;
 use std::process::ExitCode;
+use turn_workers::OpenGate;
 
 const STD_IN: &str = "std_in";
 
@@ -37,7 +38,7 @@ fn run(rt: &HostRuntime) -> Result<Status, AllocError> {
     }
     ports.push(Box::new(alloc, StdIn::make(rt, alloc, STD_IN)?)?)?;
     ports.push(Box::new(alloc, StdOut::make(rt, alloc, STD_OUT)?)?)?;
-    Ok(hume(alloc, &words, &mut ports))
+    Ok(hume(rt, alloc, &words, &mut ports, &OpenGate))
 }
 
 // Whether the port of that name is no file.

@@ -4,8 +4,9 @@ use Rattle.std.specs.Prelude.{ℕ, Bool, true, false, ◌&&◌, List, [], ◌∷
 use Rattle.std.specs.List.{slice_index_or}
 use Rattle.std.specs.Str.{bytes_eq, all_ascii_digits}
 use Rattle.std.specs.Str.Parse.{digits_value}
-use Rattle.hume_base.specs.declared.limits.TheConstants.{MAX_SUPERSTEPS, MAX_WORKERS}
+use Rattle.hume_base.specs.declared.limits.TheConstants.{MAX_SUPERSTEPS}
 use Rattle.demo_net.specs.declared.source.TheConstants.{MAX_NUMBER}
+use Rattle.hume_run.specs.declared.words.reading.TheConstants.{MAX_WORKERS}
 use Rattle.hume_run.specs.declared.order.Order.{Order}
 use Rattle.hume_run.specs.declared.order.Order.TheVariants.{Run, Check, Demo}
 
@@ -49,6 +50,12 @@ abbrev pub steps_of : Order → ℕ
 steps_of (Run steps workers source traced) = steps
 steps_of (Check source) = 0
 steps_of (Demo number steps workers) = steps
+
+-- workers; none of a check
+abbrev pub workers_of : Order → ℕ
+workers_of (Run steps workers source traced) = workers
+workers_of (Check source) = 0
+workers_of (Demo number steps workers) = workers
 
 -- the number of the net of a demo; 0 of a source
 abbrev pub net_of : Order → ℕ

@@ -1,4 +1,4 @@
-ghost use Rattle.std.specs.Prelude.{◌≡◌, ℕ, List, [], map, IfOk};
+ghost use Rattle.std.specs.Prelude.{◌≡◌, ◌≤◌, ℕ, List, [], map, IfOk};
 ghost use Rattle.hume_front.specs.Accepted.{IsAccepted};
 ghost use Rattle.hume_ports.specs.Ports.{names};
 ghost use Rattle.port_acts.specs.Ends.{Ends, never};
@@ -6,6 +6,7 @@ ghost use Rattle.port_acts.specs.Places.{IsPlaceOf};
 ghost use Rattle.run_rounds.specs.Streams.{std_out};
 ghost use Rattle.demo_rounds.specs.Opened.{core_in};
 ghost use Rattle.hume_run.specs.Owed.{owed_demo};
+ghost use Rattle.hume_run.specs.declared.words.reading.TheConstants.{MAX_WORKERS};
 ghost use Rattle.hume_run.specs.inner.Ended.{EndsOwed};
 ghost use Rattle.hume_run.specs.inner.Opening.{IsOpenDemo};
 
@@ -18,8 +19,10 @@ use hume_text::Chunk;
 use port_acts::finish_act;
 use space_costs::Costs;
 use std::alloc::{AllocError, Global};
+use std::thread::Threads;
 use trace_print::LINE_BYTES;
 use trace_print::table::write_total;
+use turn_workers::Gate;
 
 /// A demo with all its memory.
 #[derive(Drop)]
@@ -31,13 +34,17 @@ pub struct OpenedDemo {
 }
 
 /// Shows an accepted source.
-pub fn show_accepted(
+pub fn show_accepted<R: Threads + Sync, G: Gate>(
+    rt: &R,
     alloc: Global,
     ports: &mut [Box<dyn Port>],
     accepted: Accepted,
     steps: u32,
+    workers: u32,
     out: usize,
+    gate: &G,
 ) -> Status
+    requires workers { workers ≤ MAX_WORKERS }
     requires accepted { (text : List ℕ) × IsAccepted text accepted }
     requires out { IsPlaceOf std_out (names (map view ports.old)) out }
     ensures { EndsOwed (owed_demo steps accepted.core) (map view ports.old) (map view ports.new) result }
@@ -45,7 +52,7 @@ pub fn show_accepted(
     let Ok(mut opened) = open(alloc, accepted) else {
         return Status::NoMemory;
     };
-    match tell(&mut opened, ports, steps, out) {
+    match tell(rt, &mut opened, ports, steps, workers, out, gate) {
         Ok(()) => Status::Done,
         Err(Failed) => Status::Fault,
     }
@@ -70,12 +77,16 @@ fn open(alloc: Global, accepted: Accepted) -> Result<OpenedDemo, AllocError>
 }
 
 // Tells the bounds of all boxes together, makes the supersteps, tells the chains, and finishes.
-fn tell(
+fn tell<R: Threads + Sync, G: Gate>(
+    rt: &R,
     opened: &mut OpenedDemo,
     ports: &mut [Box<dyn Port>],
     steps: u32,
+    workers: u32,
     out: usize,
+    gate: &G,
 ) -> Result<(), Failed>
+    requires workers { workers ≤ MAX_WORKERS }
     requires open { IsOpenDemo opened.old }
     requires out { IsPlaceOf std_out (names (map view ports.old)) out }
     ensures { Ends never [] (owed_demo steps (core_in opened.old.demo)).acts [] (map view ports.old) (map view ports.new) result }
@@ -85,7 +96,7 @@ fn tell(
         Ok(()) => {}
         Err(failed) => return Err(failed),
     }
-    match opened.demo.run(steps, ports, out) {
+    match opened.demo.run(rt, steps, workers, gate, ports, out) {
         Ok(()) => {}
         Err(failed) => return Err(failed),
     }

@@ -1,12 +1,15 @@
 ghost use Rattle.std.specs.Prelude.{◌≡◌, ◌<◌, ◌≤◌, length, map, IfSome, Some, string_bytes};
 ghost use Rattle.demo_net.specs.declared.source.TheConstants.{MAX_NUMBER};
-ghost use Rattle.hume_run.specs.Words.{order_of, number_of, traced_of as trace_asked, run_of as asked_run, demo_of as asked_demo, is_run as run_asked, steps_of, net_of};
+ghost use Rattle.hume_run.specs.Words.{order_of, number_of, traced_of as trace_asked, run_of as asked_run, demo_of as asked_demo, is_run as run_asked, steps_of, net_of, workers_of};
 ghost use Rattle.hume_run.specs.inner.Places.{source_place};
 
 use crate::order::Order;
 use crate::words::numbers::{is_number, value};
 use demo_net::MAX_NUMBER;
-use hume_base::limits::{MAX_SUPERSTEPS, MAX_WORKERS};
+use hume_base::limits::MAX_SUPERSTEPS;
+
+/// Workers of a run or of a demo.
+pub const MAX_WORKERS: u32 = 16;
 
 /// The place of the source's name among the words of a run.
 const RUN_SOURCE: u32 = 3;
@@ -19,6 +22,7 @@ pub fn read_words(words: &[String]) -> Option<Order>
     ensures order { result ≡ order_of (map string_bytes words.now) }
     ensures steps { IfSome result (λ order. steps_of order ≤ MAX_SUPERSTEPS) }
     ensures number { IfSome result (λ order. net_of order ≤ MAX_NUMBER) }
+    ensures workers { IfSome result (λ order. workers_of order ≤ MAX_WORKERS) }
     ensures source { IfSome result (λ order. IfSome (source_place order) (λ place. place < length words.now)) }
 {
     match words {
