@@ -19,14 +19,19 @@ const STD_IN: &str = "std_in";
 const STD_OUT: &str = "std_out";
 
 fn main(rt: HostRuntime) -> ExitCode {
-    match run(&rt) {
-        Ok(status) => ExitCode::from(status.number()),
-        Err(AllocError) => ExitCode::from(Status::NoMemory.number()),
-    }
+    let alloc = rt.alloc();
+    let status = match words_and_ports(&rt, alloc) {
+        Ok((words, mut ports)) => hume(&rt, alloc, &words, &mut ports, &OpenGate),
+        Err(AllocError) => Status::NoMemory,
+    };
+    ExitCode::from(status.number())
 }
 
-fn run(rt: &HostRuntime) -> Result<Status, AllocError> {
-    let alloc = rt.alloc();
+// The words of the command, and the ports that they name.
+fn words_and_ports(
+    rt: &HostRuntime,
+    alloc: Global,
+) -> Result<(Vec<String>, Vec<Box<dyn Port>>), AllocError> {
     let words = words_of_command(rt, alloc)?;
     let mut ports: Vec<Box<dyn Port>> = Vec::new(alloc);
     if let Some(place) = read_words(&words).and_then(|order| order.source()) {
@@ -38,7 +43,7 @@ fn run(rt: &HostRuntime) -> Result<Status, AllocError> {
     }
     ports.push(Box::new(alloc, StdIn::make(rt, alloc, STD_IN)?)?)?;
     ports.push(Box::new(alloc, StdOut::make(rt, alloc, STD_OUT)?)?)?;
-    Ok(hume(rt, alloc, &words, &mut ports, &OpenGate))
+    Ok((words, ports))
 }
 
 // Whether the port of that name is no file.

@@ -1,7 +1,10 @@
 //! Which calls are made of which ports, in which order, and that none is made after one that fails.
 use crate::noting_port::{Call, noted};
 use hume_run::Status;
+use std::alloc::Global;
+use std::process::Abort;
 use std::test::Fail as Stop;
+use std::thread::Threads;
 
 const ADD_ONE: &[u8] = b"box b in (x :: int 32) out (y :: int 32)
 match (x) -> (x + 1) ;
@@ -77,9 +80,9 @@ fn is_all_of(text: &str, parts: &[&str]) -> bool {
     rest.is_empty()
 }
 
-fn all_are_noted(rt: &HostRuntime, rows: &[Row]) -> Result<(), Stop> {
+fn all_are_noted(rt: &(impl Abort + Threads + Sync), alloc: Global, rows: &[Row]) -> Result<(), Stop> {
     for row in rows {
-        let (status, notes) = noted(rt, row.0)?;
+        let (status, notes) = noted(rt, alloc, row.0)?;
         assert!(rt; status == row.1 && is_all_of(&notes, &row.2));
     }
     Ok(())
@@ -135,7 +138,7 @@ fn a_call_reads_then_writes_line_by_line_then_finishes_each_port_once(
             [SOURCE, report, "", ""],
         ),
     ];
-    all_are_noted(&rt, &rows)
+    all_are_noted(&rt, rt.alloc(), &rows)
 }
 
 #[test]
@@ -151,7 +154,7 @@ fn no_call_is_made_after_a_failing_read(rt: HostRuntime) -> Result<(), Stop> {
             [SOURCE, TABLE, "i read\ni read fails\n", ""],
         ),
     ];
-    all_are_noted(&rt, &rows)
+    all_are_noted(&rt, rt.alloc(), &rows)
 }
 
 #[test]
@@ -215,5 +218,5 @@ fn no_call_is_made_after_a_failing_write_or_finish(rt: HostRuntime) -> Result<()
             [SOURCE, TABLE, "std_out finish fails\n", ""],
         ),
     ];
-    all_are_noted(&rt, &rows)
+    all_are_noted(&rt, rt.alloc(), &rows)
 }
