@@ -13,13 +13,23 @@ ghost use Rattle.demo_rounds.specs.inner.Counted.{AreTotals, Clears, ClearsNode,
 
 use hume_model::{Core, NodeC};
 use phase_workers::Engine;
+use std::thread::Threads;
 use stream_totals::Total;
+use turn_workers::Gate;
 
 /// How many supersteps a round has, but for the last.
 pub(crate) const SPAN: u32 = 64;
 
-/// Makes `steps` supersteps by rounds. Each total gets the values that its output stream takes.
-pub(crate) fn count_rounds(engine: &mut Engine, totals: &mut [Total], steps: u32)
+/// Makes `steps` supersteps by rounds, each by so many workers at most. Each total gets the values that its output stream takes.
+pub(crate) fn count_rounds<R: Threads + Sync, G: Gate>(
+    rt: &R,
+    engine: &mut Engine,
+    totals: &mut [Total],
+    steps: u32,
+    workers: u32,
+    gate: &G,
+)
+    requires workers { workers ≤ 2 ^ 16 }
     requires runnable { IsRunnable (core_of engine.old) }
     requires counted { Counted (core_of engine.old) steps 0 totals.old engine.old }
     ensures core { core_of engine.new ≡ core_of engine.old }
@@ -27,7 +37,7 @@ pub(crate) fn count_rounds(engine: &mut Engine, totals: &mut [Total], steps: u32
 {
     for done in 0..steps.div_ceil(SPAN) {
         let supersteps = (steps - done * SPAN).min(SPAN);
-        engine.round(supersteps);
+        engine.round(rt, supersteps, workers, gate);
         count_outputs(engine, totals);
     }
 }

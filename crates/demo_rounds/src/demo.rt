@@ -1,5 +1,5 @@
 //! A demo that is open.
-ghost use Rattle.std.specs.Prelude.{◌≡◌, ◌≤◌, ◌<◌, length, map, IfOk, None};
+ghost use Rattle.std.specs.Prelude.{◌≡◌, ◌≤◌, ◌<◌, ◌^◌, length, map, IfOk, None};
 ghost use Rattle.hume_base.specs.Least.{IsLeast};
 ghost use Rattle.hume_net.specs.StatePlaces.{BoxesHandleAll};
 ghost use Rattle.hume_ports.specs.Ports.{names};
@@ -21,7 +21,9 @@ use hume_ports::{Failed, Port};
 use hume_text::Chunk;
 use phase_workers::Engine;
 use std::alloc::{AllocError, Global};
+use std::thread::Threads;
 use stream_totals::{CHAIN_LINE_BYTES, Total};
+use turn_workers::Gate;
 use wiring_check::Wiring;
 
 /// A demo that is open: a net, a total for each node, and room for a line. No later call takes memory.
@@ -66,15 +68,25 @@ impl Demo {
         self.engine.core()
     }
 
-    /// Makes `steps` supersteps, and then writes the line of each output stream to the port at the place `out`.
-    pub fn run(&mut self, steps: u32, ports: &mut [Box<dyn Port>], out: usize) -> Result<(), Failed>
+    /// Makes `steps` supersteps by so many workers at most, and then writes the line of each output stream to the port at the place
+    /// `out`.
+    pub fn run<R: Threads + Sync, G: Gate>(
+        &mut self,
+        rt: &R,
+        steps: u32,
+        workers: u32,
+        gate: &G,
+        ports: &mut [Box<dyn Port>],
+        out: usize,
+    ) -> Result<(), Failed>
+        requires workers { workers ≤ 2 ^ 16 }
         requires runnable { IsRunnable (core_in self.old) }
         requires place { out < length ports.old }
         requires opened { IsOpened (core_in self.old) self.old }
         ensures ends { EndsLines out (demo_lines (core_in self.old) steps) (map view ports.old) (map view ports.new) result }
         ensures same_names { names (map view ports.new) ≡ names (map view ports.old) }
     {
-        count_rounds(&mut self.engine, &mut self.totals, steps);
+        count_rounds(rt, &mut self.engine, &mut self.totals, steps, workers, gate);
         tell_chains(
             self.engine.core(),
             &self.totals,

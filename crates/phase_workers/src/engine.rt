@@ -1,5 +1,5 @@
 //! An engine: the cells of a core's net, which makes supersteps by rounds.
-ghost use Rattle.std.specs.Prelude.{◌≡◌, ◌≤◌, ◌<◌, ◌*◌, max, ℕ, List, [], ◌∷◌, length, map, slice_get, slice_set, Some, None, IfOk, OnOk, OnErr, IsErrOf};
+ghost use Rattle.std.specs.Prelude.{◌≡◌, ◌≤◌, ◌<◌, ◌*◌, ◌^◌, max, ℕ, List, [], ◌∷◌, length, map, slice_get, slice_set, Some, None, IfOk, OnOk, OnErr, IsErrOf};
 ghost use Rattle.hume_base.specs.Flat.{flat};
 ghost use Rattle.hume_base.specs.Least.{IsLeast};
 ghost use Rattle.hume_base.specs.Sizes.{size_of};
@@ -28,6 +28,7 @@ ghost use Rattle.phase_workers.specs.StreamTypes.{type_at};
 use crate::begin::{begin_nodes, begin_wires};
 use crate::making::{make_home, make_nodes};
 use crate::seen::{Deed, Seen};
+use crate::stepping::step_all;
 use crate::streams::{clear_cell, drain_cell, fill_cell};
 use box_code::BoxProgram;
 use box_step::nodes::BoxCell;
@@ -40,7 +41,9 @@ use hume_text::Chunk;
 use model_bare::bare;
 use std::alloc::{AllocError, Global};
 use std::marker::Model;
+use std::thread::Threads;
 use step_turns::Sides;
+use turn_workers::Gate;
 use wire_cells::WireCell;
 use wiring_check::Wiring;
 
@@ -155,8 +158,10 @@ impl Engine {
         fill_cell(cell, &mut self.seen, &self.core, node, ports, at, want)
     }
 
-    /// Makes `steps` supersteps. It takes no memory.
-    pub fn round(&mut self, steps: u32)
+    /// Makes `steps` supersteps, by so many workers at most. Several workers share a table, for which it takes memory; where there is
+    /// none, or a worker leaves early, this thread makes the half steps that are left.
+    pub fn round<R: Threads + Sync, G: Gate>(&mut self, rt: &R, steps: u32, workers: u32, gate: &G)
+        requires workers { workers ≤ 2 ^ 16 }
         requires span { steps ≤ span_of self.old }
         requires clear { (n : ℕ) → IsOutputStream (core_of self.old) n → (part_of (state_of self.old) n).taken ≡ [] }
         ensures core { core_of self.new ≡ core_of self.old }
@@ -166,10 +171,13 @@ impl Engine {
         ensures heap { (n : ℕ) → heap_peak_at self.new n ≡ max (heap_peak_at self.old n) (peaks (core_of self.old) (state_of self.old) steps n).heap }
         ensures stack { (n : ℕ) → stack_peak_at self.new n ≡ max (stack_peak_at self.old n) (peaks (core_of self.old) (state_of self.old) steps n).stack }
     {
-        step_turns::round(
+        step_all(
+            rt,
             &self.bare,
             &self.sides,
             steps,
+            workers,
+            gate,
             &mut self.nodes,
             &mut self.home,
             &mut self.bench,

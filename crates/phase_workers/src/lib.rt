@@ -22,6 +22,7 @@ mod engine;
 mod laws;
 mod making;
 mod seen;
+mod stepping;
 mod stream_types;
 mod streams;
 

@@ -1,5 +1,5 @@
 //! The rounds of a run.
-ghost use Rattle.std.specs.Prelude.{◌≡◌, ◌+◌, ◌*◌, ◌≤◌, ◌<◌, ◌++◌, [], ℕ, suc, List, length, map, OnOk};
+ghost use Rattle.std.specs.Prelude.{◌≡◌, ◌+◌, ◌*◌, ◌≤◌, ◌<◌, ◌^◌, ◌++◌, [], ℕ, suc, List, length, map, OnOk};
 ghost use Rattle.hume_net.specs.Lockstep.{lockstep};
 ghost use Rattle.hume_net.specs.Nodes.{IsOutputStream};
 ghost use Rattle.hume_net.specs.Parts.{IsStateOf};
@@ -27,6 +27,8 @@ use crate::telling::tell_superstep;
 use hume_ports::{Failed, Port};
 use hume_text::Chunk;
 use phase_workers::Engine;
+use std::thread::Threads;
+use turn_workers::Gate;
 
 /// How many supersteps a round has, but for the last, where not all wires are told after each superstep.
 pub const SPAN: u32 = 64;
@@ -38,17 +40,21 @@ pub fn span(traced: bool) -> u32
     if traced { 1 } else { SPAN }
 }
 
-/// Makes rounds until so many supersteps are made, or a stream blocks one by a bad line. The ports of the streams are given by their
-/// places, one for each node, and so is the port for all that is told besides.
-pub fn make_rounds(
+/// Makes rounds by so many workers at most until so many supersteps are made, or a stream blocks one by a bad line. The ports of the
+/// streams are given by their places, one for each node, and so is the port for all that is told besides.
+pub fn make_rounds<R: Threads + Sync, G: Gate>(
+    rt: &R,
     engine: &mut Engine,
     traced: bool,
     steps: u32,
+    workers: u32,
+    gate: &G,
     ports: &mut [Box<dyn Port>],
     places: &[usize],
     out: usize,
     chunk: &mut Chunk,
 ) -> Result<Option<BadLine>, Failed>
+    requires workers { workers ≤ 2 ^ 16 }
     requires runnable { IsRunnable (core_of engine.old) }
     requires places { ArePlacesOf (core_of engine.old) (names (map view ports.old)) places.now }
     requires apart { ArePortsApart (core_of engine.old) }
@@ -62,7 +68,9 @@ pub fn make_rounds(
     ensures room { room_of chunk.new ≡ room_of chunk.old }
 {
     for done in 0..steps.div_ceil(span(traced)) {
-        match make_round(engine, traced, steps, done, ports, places, out, chunk) {
+        match make_round(
+            rt, engine, traced, steps, done, workers, gate, ports, places, out, chunk,
+        ) {
             Ok(None) => {}
             Ok(Some(bad)) => return Ok(Some(bad)),
             Err(failed) => return Err(failed),
@@ -72,16 +80,20 @@ pub fn make_rounds(
 }
 
 // Makes the round after those that are done.
-fn make_round(
+fn make_round<R: Threads + Sync, G: Gate>(
+    rt: &R,
     engine: &mut Engine,
     traced: bool,
     steps: u32,
     done: u32,
+    workers: u32,
+    gate: &G,
     ports: &mut [Box<dyn Port>],
     places: &[usize],
     out: usize,
     chunk: &mut Chunk,
 ) -> Result<Option<BadLine>, Failed>
+    requires workers { workers ≤ 2 ^ 16 }
     requires runnable { IsRunnable (core_of engine.old) }
     requires places { ArePlacesOf (core_of engine.old) (names (map view ports.old)) places.now }
     requires apart { ArePortsApart (core_of engine.old) }
@@ -103,10 +115,13 @@ fn make_round(
         Err(failed) => return Err(failed),
     }
     match run_round(
+        rt,
         engine,
         traced,
         done + 1,
         supersteps,
+        workers,
+        gate,
         ports,
         places,
         out,
@@ -118,16 +133,20 @@ fn make_round(
 }
 
 // The supersteps of a round of that number for which all streams are filled, and the lines that come of it.
-fn run_round(
+fn run_round<R: Threads + Sync, G: Gate>(
+    rt: &R,
     engine: &mut Engine,
     traced: bool,
     round: u32,
     supersteps: u32,
+    workers: u32,
+    gate: &G,
     ports: &mut [Box<dyn Port>],
     places: &[usize],
     out: usize,
     chunk: &mut Chunk,
 ) -> Result<(), Failed>
+    requires workers { workers ≤ 2 ^ 16 }
     requires runnable { IsRunnable (core_of engine.old) }
     requires parts { IsStateOf (core_of engine.old) (state_of engine.old) }
     requires places { ArePlacesOf (core_of engine.old) (names (map view ports.old)) places.now }
@@ -146,7 +165,7 @@ fn run_round(
     ensures same_names { names (map view ports.new) ≡ names (map view ports.old) }
     ensures room { room_of chunk.new ≡ room_of chunk.old }
 {
-    engine.round(supersteps);
+    engine.round(rt, supersteps, workers, gate);
     match drain_outputs(engine, ports, places, chunk) {
         Ok(()) => {}
         Err(failed) => return Err(failed),

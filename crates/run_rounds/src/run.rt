@@ -1,5 +1,5 @@
 //! A run that is open.
-ghost use Rattle.std.specs.Prelude.{◌≡◌, ◌≤◌, ◌<◌, ◌*◌, map, IfOk, None};
+ghost use Rattle.std.specs.Prelude.{◌≡◌, ◌≤◌, ◌<◌, ◌*◌, ◌^◌, map, IfOk, None};
 ghost use Rattle.hume_base.specs.Least.{IsLeast};
 ghost use Rattle.hume_net.specs.StatePlaces.{BoxesHandleAll};
 ghost use Rattle.hume_ports.specs.Ports.{names};
@@ -24,7 +24,9 @@ use hume_ports::{Failed, Port};
 use hume_text::Chunk;
 use phase_workers::Engine;
 use std::alloc::{AllocError, Global};
+use std::thread::Threads;
 use trace_print::line_bound;
+use turn_workers::Gate;
 use wiring_check::Wiring;
 
 // No text of a value is longer than so many bytes for each of its words.
@@ -76,16 +78,20 @@ impl Running {
         self.engine.core()
     }
 
-    /// Makes `steps` supersteps by rounds, and then tells what each box took at most. Answers whether a bad line of a stream has
-    /// blocked a round; it is told then. The ports of the streams are given by their places, one for each node, and so is the port
-    /// for all that is told besides.
-    pub fn run(
+    /// Makes `steps` supersteps by rounds, each by so many workers at most, and then tells what each box took at most. Answers whether
+    /// a bad line of a stream has blocked a round; it is told then. The ports of the streams are given by their places, one for each
+    /// node, and so is the port for all that is told besides.
+    pub fn run<R: Threads + Sync, G: Gate>(
         &mut self,
+        rt: &R,
         steps: u32,
+        workers: u32,
+        gate: &G,
         ports: &mut [Box<dyn Port>],
         places: &[usize],
         out: usize,
     ) -> Result<bool, Failed>
+        requires workers { workers ≤ 2 ^ 16 }
         requires runnable { IsRunnable (core_in self.old) }
         requires places { ArePlacesOf (core_in self.old) (names (map view ports.old)) places.now }
         requires apart { ArePortsApart (core_in self.old) }
@@ -95,9 +101,12 @@ impl Running {
         ensures same_names { names (map view ports.new) ≡ names (map view ports.old) }
     {
         match make_rounds(
+            rt,
             &mut self.engine,
             self.traced,
             steps,
+            workers,
+            gate,
             ports,
             places,
             out,

@@ -1,0 +1,51 @@
+//! All half steps of a round: those that workers made, and those that are left.
+ghost use Rattle.std.specs.Prelude.{◌≡◌, ◌*◌, ◌<◌, ◌≤◌, ◌^◌, length, vec_len, vec_capacity};
+ghost use Rattle.hume_net.specs.Plan.{IsPlan, plan_of};
+ghost use Rattle.box_step.specs.nodes.Openings.{Opening, IsOpeningOf};
+ghost use Rattle.step_turns.specs.Rounds.{AllRight, AreFrom, AreInPlace, AreSides, AreUntil, HaveSpan};
+ghost use Rattle.turn_locker.specs.Held.{items_of};
+
+use box_step::nodes::BoxCell;
+use hume_model::Core;
+use std::thread::Threads;
+use step_turns::Sides;
+use turn_workers::{Gate, share_round};
+use wire_cells::WireCell;
+
+/// Makes the half steps of `steps` supersteps from times 0, by so many workers at most. It takes memory for what they share; where
+/// there is none, or a worker leaves early, this thread makes the half steps that are left.
+pub(crate) fn step_all<R: Threads + Sync, G: Gate>(
+    rt: &R,
+    core: &Core,
+    sides: &Sides,
+    steps: u32,
+    workers: u32,
+    gate: &G,
+    nodes: &mut Vec<BoxCell>,
+    home: &mut Vec<Option<WireCell>>,
+    bench: &mut Vec<WireCell>,
+)
+    requires plan { IsPlan (plan_of core.now) × (items_of (plan_of core.now) < 2 ^ 32) }
+    requires workers { workers ≤ 2 ^ 16 }
+    requires place { AreInPlace core.now nodes.old.items home.old.items }
+    requires wires { length home.old.items ≡ length core.now.wires }
+    requires begun { AreUntil 0 nodes.old.items }
+    requires sides { AreSides core.now (vec_capacity bench.old) sides.now }
+    requires bench { vec_len bench.old ≡ 0 }
+    requires right { (opening : Opening) × IsOpeningOf core.now opening × AllRight opening nodes.old.items home.old.items × HaveSpan opening steps }
+    ensures place { AreInPlace core.now nodes.new.items home.new.items }
+    ensures wires { length home.new.items ≡ length core.now.wires }
+    ensures until { AreUntil (2 * steps) nodes.new.items }
+    ensures from { AreFrom (2 * steps) nodes.new.items }
+    ensures bench { (vec_len bench.new ≡ 0) × (vec_capacity bench.new ≡ vec_capacity bench.old) }
+    ensures right { (opening : Opening) → IsOpeningOf core.now opening → AllRight opening nodes.old.items home.old.items
+        → AllRight opening nodes.new.items home.new.items }
+{
+    let alloc = *bench.allocator();
+    let room = bench.capacity();
+    // a refusal has changed nothing
+    let _refused = share_round(
+        rt, alloc, core, sides, room, steps, workers, gate, nodes, home,
+    );
+    step_turns::round(core, sides, steps, nodes, home, bench);
+}
