@@ -14,7 +14,7 @@ use Rattle.hume_front.specs.Accepted.{IsAccepted}
 use Rattle.demo_net.specs.Source.{demo_text}
 use Rattle.run_rounds.specs.Streams.{std_out}
 use Rattle.demo_rounds.specs.Chains.{demo_lines}
-use Rattle.demo_rounds.specs.Opened as demo
+use Rattle.demo_rounds.specs.Opened as demos
 use Rattle.demo_rounds.specs.declared.demo.Demo.{Demo}
 use Rattle.trace_print.specs.InTurn.{lines_to}
 use Rattle.trace_print.specs.table.Table.{total_line_of}
@@ -91,13 +91,13 @@ unshown number steps text olds news status is refused = unshown_text number step
     unshown_text number steps olds news status (inr (refusal, breaks, inr ends)) = inr (_, inl (refusal, breaks, refl), ends)
 
 -- it is open as what it is
-pub itself_shown : (core : Core) (its : Demo) → demo.IsOpened core its → demo.IsOpened (demo.core_in its) its
-itself_shown core its is = subst (λ c. demo.IsOpened c its) (sym is.is_core) is
+pub itself_shown : (core : Core) (its : Demo) → demos.IsOpened core its → demos.IsOpened (demos.core_in its) its
+itself_shown core its is = subst (λ c. demos.IsOpened c its) (sym is.is_core) is
 
-pub shown_open : (core : Core) (opened : OpenedDemo) → IsRunnable core → KeepsBounds core opened.costs → demo.IsOpened core opened.demo
+pub shown_open : (core : Core) (opened : OpenedDemo) → IsRunnable core → KeepsBounds core opened.costs → demos.IsOpened core opened.demo
     → room_of opened.chunk ≡ LINE_BYTES → IsOpenDemo opened
 shown_open core opened runnable bounds shown room =
-    let is_core : core ≡ demo.core_in opened.demo = sym shown.is_core in
+    let is_core : core ≡ demos.core_in opened.demo = sym shown.is_core in
     record {
       runnable = subst IsRunnable is_core runnable;
       demo = itself_shown core opened.demo shown;

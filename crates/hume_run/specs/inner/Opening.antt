@@ -8,7 +8,7 @@ use Rattle.port_acts.specs.Places.{IsPlaceOf}
 use Rattle.phase_workers.specs.Runnable.{IsRunnable}
 use Rattle.run_rounds.specs.Streams.{ArePlacesOf, std_out}
 use Rattle.run_rounds.specs.Opened.{core_in, traced_in, IsOpened}
-use Rattle.demo_rounds.specs.Opened as demo
+use Rattle.demo_rounds.specs.Opened as demos
 use Rattle.hume_run.specs.declared.demo.showing.OpenedDemo.{OpenedDemo}
 use Rattle.hume_run.specs.declared.run.opening.Opened.{Opened}
 use Rattle.hume_run.specs.Owed.{run_finishes}
@@ -26,7 +26,7 @@ pub record IsOpen (out : ℕ) (opened : Opened) : Type 0 where
 
 -- So is a demo, which has no ports but the report's.
 pub record IsOpenDemo (opened : OpenedDemo) : Type 0 where
-  pub runnable : IsRunnable (demo.core_in opened.demo)
-  pub demo : demo.IsOpened (demo.core_in opened.demo) opened.demo
-  pub bounds : KeepsBounds (demo.core_in opened.demo) opened.costs
+  pub runnable : IsRunnable (demos.core_in opened.demo)
+  pub demo : demos.IsOpened (demos.core_in opened.demo) opened.demo
+  pub bounds : KeepsBounds (demos.core_in opened.demo) opened.costs
   pub room : room_of opened.chunk ≡ LINE_BYTES
