@@ -1,21 +1,21 @@
 -- What a round does to an engine.
-use Rattle.std.proofs.Common.{◌≡◌, ◌≤◌, ◌<◌, ◌+◌, ◌*◌, ◌/◌, ◌%◌, ℕ, max, List, [], ◌∷◌, ◌++◌, map, length, Option, None, Some, slice_get, slice_index_or, refl, ap, sym, ◌∙◌, subst, arith, inl, inr, ◌⊎◌, append_assoc}
+use Rattle.std.proofs.Common.{◌≡◌, ◌≤◌, ◌<◌, ◌+◌, ◌*◌, ◌/◌, ◌%◌, ◌^◌, ℕ, max, List, [], ◌++◌, map, length, Option, None, Some, slice_get, slice_index_or, refl, ap, sym, ◌∙◌, subst, arith, inl, inr, append_assoc}
 use Rattle.std.proofs.lemmas.List.{length-map}
 use Rattle.std.specs.Option.{option_map}
 use Rattle.std.proofs.lemmas.Bool.{cases_lt}
 use Rattle.std.proofs.lemmas.Option.{slice_get_past, slice_get_within, slice_get-map}
-use Rattle.hume_base.specs.declared.types.Value.{Value}
+use Rattle.hume_base.specs.declared.limits.TheConstants.{MAX_NODES, MAX_WIRES}
 use Rattle.hume_model.specs.declared.core_tree.StreamC.{StreamC}
 use Rattle.hume_model.specs.declared.core_tree.NodeC.{NodeC}
 use Rattle.hume_model.specs.declared.core_tree.NodeC.TheVariants.{Rules, From, To}
 use Rattle.hume_model.specs.declared.core_tree.Core.{Core}
 use Rattle.hume_net.specs.declared.state.State.{State}
-use Rattle.hume_net.specs.Lockstep.{lockstep, at_time, wire_at, supers, executes}
+use Rattle.hume_net.specs.Lockstep.{lockstep, at_time}
 use Rattle.hume_net.specs.Nodes.{IsInput, IsInputStream, IsOutput, IsOutputStream}
 use Rattle.hume_net.specs.Plan.{IsPlan, plan_of, wires_of, producer_of, consumer_of}
 use Rattle.hume_net.specs.Sides.{on_wire, part_of}
 use Rattle.hume_net.specs.StreamSteps.{HasShrunk}
-use Rattle.hume_net.specs.Times.{AreBalanced, wire_time}
+use Rattle.hume_net.specs.Times.{wire_time}
 use Rattle.hume_net.proofs.AtTimes.{types_after}
 use Rattle.hume_net.proofs.Plans.{plan_joins, wires_counted}
 use Rattle.hume_net.proofs.StatePlaces.{lockstep_state}
@@ -27,24 +27,24 @@ use Rattle.model_bare.proofs.SameCores.{same_count}
 use Rattle.model_bare.specs.Bare.{bare_of}
 use Rattle.net_costs.specs.Steps.{peaks}
 use Rattle.box_costs.specs.declared.cost.Cost.{Cost}
-use Rattle.hume_streams.specs.Queues.{QueueView, first_view}
+use Rattle.hume_streams.specs.Queues.{first_view}
 use Rattle.hume_streams.specs.Logs.{LogView}
 use Rattle.wire_cells.specs.Cells.{CellView, Holds}
-use Rattle.box_step.specs.declared.nodes.cell.Kind.{Kind}
 use Rattle.box_step.specs.declared.nodes.cell.BoxCell.{BoxCell}
-use Rattle.box_step.specs.nodes.Lends.{queue_in, log_in}
-use Rattle.box_step.specs.nodes.Openings.{Opening, IsOpeningOf, opening_after}
+use Rattle.box_step.specs.nodes.Lends.{queue_in}
+use Rattle.box_step.specs.nodes.Openings.{Opening, opening_after}
 use Rattle.box_step.specs.nodes.Right.{IsRightNode, IsRightWire, heap_peak_of, stack_peak_of}
 use Rattle.box_step.proofs.nodes_lemmas.Begun.{begun_node, first_state}
 use Rattle.step_turns.specs.declared.sides.Sides.{Sides}
 use Rattle.step_turns.specs.Homes.{AreRightHome, IsHome}
 use Rattle.step_turns.specs.Rounds.{AllRight, AreFrom, AreInPlace, AreUntil, HaveSpan, node_time, time_there}
+use Rattle.turn_locker.specs.Held.{items_of}
 use Rattle.phase_workers.specs.StreamTypes.{type_at}
 use Rattle.phase_workers.specs.RightQueues.{IsRightBehind}
 use Rattle.phase_workers.specs.inner.Begun.{begun_cell, begun_wire}
 use Rattle.phase_workers.specs.inner.Whole.{IsWhole, IsQueueFor, queue_without, log_without, queues_of, logs_of, heaps_of, stacks_of, opening_at}
-use Rattle.phase_workers.proofs.Indexes.{index_mapped, index_past, some_at}
-use Rattle.phase_workers.proofs.CellsSeen.{IsSeenAt, IsNoBox, seen_at, right_as_seen, same_queue, same_log, logged, heap_after, stack_after, no_heap, no_peaks}
+use Rattle.phase_workers.proofs.Indexes.{index_past, some_at}
+use Rattle.phase_workers.proofs.CellsSeen.{IsNoBox, seen_at, right_as_seen, same_queue, same_log, heap_after, stack_after, no_heap, no_peaks}
 
 -- a node that is no node has no box
 past_no_box : (core : Core) (n : ℕ) → length core.nodes ≤ n → IsNoBox (slice_get core.nodes n)
@@ -105,11 +105,24 @@ module _ (core bare : Core) (sides : Sides) (span : ℕ) (state : State) (nodes 
       let frame = bare_frame core whole.runnable.formed.frame in
       subst (λ (c : Core). IsPlan (plan_of c)) (sym whole.opens.core_is) (plan_joins (bare_of core) frame.wires)
 
-  pub until_end : (steps : ℕ) → AreUntil (2 * steps) nodes
-  until_end steps n less =
+  pub few_items : items_of (plan_of bare) < 2 ^ 32
+  few_items =
+      let limits = whole.runnable.formed.frame.limits in
+      let nodes_few : length core.nodes ≤ MAX_NODES = limits.nodes in
+      let wires_few : length core.wires ≤ MAX_WIRES = limits.wires in
+      let nodes_same = bare_count in
+      let wires_same = bare_wires in
+      let counted = wires_counted bare in
+      omega (arith, nodes_few, wires_few, nodes_same, wires_same, counted)
+
+  pub none_begun : AreUntil 0 nodes
+  none_begun n less =
       let cell = some_at nodes n less in
       let time : node_time nodes n ≡ 0 = ap time_there cell.1 ∙ whole.begun n cell.0 cell.1 in
       omega (arith, time)
+
+  pub wires_there : length home ≡ length bare.wires
+  wires_there = whole.wires ∙ sym bare_wires
 
   pub have_span : (steps : ℕ) → steps ≤ span → ((n : ℕ) → IsOutputStream core n → (part_of state n).taken ≡ []) → HaveSpan opening steps
   have_span steps few clear n stream at =
@@ -118,7 +131,7 @@ module _ (core bare : Core) (sides : Sides) (span : ℕ) (state : State) (nodes 
       omega (arith, none, wide, few)
 
   module _ (steps : ℕ) (later : List BoxCell) (laid : List (Option CellView)) (place : AreInPlace bare later laid) (until : AreUntil (2 * steps) later)
-      (from : AreFrom (2 * steps) later) (right : AllRight opening later laid) (laid_long : length laid ≡ length home) where
+      (from : AreFrom (2 * steps) later) (right : AllRight opening later laid) (laid_long : length laid ≡ length bare.wires) where
     abbrev next : State
     next = lockstep core state steps
 
@@ -202,9 +215,7 @@ module _ (core bare : Core) (sides : Sides) (span : ℕ) (state : State) (nodes 
     wire_begun w cell (Some old) at is =
         let inside = slice_get_within laid w (Some old) at in
         let long = laid_long in
-        let held = whole.wires in
-        let all = bare_wires in
-        let less : w < length bare.wires = omega (arith, inside, long, held, all) in
+        let less : w < length bare.wires = omega (arith, inside, long) in
         let same : record old { time = 0 } ≡ cell = cc in
         subst (IsRightWire seen) same (same_wire old (laid_time w (ends w less) old at less) (right.wires.each w old at))
 
@@ -354,7 +365,7 @@ module _ (core bare : Core) (sides : Sides) (span : ℕ) (state : State) (nodes 
       };
       right = record { each = next_right; wires = next_wires };
       place = next_place;
-      wires = length-map laid begun_wire ∙ laid_long ∙ whole.wires;
+      wires = length-map laid begun_wire ∙ laid_long ∙ bare_wires;
       begun = λ n cell at. (let was = was_there begun_cell later n cell at in sym (ap (λ (c : BoxCell). c.time) was.2));
       sides_are = whole.sides_are;
       clear = whole.clear;

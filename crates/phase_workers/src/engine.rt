@@ -47,8 +47,8 @@ use turn_workers::Gate;
 use wire_cells::WireCell;
 use wiring_check::Wiring;
 
-/// The cells of a core's net, each at time 0, with the sides of its nodes, and a bench for the cells of one side. All memory is
-/// taken when it is made.
+/// The cells of a core's net, each at time 0, with the sides of its nodes, and a bench for the cells of one side. All memory that a
+/// run needs is taken when it is made.
 #[derive(Drop)]
 pub struct Engine {
     core: Core,
@@ -84,8 +84,8 @@ impl Engine {
     ghost use Rattle.phase_workers.specs.Engines.{ArePeaksKept, core_of, heap_peak_at, queue_at, span_of, stack_peak_at, state_of};
     ghost use Rattle.phase_workers.specs.NodeFills.{FillsNode};
 
-    /// All cells of the core's net before the first superstep, with room for `span` values in each queue and log. All memory of a run
-    /// is taken here.
+    /// All cells of the core's net before the first superstep, with room for `span` values in each queue and log. All memory that a
+    /// run needs is taken here.
     pub fn make(
         alloc: Global,
         core: Core,
@@ -158,8 +158,8 @@ impl Engine {
         fill_cell(cell, &mut self.seen, &self.core, node, ports, at, want)
     }
 
-    /// Makes `steps` supersteps, by so many workers at most. Several workers share a table, for which it takes memory; where there is
-    /// none, or a worker leaves early, this thread makes the half steps that are left.
+    /// Makes `steps` supersteps by at most `workers` threads, this one included. Several threads share a table, for which it asks for
+    /// memory. If there is none, or a thread leaves early, this one makes the half steps that are left.
     pub fn round<R: Threads + Sync, G: Gate>(&mut self, rt: &R, steps: u32, workers: u32, gate: &G)
         requires workers { workers ≤ 2 ^ 16 }
         requires span { steps ≤ span_of self.old }

@@ -12,8 +12,8 @@ use step_turns::Sides;
 use turn_workers::{Gate, share_round};
 use wire_cells::WireCell;
 
-/// Makes the half steps of `steps` supersteps from times 0, by so many workers at most. It takes memory for what they share; where
-/// there is none, or a worker leaves early, this thread makes the half steps that are left.
+/// Makes the half steps of `steps` supersteps from times 0, by at most `workers` threads, this one included. It asks for memory for
+/// what they share. If there is none, or a thread leaves early, this one makes the half steps that are left.
 pub(crate) fn step_all<R: Threads + Sync, G: Gate>(
     rt: &R,
     core: &Core,
@@ -43,7 +43,7 @@ pub(crate) fn step_all<R: Threads + Sync, G: Gate>(
 {
     let alloc = *bench.allocator();
     let room = bench.capacity();
-    // a refusal has changed nothing
+    // out of memory, it has changed nothing
     let _refused = share_round(
         rt, alloc, core, sides, room, steps, workers, gate, nodes, home,
     );
