@@ -8,12 +8,12 @@ use Rattle.hume_model.specs.declared.core_tree.Core.{Core}
 use Rattle.hume_streams.specs.Good.{IsGoodUntil}
 use Rattle.hume_streams.specs.Lines.{whole_lines}
 use Rattle.hume_ports.specs.Port.{PortView, Rose}
-use Rattle.hume_ports.specs.Ports.{of_first}
+use Rattle.hume_ports.specs.Ports.{names, of_first}
 use Rattle.hume_ports.specs.Delivery.{Pairs, Delivered, bytes_for}
 use Rattle.hume_ports.proofs.Names.{bytes_eq-self, same_name}
 use Rattle.port_acts.specs.Acts.{Act, wants, name_of, count_of, written, finished, finished_by, write_each, finish_each, FinishesLast}
 use Rattle.port_acts.specs.Early.{after_reads}
-use Rattle.port_acts.specs.Ends.{Fails, NoneRose, Owed}
+use Rattle.port_acts.specs.Ends.{Fails, NoneRose, Owed, never}
 use Rattle.port_acts.proofs.ActLists.{written-append}
 use Rattle.port_acts.proofs.Each.{all_written, finishes_write_nothing, writes_finish_nothing, finishes_are_last}
 use Rattle.port_acts.proofs.Failing.{failure_since, read_tells, finish_tells}
@@ -30,7 +30,7 @@ use Rattle.hume_run.specs.declared.status.Status.{Status}
 use Rattle.hume_run.specs.Streams.{unfit_line}
 use Rattle.hume_run.specs.Owed.{IsOwed, owed_refused, owed_check, owed_run, owed_demo, refused_line, table_writes, demo_writes, run_finishes}
 use Rattle.hume_run.specs.Few.{CallFew, call_few}
-use Rattle.hume_run.specs.Headline.{source_reads}
+use Rattle.hume_run.specs.Headline.{OwesAlone, source_reads}
 use Rattle.hume_run.specs.Faults.{FailedInput, ReadRose}
 use Rattle.hume_run.proofs.Answering.{WantsTell, wants_apart}
 use Rattle.hume_run.proofs.Wanting.{want_of_run, no_want_of_writes}
@@ -111,6 +111,12 @@ pub all_was_written : RunsFinishNothing → (order : Order) (source text : List 
 all_was_written none order source text names texts owed olds news owes f no_read no_write =
     finish_tells (call_few source text) [] (after_reads (source_reads source) owed).acts olds news f no_read no_write
     (owed_finishes_last none order source text names texts owed owes)
+
+pub all_was_written_alone : RunsFinishNothing → (order : Order) (owed : Owed Status) (olds news : List PortView) → OwesAlone order olds owed
+    → Fails never [] owed.acts olds news → NoneRose (λ port. port.read_faults) olds news → NoneRose (λ port. port.write_faults) olds news
+    → Delivered olds news (written owed.acts)
+all_was_written_alone none order owed olds news owes f no_read no_write =
+    finish_tells never [] owed.acts olds news f no_read no_write (owed_finishes_last none order [] [] (names olds) (λ name. []) owed owes)
 
 -- wants
 
