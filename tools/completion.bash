@@ -17,7 +17,7 @@ _hume_files() {
 _hume() {
     local word=${COMP_WORDS[COMP_CWORD]} kind='' ports=''
     if ((COMP_CWORD == 1)); then
-        mapfile -t COMPREPLY < <(compgen -W 'check run trace why bounds net hints test go watch vcd waves page install uninstall --help --version --rebuild' -- "$word")
+        mapfile -t COMPREPLY < <(compgen -W 'check run trace demo why bounds net hints test go watch vcd waves page install uninstall --help --version --rebuild' -- "$word")
         return
     fi
     # Where the SOURCE stands, and from where on there are ports.

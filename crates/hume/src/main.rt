@@ -1,5 +1,5 @@
 //! The program: `hume check SOURCE`, `hume run STEPS WORKERS SOURCE PORT..`, or `hume trace` with the words of a run, where the
-//! words from SOURCE on name the files that are ports.
+//! words from SOURCE on name the files that are ports; or `hume demo NUMBER STEPS WORKERS`.
 //!
 //! The ports `std_in` and `std_out` are always there.
 //!
@@ -12,24 +12,30 @@ use std::alloc::{AllocError, Global};
 use std::env;
 use std::io::ErrorKind;
 use std::process::ExitCode;
+use turn_workers::OpenGate;
 
 const STD_IN: &str = "std_in";
 
 const STD_OUT: &str = "std_out";
 
 fn main(rt: HostRuntime) -> ExitCode {
-    match run(&rt) {
-        Ok(status) => ExitCode::from(status.number()),
-        Err(AllocError) => ExitCode::from(Status::NoMemory.number()),
-    }
+    let alloc = rt.alloc();
+    let status = match words_and_ports(&rt, alloc) {
+        Ok((words, mut ports)) => hume(&rt, alloc, &words, &mut ports, &OpenGate),
+        Err(AllocError) => Status::NoMemory,
+    };
+    ExitCode::from(status.number())
 }
 
-fn run(rt: &HostRuntime) -> Result<Status, AllocError> {
-    let alloc = rt.alloc();
+// The words of the command, and the ports that they name.
+fn words_and_ports(
+    rt: &HostRuntime,
+    alloc: Global,
+) -> Result<(Vec<String>, Vec<Box<dyn Port>>), AllocError> {
     let words = words_of_command(rt, alloc)?;
     let mut ports: Vec<Box<dyn Port>> = Vec::new(alloc);
-    if let Some(order) = read_words(&words) {
-        for word in words.iter().skip(order.source() as usize) {
+    if let Some(place) = read_words(&words).and_then(|order| order.source()) {
+        for word in words.iter().skip(place as usize) {
             if !is_standard(word) && find(&ports, word).is_none() {
                 ports.push(Box::new(alloc, FilePort::make(rt, alloc, word)?)?)?;
             }
@@ -37,7 +43,7 @@ fn run(rt: &HostRuntime) -> Result<Status, AllocError> {
     }
     ports.push(Box::new(alloc, StdIn::make(rt, alloc, STD_IN)?)?)?;
     ports.push(Box::new(alloc, StdOut::make(rt, alloc, STD_OUT)?)?)?;
-    Ok(hume(alloc, &words, &mut ports))
+    Ok((words, ports))
 }
 
 // Whether the port of that name is no file.

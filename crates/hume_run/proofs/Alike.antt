@@ -1,5 +1,5 @@
 -- Calls whose ports have room, and calls over ports with the same texts.
-use Rattle.std.proofs.Common.{◌≡◌, ◌⊎◌, ℕ, Bool, false, List, [], ◌∷◌, Option, Some, None, IfSome, slice_get, refl, sym, ap, ◌∙◌, subst, inl, inr}
+use Rattle.std.proofs.Common.{◌≡◌, ◌⊎◌, ℕ, Bool, false, List, [], ◌∷◌, Option, Some, None, IfSome, IsSomeAnd, slice_get, refl, sym, ap, ◌∙◌, subst, inl, inr}
 use Rattle.std.specs.Option.{is_none}
 use Rattle.std.specs.Str.{bytes_eq}
 use Rattle.hume_base.specs.declared.types.Value.{Value}
@@ -13,7 +13,7 @@ use Rattle.hume_ports.specs.Port.{PortView}
 use Rattle.hume_ports.specs.Ports.{names, left_of, place_of}
 use Rattle.hume_ports.proofs.Rooms.{Roomy-nothing}
 use Rattle.port_acts.specs.Acts.{written}
-use Rattle.port_acts.specs.Ends.{Owed, EndsAs, bytes_of}
+use Rattle.port_acts.specs.Ends.{Owed, EndsAs, bytes_of, never}
 use Rattle.port_acts.specs.Early.{after_reads, EndsEarly}
 use Rattle.port_acts.proofs.Stopping.{end_alike}
 use Rattle.phase_workers.specs.StreamTypes.{type_at}
@@ -22,12 +22,12 @@ use Rattle.run_rounds.specs.Streams.{streams}
 use Rattle.hume_run.specs.declared.status.Status.{Status}
 use Rattle.hume_run.specs.declared.status.Status.TheVariants.{Usage, Fault, NoMemory}
 use Rattle.hume_run.specs.declared.order.Order.{Order}
-use Rattle.hume_run.specs.declared.order.Order.TheVariants.{Run, Check}
+use Rattle.hume_run.specs.declared.order.Order.TheVariants.{Run, Check, Demo}
 use Rattle.hume_run.specs.Streams.{unfit_line}
 use Rattle.hume_run.specs.Owed.{IsOwed}
 use Rattle.hume_run.specs.Words.{order_of, source_of}
 use Rattle.hume_run.specs.Few.{source_few, call_few}
-use Rattle.hume_run.specs.Headline.{Headline, AnswersFrom, IsText, source_reads, source_text}
+use Rattle.hume_run.specs.Headline.{Answers, AnswersAlone, AnswersFrom, Headline, IsText, OwesAlone, source_reads, source_text}
 use Rattle.hume_run.specs.Calls.{OwesOver, HaveRoom, GivesOwed, HaveSameTexts, IsThrough}
 use Rattle.hume_run.proofs.OneOwed.{SomeInputs, OneInputs, some_owed, one_owed}
 use Rattle.hume_run.proofs.Texts.{told_texts, told_by_all}
@@ -64,15 +64,28 @@ module _ (order : Order) (source : List ℕ) (olds news : List PortView) (status
   owes_of : (a : AnswersFrom order source olds news status) → OwesOver order source olds a.owed
   owes_of a = record { text = a.text; told = a.told; texts = a.texts; texts_told = a.texts_told; owes = a.owes }
 
-  pub answered_with_room : SomeInputs → Ended → HaveRoom order source olds → (status ≡ NoMemory) ⊎ GivesOwed order source olds news status
-  answered_with_room has_inputs (inl (inl (is, stops))) room = inl is
-  answered_with_room has_inputs (inl (inr (is, fails))) room =
+  sourced_with_room : SomeInputs → Ended → HaveRoom order (Some source) olds → (status ≡ NoMemory) ⊎ GivesOwed order (Some source) olds news status
+  sourced_with_room has_inputs (inl (inl (is, stops))) room = inl is
+  sourced_with_room has_inputs (inl (inr (is, fails))) room =
       let some = owes_something has_inputs order source olds in
       absurd (fails.no_room (Roomy-nothing olds (written some.0.acts) (room some.0 some.1)))
-  answered_with_room has_inputs (inr a) room = elim a.ends [
+  sourced_with_room has_inputs (inr a) room = elim a.ends [
     | inl made ↦ inr (record { owed = a.owed; owes = owes_of a; answer = made.0; delivered = made.2.progress.delivered })
     | inr fails ↦ absurd (fails.1.no_room (room a.owed (owes_of a)))
   ]
+
+module _ (order : Order) (olds news : List PortView) (status : Status) where
+  alone_with_room : AnswersAlone order olds news status → HaveRoom order None olds → (status ≡ NoMemory) ⊎ GivesOwed order None olds news status
+  alone_with_room (inl (is, same)) room = inl is
+  alone_with_room (inr (owed, owes, ends)) room = elim ends [
+    | inl made ↦ inr (record { owed = owed; owes = owes; answer = made.0; delivered = made.2.progress.delivered })
+    | inr fails ↦ absurd (fails.1.no_room (room owed owes))
+  ]
+
+  pub answered_with_room : SomeInputs → (source : Option (List ℕ)) → Answers order source olds news status → HaveRoom order source olds
+      → (status ≡ NoMemory) ⊎ GivesOwed order source olds news status
+  answered_with_room has_inputs None answers room = alone_with_room answers room
+  answered_with_room has_inputs (Some source) answers room = sourced_with_room order source olds news status has_inputs answers room
 
 -- calls over the same texts
 
@@ -110,6 +123,7 @@ module _ (source : List ℕ) (olds others : List PortView) (same : HaveSameTexts
   owed_alike : (order : Order) (text : List ℕ) (owed : Owed Status) → IsOwed order source text (names olds) first owed
       → IsOwed order source text (names olds) second owed
   owed_alike (Check place) text owed owes = owes
+  owed_alike (Demo number steps workers) text owed owes = owes
   owed_alike (Run steps workers place traced) text owed (inl refused) = inl refused
   owed_alike (Run steps workers place traced) text owed (inr (accepted, is, fit, coming, are, owes)) = inr (
     accepted,
@@ -121,15 +135,20 @@ module _ (source : List ℕ) (olds others : List PortView) (same : HaveSameTexts
   )
 
 -- a call that came to its end has read its source
-answers : (order : Order) (source : List ℕ) (olds news : List PortView) (status : Status) → Ended order source olds news status → IsThrough status
+read_through : (order : Order) (source : List ℕ) (olds news : List PortView) (status : Status) → Ended order source olds news status → IsThrough status
     → AnswersFrom order source olds news status
-answers order source olds news status (inl (inl (is, stops))) through = absurd (through.2 is)
-answers order source olds news status (inl (inr (is, fails))) through = absurd (through.1 is)
-answers order source olds news status (inr a) through = a
+read_through order source olds news status (inl (inl (is, stops))) through = absurd (through.2 is)
+read_through order source olds news status (inl (inr (is, fails))) through = absurd (through.1 is)
+read_through order source olds news status (inr a) through = a
+
+-- Two calls gave the same answer, and the same bytes to each port that had the same.
+abbrev pub EndAlike : List PortView → List PortView → List PortView → List PortView → Status → Status → Type 0
+EndAlike olds news others later status other =
+    (status ≡ other) × ((name had : List ℕ) → bytes_of name olds ≡ Some had → bytes_of name others ≡ Some had → bytes_of name news ≡ bytes_of name later)
 
 module _ (order : Order) (source : List ℕ) (olds news others later : List PortView) (status other : Status) where
-  abbrev pub SameBytes : Type 0
-  SameBytes = (status ≡ other) × ((name had : List ℕ) → bytes_of name olds ≡ Some had → bytes_of name others ≡ Some had → bytes_of name news ≡ bytes_of name later)
+  abbrev SameBytes : Type 0
+  SameBytes = EndAlike olds news others later status other
 
   pub calls_alike : OneInputs → (place_of source (names olds) ≡ None → ⊥) → HaveSameTexts olds others → (a : AnswersFrom order source olds news status)
       → (b : AnswersFrom order source others later other) → IsThrough status → IsThrough other → SameBytes
@@ -157,7 +176,32 @@ module _ (order : Order) (source : List ℕ) (olds news others later : List Port
   pub ended_alike : OneInputs → (place_of source (names olds) ≡ None → ⊥) → HaveSameTexts olds others → Ended order source olds news status
       → Ended order source others later other → IsThrough status → IsThrough other → SameBytes
   ended_alike one_inputs there same x y through too =
-      calls_alike one_inputs there same (answers order source olds news status x through) (answers order source others later other y too) through too
+      calls_alike one_inputs there same (read_through order source olds news status x through) (read_through order source others later other y too) through too
+
+-- a call without a source that came to its end ends as what it owes
+module _ (order : Order) (olds news : List PortView) (status : Status) where
+  abbrev EndsAlone : Type 0
+  EndsAlone = (owed : Owed Status) × OwesAlone order olds owed × EndsAs never owed Fault olds news status
+
+  alone_through : AnswersAlone order olds news status → IsThrough status → EndsAlone
+  alone_through (inl (is, same)) through = absurd (through.2 is)
+  alone_through (inr ends) through = ends
+
+module _ (order : Order) (olds news others later : List PortView) (status other : Status) (one_inputs : OneInputs) (same : HaveSameTexts olds others) where
+  alone_alike : EndsAlone order olds news status → EndsAlone order others later other → IsThrough status → IsThrough other
+      → EndAlike olds news others later status other
+  alone_alike (owed, owes, ends) (its, also, too) through so =
+      let one : its ≡ owed = one_owed one_inputs order [] [] (names olds) (λ name. []) its owed
+      (subst (λ (ns : List (List ℕ)). IsOwed order [] [] ns (λ name. []) its) (sym same.same_names) also) owes in
+      end_alike never owed Fault olds news others later status other ends
+      (subst (λ (o : Owed Status). EndsAs never o Fault others later other) one too) through.1 so.1
+
+  pub answers_alike : (source : Option (List ℕ)) → (IsSomeAnd source (λ name. place_of name (names olds) ≡ None) → ⊥) → Answers order source olds news status
+      → Answers order source others later other → IsThrough status → IsThrough other → EndAlike olds news others later status other
+  answers_alike None there x y through too =
+      alone_alike (alone_through order olds news status x through) (alone_through order others later other y too) through too
+  answers_alike (Some source) there x y through too =
+      ended_alike order source olds news others later status other one_inputs there same x y through too
 
 -- words of a form
 
@@ -166,6 +210,6 @@ if_some None P x is p = cc
 if_some (Some y) P x is p = let same : y ≡ x = cc in subst P same p
 
 pub of_form : (words : List (List ℕ)) (order : Order) (olds news : List PortView) (status : Status) → order_of words ≡ Some order
-    → Headline words olds news status → (status ≡ Usage → ⊥) → Ended order (source_of words order) olds news status
+    → Headline words olds news status → (status ≡ Usage → ⊥) → Answers order (source_of words order) olds news status
 of_form words order olds news status is line =
-    if_some (order_of words) (λ order. (status ≡ Usage → ⊥) → Ended order (source_of words order) olds news status) order is line
+    if_some (order_of words) (λ order. (status ≡ Usage → ⊥) → Answers order (source_of words order) olds news status) order is line

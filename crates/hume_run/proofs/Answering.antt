@@ -30,7 +30,7 @@ use Rattle.hume_run.specs.Streams.{unfit_line}
 use Rattle.hume_run.specs.Owed.{IsRefusal, broken, unfit, IsOwed, owed_run, owed_refused, owed_check, table_writes, run_finishes}
 use Rattle.hume_run.specs.Few.{source_few, CallFew, call_few}
 use Rattle.hume_run.specs.Headline.{AnswersFrom, source_reads, source_text}
-use Rattle.hume_run.specs.inner.Ended.{RunsOut, EndsAfter, EndsOwed, OwesFor, EndsText, RunsCore}
+use Rattle.hume_run.specs.inner.Ended.{RunsOut, EndsAfter, EndsOwed, EndsRefused, OwesFor, EndsText, RunsCore}
 use Rattle.hume_run.proofs.Texts.{told_texts, told_by_all, texts_before}
 use Rattle.hume_run.proofs.Wanting.{want_of_run, apart_from_source}
 
@@ -56,16 +56,27 @@ owed_text order source text olds news status owed owes (inr ends) = inr (record 
   ends = any_after (call_few source text) ((source, text) ∷ []) owed olds news status ends;
 })
 
-broken_owed : (order : Order) (source text : List ℕ) (ns : List (List ℕ)) (texts : List ℕ → List ℕ) (refusal : Refusal) → Breaks text refusal
-    → IsOwed order source text ns texts (owed_refused refusal)
-broken_owed (Run steps workers place traced) source text ns texts refusal breaks = inl (refusal, broken refusal breaks, refl)
-broken_owed (Check place) source text ns texts refusal breaks = inl (refusal, breaks, refl)
+-- a refused source
 
--- a refused source, whatever is asked
-pub refused_text : (order : Order) (source text : List ℕ) (olds news : List PortView) (status : Status) (refusal : Refusal) → Breaks text refusal
-    → EndsOwed (owed_refused refusal) olds news status → EndsText order source text olds news status
-refused_text order source text olds news status refusal breaks ends =
-    owed_text order source text olds news status (owed_refused refusal) (broken_owed order source text (names olds) (told_texts olds) refusal breaks) ends
+-- Each rule that the text breaks may be told.
+abbrev TellsBroken : Order → List ℕ → List ℕ → List PortView → Type 0
+TellsBroken order source text olds = (refusal : Refusal) → Breaks text refusal → IsOwed order source text (names olds) (told_texts olds) (owed_refused refusal)
+
+refused_text : (order : Order) (source text : List ℕ) (olds news : List PortView) (status : Status) → TellsBroken order source text olds
+    → EndsRefused text olds news status → EndsText order source text olds news status
+refused_text order source text olds news status tells (inl out) = inl out
+refused_text order source text olds news status tells (inr (refusal, breaks, ends)) =
+    owed_text order source text olds news status (owed_refused refusal) (tells refusal breaks) ends
+
+pub refused_run : (steps workers place : ℕ) (traced : Bool) (source text : List ℕ) (olds news : List PortView) (status : Status)
+    → EndsRefused text olds news status → EndsText (Run steps workers place traced) source text olds news status
+refused_run steps workers place traced source text olds news status =
+    refused_text (Run steps workers place traced) source text olds news status (λ refusal breaks. inl (refusal, broken refusal breaks, refl))
+
+pub refused_check : (place : ℕ) (source text : List ℕ) (olds news : List PortView) (status : Status)
+    → EndsRefused text olds news status → EndsText (Check place) source text olds news status
+refused_check place source text olds news status =
+    refused_text (Check place) source text olds news status (λ refusal breaks. inl (refusal, breaks, refl))
 
 -- a stream's port is unfit
 pub unfit_text : (steps workers place : ℕ) (traced : Bool) (source text : List ℕ) (olds news : List PortView) (status : Status) (refusal : Refusal)

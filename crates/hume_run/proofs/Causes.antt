@@ -9,13 +9,13 @@ use Rattle.hume_ports.specs.Delivery.{names_in}
 use Rattle.hume_ports.proofs.Names.{bytes_eq-self, same_name, names_in-append}
 use Rattle.port_acts.specs.Acts.{Act, wants, writes, finishes, name_of, count_of, wanted, wanted_by, written, finished, finished_by}
 use Rattle.port_acts.specs.Early.{after_reads}
-use Rattle.port_acts.specs.Ends.{Fails, Owed}
+use Rattle.port_acts.specs.Ends.{Fails, IsFew, Owed, never}
 use Rattle.port_acts.proofs.ActLists.{written-append}
 use Rattle.port_acts.proofs.Failing.{failure_since}
 use Rattle.hume_run.specs.declared.status.Status.{Status}
 use Rattle.hume_run.specs.Few.{call_few}
 use Rattle.hume_run.specs.Headline.{source_reads}
-use Rattle.hume_run.specs.Faults.{CountRose, ReadRose, HasFault, of_source, of_read, of_write, of_finish}
+use Rattle.hume_run.specs.Faults.{CountRose, ReadRose, HasFault, of_source, of_read, of_write, of_finish, HasFaultAlone, alone_write, alone_finish}
 
 or_right : (a b : Bool) → b ≡ true → (a || b) ≡ true
 or_right true b is = refl
@@ -57,3 +57,21 @@ pub has_fault : (source text : List ℕ) (owed : Owed Status) (olds news : List 
 has_fault source text owed olds news f =
     fault_of source 262145 owed olds news f.act f.before f.later f.in_order
     (failure_since (call_few source text) [] (after_reads (source_reads source) owed).acts olds news f).rose
+
+-- a call without a source
+
+module _ (owed : Owed Status) (olds news : List PortView) where
+  -- by the act that failed, which is no read
+  alone_of : (act : Act) (before later : List Act) (bytes : List ℕ) → owed.acts ≡ before ++ act ∷ later → IsFew never act bytes
+      → CountRose (count_of act) (name_of act) olds news → HasFaultAlone owed olds news
+  alone_of (wants name count) before later bytes e few rose = absurd few
+  alone_of (writes name out) before later bytes e few rose =
+      alone_write name (among_middle name (names_in (written before)) (names_in (written later)) (names_in (written owed.acts))
+      (ap (λ (acts : List Act). names_in (written acts)) e ∙ ap names_in (written-append before (writes name out ∷ later))
+      ∙ names_in-append (written before) ((name, out) ∷ written later))) rose
+  alone_of (finishes name) before later bytes e few rose =
+      alone_finish name (among_middle name (finished before) (finished later) (finished owed.acts)
+      (ap finished e ∙ flat_map-append finished_by before (finishes name ∷ later))) rose
+
+  pub has_fault_alone : Fails never [] owed.acts olds news → HasFaultAlone owed olds news
+  has_fault_alone f = alone_of f.act f.before f.later _ f.in_order f.is_few (failure_since never [] owed.acts olds news f).rose

@@ -8,12 +8,12 @@ use Rattle.hume_model.specs.declared.core_tree.Core.{Core}
 use Rattle.hume_streams.specs.Good.{IsGoodUntil}
 use Rattle.hume_streams.specs.Lines.{whole_lines}
 use Rattle.hume_ports.specs.Port.{PortView, Rose}
-use Rattle.hume_ports.specs.Ports.{of_first}
+use Rattle.hume_ports.specs.Ports.{names, of_first}
 use Rattle.hume_ports.specs.Delivery.{Pairs, Delivered, bytes_for}
 use Rattle.hume_ports.proofs.Names.{bytes_eq-self, same_name}
 use Rattle.port_acts.specs.Acts.{Act, wants, name_of, count_of, written, finished, finished_by, write_each, finish_each, FinishesLast}
 use Rattle.port_acts.specs.Early.{after_reads}
-use Rattle.port_acts.specs.Ends.{Fails, NoneRose, Owed}
+use Rattle.port_acts.specs.Ends.{Fails, NoneRose, Owed, never}
 use Rattle.port_acts.proofs.ActLists.{written-append}
 use Rattle.port_acts.proofs.Each.{all_written, finishes_write_nothing, writes_finish_nothing, finishes_are_last}
 use Rattle.port_acts.proofs.Failing.{failure_since, read_tells, finish_tells}
@@ -25,26 +25,32 @@ use Rattle.run_rounds.specs.Streams.{std_out, streams}
 use Rattle.run_rounds.specs.Writes.{writes, rounds_writes}
 use Rattle.run_rounds.specs.RunActs.{run_acts, needed}
 use Rattle.hume_run.specs.declared.order.Order.{Order}
-use Rattle.hume_run.specs.declared.order.Order.TheVariants.{Run, Check}
+use Rattle.hume_run.specs.declared.order.Order.TheVariants.{Run, Check, Demo}
 use Rattle.hume_run.specs.declared.status.Status.{Status}
 use Rattle.hume_run.specs.Streams.{unfit_line}
-use Rattle.hume_run.specs.Owed.{IsOwed, owed_refused, owed_check, owed_run, refused_line, table_writes, run_finishes}
+use Rattle.hume_run.specs.Owed.{IsOwed, owed_refused, owed_check, owed_run, owed_demo, refused_line, table_writes, demo_writes, run_finishes}
 use Rattle.hume_run.specs.Few.{CallFew, call_few}
-use Rattle.hume_run.specs.Headline.{source_reads}
+use Rattle.hume_run.specs.Headline.{OwesAlone, source_reads}
 use Rattle.hume_run.specs.Faults.{FailedInput, ReadRose}
 use Rattle.hume_run.proofs.Answering.{WantsTell, wants_apart}
 use Rattle.hume_run.proofs.Wanting.{want_of_run, no_want_of_writes}
 
 -- what a call writes
 
-pub check_written : (core : Core) → written (owed_check core).acts ≡ table_writes core
-check_written core =
-    written-append (write_each (table_writes core)) (finish_each (std_out ∷ [])) ∙ ap (λ (pairs : Pairs). pairs ++ []) (all_written (table_writes core))
-    ∙ append-nil (table_writes core)
+told_written : (told : Pairs) → written (write_each told ++ finish_each (std_out ∷ [])) ≡ told
+told_written told =
+    written-append (write_each told) (finish_each (std_out ∷ [])) ∙ ap (λ (pairs : Pairs). pairs ++ []) (all_written told)
+    ∙ append-nil told
   where
     append-nil : (pairs : Pairs) → pairs ++ [] ≡ pairs
     append-nil [] = refl
     append-nil (pair ∷ pairs) = ap (λ (others : Pairs). pair ∷ others) (append-nil pairs)
+
+pub check_written : (core : Core) → written (owed_check core).acts ≡ table_writes core
+check_written core = told_written (table_writes core)
+
+pub demo_written : (core : Core) (steps : ℕ) → written (owed_demo steps core).acts ≡ demo_writes steps core
+demo_written core steps = told_written (demo_writes steps core)
 
 abbrev pub RunsWrite : Type 0
 RunsWrite = (core : Core) (coming : Inputs) (traced : Bool) (steps : ℕ) → written (run_acts core coming traced steps) ≡ writes core coming traced steps
@@ -81,6 +87,9 @@ run_finishes_last none core coming traced steps =
 check_finishes_last : (core : Core) → FinishesLast (owed_check core).acts
 check_finishes_last core = finishes_are_last (write_each (table_writes core)) (std_out ∷ []) (writes_finish_nothing (table_writes core))
 
+demo_finishes_last : (steps : ℕ) (core : Core) → FinishesLast (owed_demo steps core).acts
+demo_finishes_last steps core = finishes_are_last (write_each (demo_writes steps core)) (std_out ∷ []) (writes_finish_nothing (demo_writes steps core))
+
 abbrev Last : Owed Status → Type 0
 Last owed = FinishesLast owed.acts
 
@@ -91,6 +100,9 @@ owed_finishes_last none (Run steps workers place traced) source text names texts
     subst Last (sym same) (run_finishes_last none accepted.core coming traced steps)
 owed_finishes_last none (Check place) source text names texts owed (inl (refusal, is, same)) = subst Last (sym same) (refl, tt)
 owed_finishes_last none (Check place) source text names texts owed (inr (accepted, is, same)) = subst Last (sym same) (check_finishes_last accepted.core)
+owed_finishes_last none (Demo number steps workers) source text names texts owed (inl (refusal, is, same)) = subst Last (sym same) (refl, tt)
+owed_finishes_last none (Demo number steps workers) source text names texts owed (inr (accepted, is, same)) =
+    subst Last (sym same) (demo_finishes_last steps accepted.core)
 
 pub all_was_written : RunsFinishNothing → (order : Order) (source text : List ℕ) (names : List (List ℕ)) (texts : List ℕ → List ℕ) (owed : Owed Status)
     (olds news : List PortView) → IsOwed order source text names texts owed
@@ -99,6 +111,12 @@ pub all_was_written : RunsFinishNothing → (order : Order) (source text : List 
 all_was_written none order source text names texts owed olds news owes f no_read no_write =
     finish_tells (call_few source text) [] (after_reads (source_reads source) owed).acts olds news f no_read no_write
     (owed_finishes_last none order source text names texts owed owes)
+
+pub all_was_written_alone : RunsFinishNothing → (order : Order) (owed : Owed Status) (olds news : List PortView) → OwesAlone order olds owed
+    → Fails never [] owed.acts olds news → NoneRose (λ port. port.read_faults) olds news → NoneRose (λ port. port.write_faults) olds news
+    → Delivered olds news (written owed.acts)
+all_was_written_alone none order owed olds news owes f no_read no_write =
+    finish_tells never [] owed.acts olds news f no_read no_write (owed_finishes_last none order [] [] (names olds) (λ name. []) owed owes)
 
 -- wants
 
@@ -120,6 +138,10 @@ owed_apart tell (Check place) source text names texts owed (inl (refusal, is, sa
     refused_apart source owed ((std_out, refused_line refusal) ∷ []) (std_out ∷ []) (ap (λ (o : Owed Status). o.acts) same)
 owed_apart tell (Check place) source text names texts owed (inr (accepted, is, same)) =
     refused_apart source owed (table_writes accepted.core) (std_out ∷ []) (ap (λ (o : Owed Status). o.acts) same)
+owed_apart tell (Demo number steps workers) source text names texts owed (inl (refusal, is, same)) =
+    refused_apart source owed ((std_out, refused_line refusal) ∷ []) (std_out ∷ []) (ap (λ (o : Owed Status). o.acts) same)
+owed_apart tell (Demo number steps workers) source text names texts owed (inr (accepted, is, same)) =
+    refused_apart source owed (demo_writes steps accepted.core) (std_out ∷ []) (ap (λ (o : Owed Status). o.acts) same)
 
 -- A want behind the source's read: one of the owed acts.
 abbrev Behind : List Act → List Act → Act → List Act → Type 0

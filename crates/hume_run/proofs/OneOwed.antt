@@ -1,10 +1,10 @@
 -- A call owes one thing.
-use Rattle.std.proofs.Common.{◌≡◌, ℕ, Bool, List, [], Option, None, Some, inl, inr, refl, sym, ap, ◌∙◌, subst}
+use Rattle.std.proofs.Common.{◌≡◌, ◌⊎◌, ℕ, Bool, List, [], Option, None, Some, inl, inr, refl, sym, ap, ◌∙◌, subst}
 use Rattle.hume_base.specs.declared.rule.Refusal.{Refusal}
 use Rattle.hume_base.specs.declared.rule.Rule.TheVariants.{C55}
 use Rattle.hume_model.specs.declared.core_tree.Core.{Core}
 use Rattle.hume_front.specs.declared.acceptance.Accepted.{Accepted}
-use Rattle.hume_front.specs.Accepted.{IsAccepted}
+use Rattle.hume_front.specs.Accepted.{IsAccepted, Breaks}
 use Rattle.hume_front.proofs.OneRefusal.{one_refusal, accepted_unbroken}
 use Rattle.hume_front.proofs.Sources.{one_accepted_core}
 use Rattle.hume_front.proofs.SomeAnswer as front
@@ -12,11 +12,12 @@ use Rattle.run_rounds.specs.Streams.{streams}
 use Rattle.run_rounds.specs.Inputs.{Inputs, AreInputs}
 use Rattle.phase_workers.specs.Runnable.{IsRunnable}
 use Rattle.hume_run.specs.declared.order.Order.{Order}
-use Rattle.hume_run.specs.declared.order.Order.TheVariants.{Run, Check}
+use Rattle.hume_run.specs.declared.order.Order.TheVariants.{Run, Check, Demo}
 use Rattle.hume_run.specs.Streams.{unfit_line}
 use Rattle.port_acts.specs.Ends.{Owed}
 use Rattle.hume_run.specs.declared.status.Status.{Status}
-use Rattle.hume_run.specs.Owed.{IsRefusal, broken, unfit, IsOwedRun, IsOwedCheck, IsOwed, owed_refused, owed_run, owed_check}
+use Rattle.demo_net.specs.Source.{demo_text}
+use Rattle.hume_run.specs.Owed.{IsRefusal, broken, unfit, IsOwedRun, IsOwed, owed_refused, owed_run, owed_check, owed_demo}
 use Rattle.hume_run.proofs.Runnable.{runnable}
 
 -- Something comes from any texts, and one thing.
@@ -26,6 +27,26 @@ SomeInputs = (core : Core) → IsRunnable core → (texts : List ℕ → List �
 abbrev pub OneInputs : Type 0
 OneInputs = (core : Core) → IsRunnable core → (texts : List ℕ → List ℕ) (first second : Inputs) → AreInputs core texts first → AreInputs core texts second
     → first ≡ second
+
+-- A refusal of the source of that text is owed, or what its accepted core owes.
+abbrev OwedBy : (Core → Owed Status) → List ℕ → Owed Status → Type 0
+OwedBy of text owed =
+    ((refusal : Refusal) × Breaks text refusal × (owed ≡ owed_refused refusal)) ⊎ ((accepted : Accepted) × IsAccepted text accepted × (owed ≡ of accepted.core))
+
+same_by : (of : Core → Owed Status) (text : List ℕ) (first second : Owed Status) → OwedBy of text first → OwedBy of text second → first ≡ second
+same_by of text first second x y = elim x [
+  | inl p ↦ elim y [
+    | inl q ↦ p.2 ∙ ap owed_refused (one_refusal text p.0 q.0 p.1 q.1) ∙ sym q.2
+    | inr q ↦ absurd (accepted_unbroken text q.0 p.0 q.1 p.1)
+  ]
+  | inr p ↦ elim y [
+    | inl q ↦ absurd (accepted_unbroken text p.0 q.0 p.1 q.1)
+    | inr q ↦ p.2 ∙ ap of (one_accepted_core text p.0 q.0 p.1 q.1) ∙ sym q.2
+  ]
+]
+
+some_by : (of : Core → Owed Status) (text : List ℕ) → (owed : Owed Status) × OwedBy of text owed
+some_by of text = elim (front.some_answer text) [ inl a ↦ (_, inr (a.0, a.1, refl)) | inr r ↦ (_, inl (r.0, r.1, refl)) ]
 
 module _ (source text : List ℕ) (names : List (List ℕ)) (texts : List ℕ → List ℕ) where
   -- the line of the first unfit stream
@@ -64,18 +85,6 @@ module _ (source text : List ℕ) (names : List (List ℕ)) (texts : List ℕ �
     ]
   ]
 
-  same_check : (first second : Owed Status) → IsOwedCheck text first → IsOwedCheck text second → first ≡ second
-  same_check first second x y = elim x [
-    | inl p ↦ elim y [
-      | inl q ↦ p.2 ∙ ap owed_refused (one_refusal text p.0 q.0 p.1 q.1) ∙ sym q.2
-      | inr q ↦ absurd (accepted_unbroken text q.0 p.0 q.1 p.1)
-    ]
-    | inr p ↦ elim y [
-      | inl q ↦ absurd (accepted_unbroken text p.0 q.0 p.1 q.1)
-      | inr q ↦ p.2 ∙ ap owed_check (same_core p.0 q.0 p.1 q.1) ∙ sym q.2
-    ]
-  ]
-
   -- a run of an accepted source owes something
   some_accepted : SomeInputs → (traced : Bool) (steps : ℕ) (a : Accepted) → IsAccepted text a → (o : Option ℕ) → unfit_in a.core ≡ o
       → (owed : Owed Status) × IsOwedRun traced steps source text names texts owed
@@ -89,15 +98,14 @@ module _ (source text : List ℕ) (names : List (List ℕ)) (texts : List ℕ �
     | inr r ↦ (_, inl (r.0, broken r.0 r.1, refl))
   ]
 
-  some_check : (owed : Owed Status) × IsOwedCheck text owed
-  some_check = elim (front.some_answer text) [ inl a ↦ (_, inr (a.0, a.1, refl)) | inr r ↦ (_, inl (r.0, r.1, refl)) ]
-
 pub one_owed : OneInputs → (order : Order) (source text : List ℕ) (names : List (List ℕ)) (texts : List ℕ → List ℕ) (first second : Owed Status)
     → IsOwed order source text names texts first → IsOwed order source text names texts second → first ≡ second
 one_owed one_inputs (Run steps workers place traced) source text names texts = same_run source text names texts one_inputs traced steps
-one_owed one_inputs (Check place) source text names texts = same_check source text names texts
+one_owed one_inputs (Check place) source text names texts = same_by owed_check text
+one_owed one_inputs (Demo number steps workers) source text names texts = same_by (owed_demo steps) (demo_text number)
 
 pub some_owed : SomeInputs → (order : Order) (source text : List ℕ) (names : List (List ℕ)) (texts : List ℕ → List ℕ)
     → (owed : Owed Status) × IsOwed order source text names texts owed
 some_owed has_inputs (Run steps workers place traced) source text names texts = some_run source text names texts has_inputs traced steps
-some_owed has_inputs (Check place) source text names texts = some_check source text names texts
+some_owed has_inputs (Check place) source text names texts = some_by owed_check text
+some_owed has_inputs (Demo number steps workers) source text names texts = some_by (owed_demo steps) (demo_text number)

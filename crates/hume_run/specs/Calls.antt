@@ -1,5 +1,5 @@
 -- Calls whose ports have room, and calls over ports with the same texts.
-use Rattle.std.specs.Prelude.{◌≡◌, ℕ, List, None, Some, IfSome}
+use Rattle.std.specs.Prelude.{◌≡◌, ℕ, List, Option, None, Some, IfSome}
 use Rattle.hume_ports.specs.Port.{PortView}
 use Rattle.hume_ports.specs.Ports.{names, left_of, place_of}
 use Rattle.hume_ports.specs.Delivery.{Delivered, Roomy}
@@ -9,9 +9,9 @@ use Rattle.hume_run.specs.declared.status.Status.{Status}
 use Rattle.hume_run.specs.declared.status.Status.TheVariants.{Usage, Fault, NoMemory}
 use Rattle.hume_run.specs.declared.order.Order.{Order}
 use Rattle.hume_run.specs.Owed.{IsOwed}
-use Rattle.hume_run.specs.Headline.{IsText, source_text}
+use Rattle.hume_run.specs.Headline.{IsText, OwesAlone, source_text}
 
--- What a call owes over these ports, as its source and the other texts say: those that the ports tell.
+-- What a call with a source owes over these ports, as the source and the other texts say: those that the ports tell.
 pub record OwesOver (order : Order) (source : List ℕ) (ports : List PortView) (owed : Owed Status) : Type 0 where
   pub text : List ℕ
   pub told : IfSome (left_of source ports) (λ left. text ≡ source_text left)
@@ -19,14 +19,19 @@ pub record OwesOver (order : Order) (source : List ℕ) (ports : List PortView) 
   pub texts_told : IsText source ports texts
   pub owes : IsOwed order source text (names ports) texts owed
 
+-- What a call owes over these ports, with a source of that name or with none.
+abbrev pub Owes : Order → Option (List ℕ) → List PortView → Owed Status → Type 0
+Owes order None ports owed = OwesAlone order ports owed
+Owes order (Some source) ports owed = OwesOver order source ports owed
+
 -- Each port has room for what the call owes to it.
-abbrev pub HaveRoom : Order → List ℕ → List PortView → Type 0
-HaveRoom order source ports = (owed : Owed Status) → OwesOver order source ports owed → Roomy ports (written owed.acts)
+abbrev pub HaveRoom : Order → Option (List ℕ) → List PortView → Type 0
+HaveRoom order source ports = (owed : Owed Status) → Owes order source ports owed → Roomy ports (written owed.acts)
 
 -- The call gave the answer that it owes, and wrote just what it owes.
-pub record GivesOwed (order : Order) (source : List ℕ) (old new : List PortView) (status : Status) : Type 0 where
+pub record GivesOwed (order : Order) (source : Option (List ℕ)) (old new : List PortView) (status : Status) : Type 0 where
   pub owed : Owed Status
-  pub owes : OwesOver order source old owed
+  pub owes : Owes order source old owed
   pub answer : status ≡ owed.answer
   pub delivered : Delivered old new (written owed.acts)
 

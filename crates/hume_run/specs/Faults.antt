@@ -37,6 +37,13 @@ pub data HasFault (source : List ℕ) (owed : Owed Status) (old new : List PortV
   of_finish : (name : List ℕ) → is_among name (finished owed.acts) ≡ true → CountRose (λ port. port.finish_faults) name old new
       → HasFault source owed old new
 
+-- So is one of a port that a call without a source writes to or finishes.
+pub data HasFaultAlone (owed : Owed Status) (old new : List PortView) : Type 0 where
+  alone_write : (name : List ℕ) → is_among name (names_in (written owed.acts)) ≡ true → CountRose (λ port. port.write_faults) name old new
+      → HasFaultAlone owed old new
+  alone_finish : (name : List ℕ) → is_among name (finished owed.acts) ≡ true → CountRose (λ port. port.finish_faults) name old new
+      → HasFaultAlone owed old new
+
 -- A read of an input stream's port failed before a round of the run. The table and exactly the earlier rounds were written, and
 -- the whole lines taken from the port have fewer good values than the stream has asserted and may need in the round.
 pub record FailedInput (core : Core) (coming : Inputs) (traced : Bool) (steps : ℕ) (old new : List PortView) : Type 0 where

@@ -1,11 +1,11 @@
 -- What every call of the tool promises. The clauses of the call `hume` cite this page.
-use Rattle.std.specs.Prelude.{◌≡◌, ◌⊎◌, ◌+◌, ⊤, ℕ, false, List, [], ◌∷◌, take, None, IfSome}
+use Rattle.std.specs.Prelude.{◌≡◌, ◌⊎◌, ◌+◌, ⊤, ℕ, false, List, [], ◌∷◌, take, Option, None, Some, IfSome, IsSomeAnd}
 use Rattle.std.specs.Option.{MatchOption}
 use Rattle.std.specs.Str.{bytes_eq}
 use Rattle.hume_base.specs.declared.limits.TheConstants.{MAX_SOURCE_BYTES}
 use Rattle.hume_ports.specs.Port.{PortView}
 use Rattle.hume_ports.specs.Ports.{names, place_of, left_of}
-use Rattle.port_acts.specs.Ends.{Owed, EndsAs}
+use Rattle.port_acts.specs.Ends.{Owed, EndsAs, never}
 use Rattle.port_acts.specs.Early.{Reads, after_reads, EndsEarly}
 use Rattle.run_rounds.specs.Streams.{std_out}
 use Rattle.hume_run.specs.declared.status.Status.{Status}
@@ -18,7 +18,7 @@ use Rattle.hume_run.specs.Few.{source_few, call_few}
 -- The words have no form, or there is no port `std_out`, or none with the source's name.
 abbrev pub IsUsage : List (List ℕ) → List (List ℕ) → Type 0
 IsUsage words names = MatchOption (order_of words) ⊤ (λ order.
-    (place_of std_out names ≡ None) ⊎ (place_of (source_of words order) names ≡ None))
+    (place_of std_out names ≡ None) ⊎ IsSomeAnd (source_of words order) (λ source. place_of source names ≡ None))
 
 -- a source is read to its end, or to one byte more than a source may have
 abbrev pub source_text : List ℕ → List ℕ
@@ -44,9 +44,22 @@ pub record AnswersFrom (order : Order) (source : List ℕ) (old new : List PortV
   pub owes : IsOwed order source text (names old) texts owed
   pub ends : EndsAs (call_few source text) (after_reads (source_reads source) owed) Fault old new status
 
--- Words with a form, over ports that are there, are answered as the source says. Or the call ends early, when it has read
--- nothing but its source: a read failed, or memory ran out.
+-- what a call without a source owes: no text is spoken of
+abbrev pub OwesAlone : Order → List PortView → Owed Status → Type 0
+OwesAlone order ports owed = IsOwed order [] [] (names ports) (λ name. []) owed
+
+-- The call reads nothing, and ends as one that owes what the words ask for, or memory ran out and no port was touched.
+abbrev pub AnswersAlone : Order → List PortView → List PortView → Status → Type 0
+AnswersAlone order old new status =
+    ((status ≡ NoMemory) × (new ≡ old)) ⊎ ((owed : Owed Status) × OwesAlone order old owed × EndsAs never owed Fault old new status)
+
+-- A call with a source is answered as the source says. Or it ends early, when it has read nothing but its source: a read failed, or
+-- memory ran out. A demo has no source.
+abbrev pub Answers : Order → Option (List ℕ) → List PortView → List PortView → Status → Type 0
+Answers order None old new status = AnswersAlone order old new status
+Answers order (Some source) old new status =
+    EndsEarly (source_few source) (source_reads source) NoMemory Fault old new status ⊎ AnswersFrom order source old new status
+
+-- So are words with a form, over ports that are there.
 abbrev pub Headline : List (List ℕ) → List PortView → List PortView → Status → Type 0
-Headline words old new status = IfSome (order_of words) (λ order. (status ≡ Usage → ⊥)
-    → EndsEarly (source_few (source_of words order)) (source_reads (source_of words order)) NoMemory Fault old new status
-    ⊎ AnswersFrom order (source_of words order) old new status)
+Headline words old new status = IfSome (order_of words) (λ order. (status ≡ Usage → ⊥) → Answers order (source_of words order) old new status)

@@ -14,11 +14,13 @@ use Rattle.run_rounds.specs.Streams.{std_out, streams, outputs, ports_of}
 use Rattle.run_rounds.specs.Inputs.{Inputs, AreInputs}
 use Rattle.run_rounds.specs.Writes.{span_of, blocked_round}
 use Rattle.run_rounds.specs.RunActs.{run_acts}
-use Rattle.trace_print.specs.table.Table.{space_table}
+use Rattle.demo_rounds.specs.Chains.{demo_lines}
+use Rattle.trace_print.specs.table.Table.{space_table, total_line_of}
+use Rattle.demo_net.specs.Source.{demo_text}
 use Rattle.hume_run.specs.declared.status.Status.{Status}
 use Rattle.hume_run.specs.declared.status.Status.TheVariants.{Done, Refused, BadValue}
 use Rattle.hume_run.specs.declared.order.Order.{Order}
-use Rattle.hume_run.specs.declared.order.Order.TheVariants.{Run, Check}
+use Rattle.hume_run.specs.declared.order.Order.TheVariants.{Run, Check, Demo}
 use Rattle.hume_run.specs.Streams.{unfit_line}
 
 -- refusals
@@ -65,6 +67,16 @@ owed_run traced steps core coming = record {
   answer = run_status (blocked_round core coming (span_of traced) steps);
 }
 
+-- a demo
+
+-- a demo tells the bounds of all boxes together, and then the total of each chain
+abbrev pub demo_writes : ℕ → Core → Pairs
+demo_writes steps core = map (λ line. (std_out, line)) (total_line_of core ∷ demo_lines core steps)
+
+-- it finishes `std_out`
+abbrev pub owed_demo : ℕ → Core → Owed Status
+owed_demo steps core = record { acts = write_each (demo_writes steps core) ++ finishes std_out ∷ []; answer = Done }
+
 -- what the words ask for
 
 -- What a run of the source of that text owes, over ports of these names of which each has that text to read.
@@ -80,7 +92,14 @@ IsOwedCheck text owed =
     ((refusal : Refusal) × Breaks text refusal × (owed ≡ owed_refused refusal))
     ⊎ ((accepted : Accepted) × IsAccepted text accepted × (owed ≡ owed_check accepted.core))
 
--- What a call owes that the words ask for.
+-- What the demo of the net of that number owes: its source is made, and accepted or refused as any.
+abbrev pub IsOwedDemo : ℕ → ℕ → Owed Status → Type 0
+IsOwedDemo number steps owed =
+    ((refusal : Refusal) × Breaks (demo_text number) refusal × (owed ≡ owed_refused refusal))
+    ⊎ ((accepted : Accepted) × IsAccepted (demo_text number) accepted × (owed ≡ owed_demo steps accepted.core))
+
+-- What a call owes that the words ask for. A demo asks for nothing of a port.
 abbrev pub IsOwed : Order → List ℕ → List ℕ → List (List ℕ) → (List ℕ → List ℕ) → Owed Status → Type 0
 IsOwed (Run steps workers place traced) source text names texts owed = IsOwedRun traced steps source text names texts owed
 IsOwed (Check place) source text names texts owed = IsOwedCheck text owed
+IsOwed (Demo number steps workers) source text names texts owed = IsOwedDemo number steps owed

@@ -1,11 +1,14 @@
--- The words of a call: `check SOURCE`, or `run STEPS WORKERS SOURCE PORT..`, or `trace` in place of `run`.
+-- The words of a call: `check SOURCE`, or `run STEPS WORKERS SOURCE PORT..`, or `trace` in place of `run`, or
+-- `demo NUMBER STEPS WORKERS`.
 use Rattle.std.specs.Prelude.{ℕ, Bool, true, false, ◌&&◌, List, [], ◌∷◌, length, Option, None, Some, if◌then◌else◌, nat_le, codes}
 use Rattle.std.specs.List.{slice_index_or}
 use Rattle.std.specs.Str.{bytes_eq, all_ascii_digits}
 use Rattle.std.specs.Str.Parse.{digits_value}
-use Rattle.hume_base.specs.declared.limits.TheConstants.{MAX_SUPERSTEPS, MAX_WORKERS}
+use Rattle.hume_base.specs.declared.limits.TheConstants.{MAX_SUPERSTEPS}
+use Rattle.demo_net.specs.declared.source.TheConstants.{MAX_NUMBER}
+use Rattle.hume_run.specs.declared.words.reading.TheConstants.{MAX_WORKERS}
 use Rattle.hume_run.specs.declared.order.Order.{Order}
-use Rattle.hume_run.specs.declared.order.Order.TheVariants.{Run, Check}
+use Rattle.hume_run.specs.declared.order.Order.TheVariants.{Run, Check, Demo}
 
 -- one to nine decimal digits
 abbrev pub is_number : List ℕ → Bool
@@ -20,14 +23,25 @@ abbrev pub traced_of : List ℕ → Option Bool
 traced_of command = if bytes_eq command (codes "run") then Some false else if bytes_eq command (codes "trace") then Some true else None
 
 -- no more supersteps than are allowed, and one or more workers
+abbrev pub is_run : ℕ → ℕ → Bool
+is_run steps workers = nat_le steps MAX_SUPERSTEPS && (nat_le 1 workers && nat_le workers MAX_WORKERS)
+
+-- a run of a source
 abbrev pub run_of : Option Bool → Option ℕ → Option ℕ → Option Order
-run_of (Some traced) (Some steps) (Some workers) =
-    if nat_le steps MAX_SUPERSTEPS && (nat_le 1 workers && nat_le workers MAX_WORKERS) then Some (Run steps workers 3 traced) else None
+run_of (Some traced) (Some steps) (Some workers) = if is_run steps workers then Some (Run steps workers 3 traced) else None
 run_of _ _ _ = None
+
+-- a demo of the net of a number that isn't too great
+abbrev pub demo_of : Option ℕ → Option ℕ → Option ℕ → Option Order
+demo_of (Some number) (Some steps) (Some workers) = if nat_le number MAX_NUMBER && is_run steps workers then Some (Demo number steps workers) else None
+demo_of _ _ _ = None
 
 -- what the words ask for, if they have a form
 abbrev pub order_of : List (List ℕ) → Option Order
 order_of (command ∷ source ∷ []) = if bytes_eq command (codes "check") then Some (Check 1) else None
+order_of (command ∷ first ∷ second ∷ third ∷ []) =
+    if bytes_eq command (codes "demo") then demo_of (number_of first) (number_of second) (number_of third)
+    else run_of (traced_of command) (number_of first) (number_of second)
 order_of (command ∷ steps ∷ workers ∷ source ∷ ports) = run_of (traced_of command) (number_of steps) (number_of workers)
 order_of _ = None
 
@@ -35,8 +49,22 @@ order_of _ = None
 abbrev pub steps_of : Order → ℕ
 steps_of (Run steps workers source traced) = steps
 steps_of (Check source) = 0
+steps_of (Demo number steps workers) = steps
 
--- the name of the source's port
-abbrev pub source_of : List (List ℕ) → Order → List ℕ
-source_of words (Run steps workers source traced) = slice_index_or words source []
-source_of words (Check source) = slice_index_or words source []
+-- workers; none of a check
+abbrev pub workers_of : Order → ℕ
+workers_of (Run steps workers source traced) = workers
+workers_of (Check source) = 0
+workers_of (Demo number steps workers) = workers
+
+-- the number of the net of a demo; 0 of a source
+abbrev pub net_of : Order → ℕ
+net_of (Run steps workers source traced) = 0
+net_of (Check source) = 0
+net_of (Demo number steps workers) = number
+
+-- the name of the source's port; a demo has none
+abbrev pub source_of : List (List ℕ) → Order → Option (List ℕ)
+source_of words (Run steps workers source traced) = Some (slice_index_or words source [])
+source_of words (Check source) = Some (slice_index_or words source [])
+source_of words (Demo number steps workers) = None

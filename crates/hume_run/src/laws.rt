@@ -1,5 +1,5 @@
 //! Laws of the definitions, as contracts of functions that do nothing.
-ghost use Rattle.std.specs.Prelude.{◌≡◌, ◌⊎◌, ◌++◌, ◌∷◌, [], ℕ, Bool, List, None, Some, false, true, slice_get};
+ghost use Rattle.std.specs.Prelude.{◌≡◌, ◌⊎◌, ◌++◌, ◌∷◌, [], ℕ, Bool, List, None, Some, IsSomeAnd, false, true, slice_get};
 ghost use Rattle.std.specs.Str.{bytes_eq};
 ghost use Rattle.hume_base.specs.declared.rule.Refusal.{Refusal};
 ghost use Rattle.hume_model.specs.declared.core_tree.BoxC.{BoxC};
@@ -15,7 +15,7 @@ ghost use Rattle.hume_ports.specs.Ports.{is_among, names, place_of};
 ghost use Rattle.hume_ports.specs.Delivery.{Delivered, names_in};
 ghost use Rattle.port_acts.specs.Acts.{finished, wanted, written};
 ghost use Rattle.port_acts.specs.Early.{after_reads};
-ghost use Rattle.port_acts.specs.Ends.{Fails, NoneRose, Owed, bytes_of};
+ghost use Rattle.port_acts.specs.Ends.{Fails, NoneRose, Owed, bytes_of, never};
 ghost use Rattle.hume_front.specs.declared.acceptance.Accepted.{Accepted};
 ghost use Rattle.hume_front.specs.Accepted.{IsAccepted};
 ghost use Rattle.run_rounds.specs.Inputs.{Inputs, AreInputs};
@@ -25,12 +25,12 @@ ghost use Rattle.hume_run.specs.declared.order.Order.{Order};
 ghost use Rattle.hume_run.specs.declared.status.Status.{Status};
 ghost use Rattle.hume_run.specs.declared.status.Status.TheVariants.{Usage, NoMemory};
 ghost use Rattle.hume_run.specs.Streams.{unfit_line};
-ghost use Rattle.hume_run.specs.Owed.{IsOwed, owed_refused, owed_check, owed_run, refused_line, run_finishes, table_writes};
+ghost use Rattle.hume_run.specs.Owed.{IsOwed, owed_refused, owed_check, owed_demo, owed_run, demo_writes, refused_line, run_finishes, table_writes};
 ghost use Rattle.hume_run.specs.Few.{call_few};
-ghost use Rattle.hume_run.specs.Headline.{source_reads, Headline};
+ghost use Rattle.hume_run.specs.Headline.{source_reads, Headline, OwesAlone};
 ghost use Rattle.hume_run.specs.Words.{order_of, source_of};
 ghost use Rattle.hume_run.specs.Calls.{GivesOwed, HaveRoom, HaveSameTexts, IsThrough};
-ghost use Rattle.hume_run.specs.Faults.{FailedInput, HasFault, ReadRose};
+ghost use Rattle.hume_run.specs.Faults.{FailedInput, HasFault, HasFaultAlone, ReadRose};
 
 use run_rounds::{
     each_run_has_inputs, inputs_are_unique, inputs_have_types, runs_write_their_lines,
@@ -72,17 +72,19 @@ pub fn calls_with_room_are_answered()
 /// and the same bytes to each port that had told the same: however their reads cut the texts.
 pub fn equal_calls_end_alike()
     ensures { (words : List (List ℕ)) (order : Order) (old new others later : List PortView) (status other : Status) → order_of words ≡ Some order
-        → (place_of (source_of words order) (names old) ≡ None → ⊥) → HaveSameTexts old others → Headline words old new status → Headline words others later other
+        → (IsSomeAnd (source_of words order) (λ source. place_of source (names old) ≡ None) → ⊥) → HaveSameTexts old others → Headline words old new status → Headline words others later other
         → IsThrough status → IsThrough other
         → (status ≡ other) × ((name had : List ℕ) → bytes_of name old ≡ Some had → bytes_of name others ≡ Some had → bytes_of name new ≡ bytes_of name later) }
 {
     inputs_are_unique();
 }
 
-/// A refused call writes its one line, a check the table, and a run the table and then what its inputs give.
+/// A refused call writes its one line, a check the table, a run the table and then what its inputs give, and a demo the bounds of all
+/// boxes together and its chains.
 pub fn calls_write_their_lines()
     ensures refused { (refusal : Refusal) → written (owed_refused refusal).acts ≡ (std_out, refused_line refusal) ∷ [] }
     ensures check { (core : Core) → written (owed_check core).acts ≡ table_writes core }
+    ensures demo { (core : Core) (steps : ℕ) → written (owed_demo steps core).acts ≡ demo_writes steps core }
     ensures run { (core : Core) (coming : Inputs) (traced : Bool) (steps : ℕ)
         → written (owed_run traced steps core coming).acts ≡ table_writes core ++ writes core coming traced steps }
 {
@@ -101,10 +103,12 @@ pub fn runs_touch_their_ports()
     wants_stand_before_rounds();
 }
 
-/// A fault comes only where a count of one of the call's ports rose.
+/// A fault comes only where a count of one of the call's ports rose. That of a call without a source comes where a write count or a
+/// finish count rose.
 pub fn faults_come_from_their_ports()
-    ensures { (source text : List ℕ) (owed : Owed Status) (old new : List PortView)
+    ensures sourced { (source text : List ℕ) (owed : Owed Status) (old new : List PortView)
         → Fails (call_few source text) [] (after_reads (source_reads source) owed).acts old new → HasFault source owed old new }
+    ensures alone { (owed : Owed Status) (old new : List PortView) → Fails never [] owed.acts old new → HasFaultAlone owed old new }
 {}
 
 /// A fault where only finish counts rose came when all was written. One where only the read count of the source's port rose came
@@ -117,6 +121,8 @@ pub fn faults_tell_what_was_written()
         → IsOwed order source text names texts owed → Fails (call_few source text) [] (after_reads (source_reads source) owed).acts old new
         → NoneRose (λ port. port.write_faults) old new → NoneRose (λ port. port.finish_faults) old new
         → ((name : List ℕ) → bytes_eq name source ≡ false → ReadRose name old new → ⊥) → Delivered old new [] }
+    ensures alone { (order : Order) (owed : Owed Status) (old new : List PortView) → OwesAlone order old owed → Fails never [] owed.acts old new
+        → NoneRose (λ port. port.read_faults) old new → NoneRose (λ port. port.write_faults) old new → Delivered old new (written owed.acts) }
 {
     runs_write_their_lines();
     wants_stand_before_rounds();

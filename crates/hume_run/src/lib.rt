@@ -16,6 +16,7 @@
 #![tactic(auto)]
 
 mod check;
+mod demo;
 mod laws;
 mod lines;
 mod order;

@@ -16,16 +16,23 @@ pub enum Order {
     Check {
         source: u32,
     },
+    /// Show the net of `demo` that is made for `number`, by `steps` supersteps, on `workers` workers.
+    Demo {
+        number: u32,
+        steps: u32,
+        workers: u32,
+    },
 }
 
 impl Order {
-    /// The place of the word that names the source's port.
-    pub fn source(&self) -> u32
+    /// The place of the word that names the source's port. A demo has none.
+    pub fn source(&self) -> Option<u32>
         ensures { result ≡ source_place self.now }
     {
         match self {
-            Order::Run { source, .. } => *source,
-            Order::Check { source } => *source,
+            Order::Run { source, .. } => Some(*source),
+            Order::Check { source } => Some(*source),
+            Order::Demo { .. } => None,
         }
     }
 }

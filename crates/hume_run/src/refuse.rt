@@ -3,9 +3,8 @@ ghost use Rattle.hume_front.specs.Accepted.{IsUnaccepted};
 ghost use Rattle.hume_ports.specs.Ports.{names};
 ghost use Rattle.port_acts.specs.Places.{IsPlaceOf};
 ghost use Rattle.run_rounds.specs.Streams.{std_out};
-ghost use Rattle.hume_run.specs.declared.order.Order.{Order};
 ghost use Rattle.hume_run.specs.Owed.{owed_refused};
-ghost use Rattle.hume_run.specs.inner.Ended.{EndsOwed, EndsText};
+ghost use Rattle.hume_run.specs.inner.Ended.{EndsOwed, EndsRefused};
 
 use crate::lines::refused_line;
 use crate::status::Status;
@@ -23,8 +22,7 @@ pub fn end_unaccepted(
     error: FrontError,
 ) -> Status
     requires { IsPlaceOf std_out (names (map view ports.old)) out }
-    ensures { (order : Order) (source text : List ℕ) → IsUnaccepted text error
-        → EndsText order source text (map view ports.old) (map view ports.new) result }
+    ensures { (text : List ℕ) → IsUnaccepted text error → EndsRefused text (map view ports.old) (map view ports.new) result }
 {
     match error {
         FrontError::Refused(refusal) => refuse(alloc, ports, out, refusal),

@@ -10,13 +10,14 @@ mod making;
 mod opening;
 mod streams;
 
-ghost use Rattle.std.specs.Prelude.{◌≡◌, ◌⊎◌, ℕ, List, map};
+ghost use Rattle.std.specs.Prelude.{◌≡◌, ◌≤◌, ◌⊎◌, ℕ, List, map};
 ghost use Rattle.hume_base.specs.declared.rule.Rule.TheVariants.{C55};
 ghost use Rattle.hume_front.specs.Accepted.{IsAccepted};
 ghost use Rattle.hume_ports.specs.Ports.{names};
 ghost use Rattle.port_acts.specs.Places.{IsPlaceOf};
 ghost use Rattle.run_rounds.specs.Streams.{ArePlacesOf, ArePortsApart, std_out};
 ghost use Rattle.hume_run.specs.declared.order.Order.TheVariants.{Run};
+ghost use Rattle.hume_run.specs.declared.words.reading.TheConstants.{MAX_WORKERS};
 ghost use Rattle.hume_run.specs.inner.Ended.{EndsText, RunsOut, RunsCore};
 
 use crate::refuse::{end_unaccepted, refuse};
@@ -29,19 +30,26 @@ use hume_front::{Accepted, accept};
 use hume_ports::Port;
 use run_rounds::wants_stand_before_rounds;
 use std::alloc::Global;
+use std::thread::Threads;
+use turn_workers::Gate;
 
-/// Runs a source of that text for `steps` supersteps. `out` is the place of `std_out`, and `source` the name of the source's port.
-pub fn run_text(
+/// Runs a source of that text for `steps` supersteps on `workers` workers. `out` is the place of `std_out`, and `source` the name of the
+/// source's port.
+pub fn run_text<R: Threads + Sync, G: Gate>(
+    rt: &R,
     alloc: Global,
     ports: &mut [Box<dyn Port>],
     steps: u32,
+    workers: u32,
     traced: bool,
     source: &[u8],
     text: &[u8],
     out: usize,
+    gate: &G,
 ) -> Status
-    requires { IsPlaceOf std_out (names (map view ports.old)) out }
-    ensures { (workers place : ℕ) → EndsText (Run steps workers place traced) source.now text.now (map view ports.old) (map view ports.new) result }
+    requires workers { workers ≤ MAX_WORKERS }
+    requires out { IsPlaceOf std_out (names (map view ports.old)) out }
+    ensures { (place : ℕ) → EndsText (Run steps workers place traced) source.now text.now (map view ports.old) (map view ports.new) result }
 {
     wants_stand_before_rounds();
     let accepted = match accept(alloc, text) {
@@ -49,7 +57,9 @@ pub fn run_text(
         Err(error) => return end_unaccepted(alloc, ports, out, error),
     };
     match find_places(alloc, ports, &accepted.core, source) {
-        Ok(places) => run_accepted(alloc, ports, steps, traced, accepted, places, out),
+        Ok(places) => {
+            run_accepted(rt, alloc, ports, steps, workers, traced, accepted, places, out, gate)
+        },
         Err(PlacesError::Unfit(line)) => refuse(alloc, ports, out, unfit_at(line)),
         Err(PlacesError::NoMemory) => Status::NoMemory,
     }
@@ -65,15 +75,19 @@ fn unfit_at(line: u32) -> Refusal
 }
 
 // Runs an accepted source. The ports of the streams are given by their places, one for each node.
-fn run_accepted(
+fn run_accepted<R: Threads + Sync, G: Gate>(
+    rt: &R,
     alloc: Global,
     ports: &mut [Box<dyn Port>],
     steps: u32,
+    workers: u32,
     traced: bool,
     accepted: Accepted,
     places: Vec<usize>,
     out: usize,
+    gate: &G,
 ) -> Status
+    requires workers { workers ≤ MAX_WORKERS }
     requires accepted { (text : List ℕ) × IsAccepted text accepted }
     requires places { ArePlacesOf accepted.core (names (map view ports.old)) places.items }
     requires apart { ArePortsApart accepted.core }
@@ -82,7 +96,7 @@ fn run_accepted(
         ⊎ RunsCore traced steps accepted.core (map view ports.old) (map view ports.new) result }
 {
     match open(alloc, accepted, places, out, traced) {
-        Ok(opened) => run_opened(opened, ports, steps, out),
+        Ok(opened) => run_opened(rt, opened, ports, steps, workers, out, gate),
         Err(_) => Status::NoMemory,
     }
 }

@@ -1,4 +1,4 @@
-ghost use Rattle.std.specs.Prelude.{◌≡◌, ◌↔◌, ◌⊎◌, map, string_bytes};
+ghost use Rattle.std.specs.Prelude.{◌≡◌, ◌≤◌, ◌↔◌, ◌⊎◌, map, string_bytes, IsSome};
 ghost use Rattle.hume_ports.specs.Ports.{names};
 ghost use Rattle.port_acts.specs.Early.{EndsEarly};
 ghost use Rattle.port_acts.specs.Places.{IsPlaceOf};
@@ -6,9 +6,13 @@ ghost use Rattle.hume_run.specs.declared.status.Status.TheVariants.{Fault, NoMem
 ghost use Rattle.hume_run.specs.Few.{source_few};
 ghost use Rattle.hume_run.specs.Headline.{Headline, IsUsage, AnswersFrom, source_reads};
 ghost use Rattle.hume_run.specs.inner.Ended.{EndsText};
+ghost use Rattle.hume_run.specs.inner.Places.{source_place};
+ghost use Rattle.hume_run.specs.Words.{workers_of};
+ghost use Rattle.hume_run.specs.declared.words.reading.TheConstants.{MAX_WORKERS};
 ghost use Rattle.run_rounds.specs.Streams.{std_out};
 
 use crate::check::check_text;
+use crate::demo::show_demo;
 use crate::order::Order;
 use crate::run::run_text;
 use crate::source::{SourceError, read_source};
@@ -16,9 +20,18 @@ use crate::status::Status;
 use crate::words::read_words;
 use hume_ports::{Port, find};
 use std::alloc::Global;
+use std::thread::Threads;
+use turn_workers::Gate;
 
-/// Does what the words ask for, over the ports, and says how it ended. Of two ports with one name the first is meant.
-pub fn hume(alloc: Global, words: &[String], ports: &mut [Box<dyn Port>]) -> Status
+/// Does what the words ask for, over the ports, and says how it ended. Of two ports with one name the first is meant. A worker goes
+/// through the gate before each execute step.
+pub fn hume<R: Threads + Sync, G: Gate>(
+    rt: &R,
+    alloc: Global,
+    words: &[String],
+    ports: &mut [Box<dyn Port>],
+    gate: &G,
+) -> Status
     ensures usage { (result ≡ Status.Usage) ↔ IsUsage (map string_bytes words.now) (names (map view ports.old)) }
     ensures idle { result ≡ Status.Usage → map view ports.new ≡ map view ports.old }
     ensures run { Headline (map string_bytes words.now) (map view ports.old) (map view ports.new) result }
@@ -29,49 +42,70 @@ pub fn hume(alloc: Global, words: &[String], ports: &mut [Box<dyn Port>]) -> Sta
     let Some(out) = find(ports, "std_out") else {
         return Status::Usage;
     };
-    let name = words[order.source() as usize].as_str();
-    let Some(at) = find(ports, name) else {
-        return Status::Usage;
-    };
-    answer(alloc, ports, order, name, at, out)
+    match order {
+        Order::Demo {
+            number,
+            steps,
+            workers,
+        } => show_demo(rt, alloc, ports, number, steps, workers, out, gate),
+        Order::Run { source, .. } | Order::Check { source } => {
+            let name = words[source as usize].as_str();
+            let Some(at) = find(ports, name) else {
+                return Status::Usage;
+            };
+            answer(rt, alloc, ports, order, name, at, out, gate)
+        }
+    }
 }
 
-// Reads the source from the port at the place `at`, and goes on by the words.
-fn answer(
+// Reads the source from the port at the place `at`, and goes on by the words, which name a source.
+fn answer<R: Threads + Sync, G: Gate>(
+    rt: &R,
     alloc: Global,
     ports: &mut [Box<dyn Port>],
     order: Order,
     name: &str,
     at: usize,
     out: usize,
+    gate: &G,
 ) -> Status
+    requires sourced { IsSome (source_place order) }
+    requires workers { workers_of order ≤ MAX_WORKERS }
     requires source { IsPlaceOf name.now (names (map view ports.old)) at }
     requires out { IsPlaceOf std_out (names (map view ports.old)) out }
     ensures { EndsEarly (source_few name.now) (source_reads name.now) NoMemory Fault (map view ports.old) (map view ports.new) result
         ⊎ AnswersFrom order name.now (map view ports.old) (map view ports.new) result }
 {
     match read_source(alloc, ports, at) {
-        Ok(text) => answer_text(alloc, ports, order, name.as_bytes(), &text, out),
+        Ok(text) => answer_text(rt, alloc, ports, order, name.as_bytes(), &text, out, gate),
         Err(SourceError::Failed) => Status::Fault,
         Err(SourceError::NoMemory) => Status::NoMemory,
     }
 }
 
-fn answer_text(
+fn answer_text<R: Threads + Sync, G: Gate>(
+    rt: &R,
     alloc: Global,
     ports: &mut [Box<dyn Port>],
     order: Order,
     source: &[u8],
     text: &[u8],
     out: usize,
+    gate: &G,
 ) -> Status
-    requires { IsPlaceOf std_out (names (map view ports.old)) out }
+    requires sourced { IsSome (source_place order) }
+    requires workers { workers_of order ≤ MAX_WORKERS }
+    requires out { IsPlaceOf std_out (names (map view ports.old)) out }
     ensures { EndsText order source.now text.now (map view ports.old) (map view ports.new) result }
 {
     match order {
-        Order::Run { steps, traced, .. } => {
-            run_text(alloc, ports, steps, traced, source, text, out)
-        }
+        Order::Run {
+            steps,
+            workers,
+            traced,
+            ..
+        } => run_text(rt, alloc, ports, steps, workers, traced, source, text, out, gate),
         Order::Check { .. } => check_text(alloc, ports, text, out),
+        Order::Demo { .. } => unreachable!(),
     }
 }

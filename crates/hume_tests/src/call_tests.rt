@@ -5,6 +5,8 @@ use hume_ports::{Fail, MemPort, Port, read_at};
 use hume_run::{Status, hume};
 use std::alloc::{AllocError, Global};
 use std::test::Fail as Stop;
+use std::thread::Threads;
+use turn_workers::OpenGate;
 
 const ADD_ONE: &[u8] =
     b"box b in (x :: int 32) out (y :: int 32) match (x) -> (x + 1) ; stream s from \"i\" ;
@@ -33,9 +35,14 @@ fn four_ports(
 }
 
 // How the call of these words, parted by blanks, ends.
-fn called(alloc: Global, words: &str, ports: &mut [Box<dyn Port>]) -> Result<Status, AllocError> {
+fn called(
+    rt: &(impl Threads + Sync),
+    alloc: Global,
+    words: &str,
+    ports: &mut [Box<dyn Port>],
+) -> Result<Status, AllocError> {
     let words = words_of(alloc, words)?;
-    Ok(hume(alloc, &words, ports))
+    Ok(hume(rt, alloc, &words, ports, &OpenGate))
 }
 
 fn is_written(ports: &[Box<dyn Port>], at: usize, bytes: &[u8]) -> bool {
@@ -59,15 +66,20 @@ fn bytes_left(ports: &mut [Box<dyn Port>], at: usize) -> Option<usize> {
 fn a_failing_write_leaves_a_front_of_its_bytes(rt: HostRuntime) -> Result<(), Stop> {
     let alloc = rt.alloc();
     let mut ports = four_ports(alloc, ADD_ONE, &[Fail { call: 2, taken: 1 }])?;
-    let status = called(alloc, "run 4 1 p i o", &mut ports)?;
+    let status = called(&rt, alloc, "run 4 1 p i o", &mut ports)?;
     assert!(rt; status == Status::Fault && is_written(&ports, 2, b"2\n3"));
     Ok(())
 }
 
 // Whether a check of the port `p` refuses it as too long, and leaves so many bytes to read.
-fn is_too_long(alloc: Global, source: &[u8], left: usize) -> Result<bool, AllocError> {
+fn is_too_long(
+    rt: &(impl Threads + Sync),
+    alloc: Global,
+    source: &[u8],
+    left: usize,
+) -> Result<bool, AllocError> {
     let mut ports = four_ports(alloc, source, &[])?;
-    let status = called(alloc, "check p", &mut ports)?;
+    let status = called(rt, alloc, "check p", &mut ports)?;
     Ok(
         status == Status::Refused
             && is_written(&ports, 3, b"refused 70 line 1\n")
@@ -79,6 +91,6 @@ fn is_too_long(alloc: Global, source: &[u8], left: usize) -> Result<bool, AllocE
 fn a_source_is_read_one_byte_past_its_limit_and_no_further(rt: HostRuntime) -> Result<(), Stop> {
     let alloc = rt.alloc();
     let source = vec![in alloc; b' '; MAX_SOURCE_BYTES + 8]?;
-    assert!(rt; is_too_long(alloc, &source, 7)?);
+    assert!(rt; is_too_long(&rt, alloc, &source, 7)?);
     Ok(())
 }

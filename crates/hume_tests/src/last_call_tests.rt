@@ -4,6 +4,7 @@ use hume_run::Status;
 use std::alloc::Global;
 use std::process::Abort;
 use std::test::Fail as Stop;
+use std::thread::Threads;
 
 const ADD_ONE: &[u8] = b"box b in (x :: int 32) out (y :: int 32)
 match (x) -> (x + 1) ;
@@ -79,9 +80,9 @@ fn is_all_of(text: &str, parts: &[&str]) -> bool {
     rest.is_empty()
 }
 
-fn all_are_noted(rt: &impl Abort, alloc: Global, rows: &[Row]) -> Result<(), Stop> {
+fn all_are_noted(rt: &(impl Abort + Threads + Sync), alloc: Global, rows: &[Row]) -> Result<(), Stop> {
     for row in rows {
-        let (status, notes) = noted(alloc, row.0)?;
+        let (status, notes) = noted(rt, alloc, row.0)?;
         assert!(rt; status == row.1 && is_all_of(&notes, &row.2));
     }
     Ok(())

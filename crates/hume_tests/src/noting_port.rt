@@ -7,6 +7,8 @@ use std::alloc::{AllocError, Global};
 use std::cell::RefCell;
 use std::rc::Rc;
 use std::test::Fail as Stop;
+use std::thread::Threads;
+use turn_workers::OpenGate;
 
 // A line for each call, in order, of all ports that share it.
 type Log = Rc<RefCell<String>>;
@@ -106,11 +108,15 @@ impl Port for NotingPort {
 }
 
 /// How the call ends, and what was noted.
-pub(crate) fn noted(alloc: Global, call: Call) -> Result<(Status, String), Stop> {
+pub(crate) fn noted(
+    rt: &(impl Threads + Sync),
+    alloc: Global,
+    call: Call,
+) -> Result<(Status, String), Stop> {
     let log = Rc::new(alloc, RefCell::new(String::new(alloc)))?;
     let words = words_of(alloc, call.words)?;
     let mut ports = noting_ports(alloc, &log, call)?;
-    let status = hume(alloc, &words, &mut ports);
+    let status = hume(rt, alloc, &words, &mut ports, &OpenGate);
     Ok((status, taken_out(&log, alloc)))
 }
 

@@ -1,6 +1,7 @@
 -- How the parts of a call end that come after its source was read.
 use Rattle.std.specs.Prelude.{◌≡◌, ◌⊎◌, ℕ, Bool, List, [], ◌∷◌, IfOk, Result}
 use Rattle.std.specs.Option.{is_some}
+use Rattle.hume_base.specs.declared.rule.Refusal.{Refusal}
 use Rattle.hume_ports.specs.declared.port.Failed.{Failed}
 use Rattle.hume_ports.specs.Port.{PortView}
 use Rattle.hume_ports.specs.Ports.{names}
@@ -13,7 +14,8 @@ use Rattle.run_rounds.specs.Runs.{Comes}
 use Rattle.hume_run.specs.declared.status.Status.{Status}
 use Rattle.hume_run.specs.declared.status.Status.TheVariants.{Fault, NoMemory}
 use Rattle.hume_run.specs.declared.order.Order.{Order}
-use Rattle.hume_run.specs.Owed.{IsOwed, owed_run}
+use Rattle.hume_front.specs.Accepted.{Breaks}
+use Rattle.hume_run.specs.Owed.{IsOwed, IsOwedDemo, owed_refused, owed_run}
 use Rattle.hume_run.specs.Few.{call_few}
 use Rattle.hume_run.specs.Headline.{IsText}
 
@@ -30,6 +32,10 @@ EndsAfter few earlier owed old new status =
 abbrev pub EndsOwed : Owed Status → List PortView → List PortView → Status → Type 0
 EndsOwed owed old new status = RunsOut old new status ⊎ EndsAfter never [] owed old new status
 
+-- A rule that the source of that text breaks is told, or memory ran out.
+abbrev pub EndsRefused : List ℕ → List PortView → List PortView → Status → Type 0
+EndsRefused text old new status = RunsOut old new status ⊎ ((refusal : Refusal) × Breaks text refusal × EndsOwed (owed_refused refusal) old new status)
+
 -- The call ends as one that owes what the source's text asks for.
 pub record OwesFor (order : Order) (source text : List ℕ) (old new : List PortView) (status : Status) : Type 0 where
   pub texts : List ℕ → List ℕ
@@ -41,6 +47,11 @@ pub record OwesFor (order : Order) (source text : List ℕ) (old new : List Port
 -- So it ends, or memory ran out before.
 abbrev pub EndsText : Order → List ℕ → List ℕ → List PortView → List PortView → Status → Type 0
 EndsText order source text old new status = RunsOut old new status ⊎ OwesFor order source text old new status
+
+-- The demo ends as one that owes the lines of its net, or memory ran out before.
+abbrev pub EndsDemo : ℕ → ℕ → List PortView → List PortView → Status → Type 0
+EndsDemo number steps old new status =
+    RunsOut old new status ⊎ ((owed : Owed Status) × IsOwedDemo number steps owed × EndsAfter never [] owed old new status)
 
 -- The run's acts were made or one of them failed.
 pub record RunEnds (traced : Bool) (steps : ℕ) (core : Core) (old new : List PortView) (result : Result Bool Failed) : Type 0 where

@@ -8,6 +8,8 @@ use Rattle.port_acts.specs.Places.{IsPlaceOf}
 use Rattle.phase_workers.specs.Runnable.{IsRunnable}
 use Rattle.run_rounds.specs.Streams.{ArePlacesOf, std_out}
 use Rattle.run_rounds.specs.Opened.{core_in, traced_in, IsOpened}
+use Rattle.demo_rounds.specs.Opened as demos
+use Rattle.hume_run.specs.declared.demo.showing.OpenedDemo.{OpenedDemo}
 use Rattle.hume_run.specs.declared.run.opening.Opened.{Opened}
 use Rattle.hume_run.specs.Owed.{run_finishes}
 use Rattle.hume_run.specs.inner.Bounds.{KeepsBounds}
@@ -21,3 +23,10 @@ pub record IsOpen (out : ℕ) (opened : Opened) : Type 0 where
   pub room : room_of opened.chunk ≡ LINE_BYTES
   pub finishes : (names : List (List ℕ)) → ArePlacesOf (core_in opened.running) names opened.places.items → IsPlaceOf std_out names out
       → AreNamed names opened.finishes.items (run_finishes (core_in opened.running)) × All (λ at. at < length names) opened.finishes.items
+
+-- So is a demo, which has no ports but the report's.
+pub record IsOpenDemo (opened : OpenedDemo) : Type 0 where
+  pub runnable : IsRunnable (demos.core_in opened.demo)
+  pub demo : demos.IsOpened (demos.core_in opened.demo) opened.demo
+  pub bounds : KeepsBounds (demos.core_in opened.demo) opened.costs
+  pub room : room_of opened.chunk ≡ LINE_BYTES

@@ -1,10 +1,15 @@
 ghost use Rattle.std.specs.Prelude.{◌≡◌, ◌<◌, ◌≤◌, length, map, IfSome, Some, string_bytes};
-ghost use Rattle.hume_run.specs.Words.{order_of, number_of, traced_of as trace_asked, run_of as asked_run, steps_of};
+ghost use Rattle.demo_net.specs.declared.source.TheConstants.{MAX_NUMBER};
+ghost use Rattle.hume_run.specs.Words.{order_of, number_of, traced_of as trace_asked, run_of as asked_run, demo_of as asked_demo, is_run as run_asked, steps_of, net_of, workers_of};
 ghost use Rattle.hume_run.specs.inner.Places.{source_place};
 
 use crate::order::Order;
 use crate::words::numbers::{is_number, value};
-use hume_base::limits::{MAX_SUPERSTEPS, MAX_WORKERS};
+use demo_net::MAX_NUMBER;
+use hume_base::limits::MAX_SUPERSTEPS;
+
+/// Workers of a run or of a demo.
+pub const MAX_WORKERS: u32 = 16;
 
 /// The place of the source's name among the words of a run.
 const RUN_SOURCE: u32 = 3;
@@ -16,12 +21,17 @@ const CHECK_SOURCE: u32 = 1;
 pub fn read_words(words: &[String]) -> Option<Order>
     ensures order { result ≡ order_of (map string_bytes words.now) }
     ensures steps { IfSome result (λ order. steps_of order ≤ MAX_SUPERSTEPS) }
-    ensures source { IfSome result (λ order. source_place order < length words.now) }
+    ensures number { IfSome result (λ order. net_of order ≤ MAX_NUMBER) }
+    ensures workers { IfSome result (λ order. workers_of order ≤ MAX_WORKERS) }
+    ensures source { IfSome result (λ order. IfSome (source_place order) (λ place. place < length words.now)) }
 {
     match words {
         [command, _] if command.as_str() == "check" => Some(Order::Check {
             source: CHECK_SOURCE,
         }),
+        [command, net, steps, workers] if command.as_str() == "demo" => {
+            demo_of(number(net)?, number(steps)?, number(workers)?)
+        }
         [command, steps, workers, _, ..] => {
             run_of(traced_of(command)?, number(steps)?, number(workers)?)
         }
@@ -54,7 +64,7 @@ fn number(word: &str) -> Option<u32>
 fn run_of(traced: bool, steps: u32, workers: u32) -> Option<Order>
     ensures { result ≡ asked_run (Some traced) (Some steps) (Some workers) }
 {
-    if steps <= MAX_SUPERSTEPS && 1 <= workers && workers <= MAX_WORKERS {
+    if is_run(steps, workers) {
         return Some(Order::Run {
             steps,
             workers,
@@ -63,4 +73,24 @@ fn run_of(traced: bool, steps: u32, workers: u32) -> Option<Order>
         });
     }
     None
+}
+
+fn demo_of(number: u32, steps: u32, workers: u32) -> Option<Order>
+    ensures { result ≡ asked_demo (Some number) (Some steps) (Some workers) }
+{
+    if number <= MAX_NUMBER && is_run(steps, workers) {
+        return Some(Order::Demo {
+            number,
+            steps,
+            workers,
+        });
+    }
+    None
+}
+
+// Whether there may be so many supersteps and workers.
+fn is_run(steps: u32, workers: u32) -> bool
+    ensures { result ≡ run_asked steps workers }
+{
+    steps <= MAX_SUPERSTEPS && 1 <= workers && workers <= MAX_WORKERS
 }

@@ -102,8 +102,8 @@ fn write_node(
     write_act(ports, at, chunk.bytes())
 }
 
-// The line of all boxes together.
-fn write_total(
+/// Writes the line of all boxes together to the port at that place.
+pub fn write_total(
     core: &Core,
     costs: &Costs,
     chunk: &mut Chunk,

@@ -1,6 +1,5 @@
-use Rattle.hume_run.specs.declared.order.Order.TheVariants.{Check}
 use Rattle.hume_run.proofs.Runnable.{bounded}
-use Rattle.hume_run.proofs.Answering.{check_text}
+use Rattle.hume_run.proofs.Answering.{check_text, refused_check}
 use Rattle.hume_run.proofs.check.check_text.Goals as goal
 
 pub check_accepted-requires-clause-bounds : goal.check_accepted-requires-clause-bounds
@@ -10,4 +9,4 @@ pub returns-in-Ok : goal.returns-in-Ok
 returns-in-Ok g c place source = check_text place source _ _ _ _ c.in-Ok.accepted c.in-Ok.ensures.accepted c.check_accepted.ensures
 
 pub returns-in-Err : goal.returns-in-Err
-returns-in-Err g c place source = c.end_unaccepted.ensures (Check place) source _ c.in-Err.ensures.error
+returns-in-Err g c place source = refused_check place source _ _ _ _ (c.end_unaccepted.ensures _ c.in-Err.ensures.error)

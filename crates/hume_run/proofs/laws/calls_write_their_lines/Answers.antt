@@ -1,8 +1,11 @@
-use Rattle.hume_run.proofs.Faulting.{check_written, run_written}
+use Rattle.hume_run.proofs.Faulting.{check_written, demo_written, run_written}
 use Rattle.hume_run.proofs.laws.calls_write_their_lines.Goals as goal
 
 pub returns-clause-check : goal.returns-clause-check
 returns-clause-check c = check_written
+
+pub returns-clause-demo : goal.returns-clause-demo
+returns-clause-demo c = demo_written
 
 pub returns-clause-run : goal.returns-clause-run
 returns-clause-run c = run_written c.runs_write_their_lines.ensures.writes

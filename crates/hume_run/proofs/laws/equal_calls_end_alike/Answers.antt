@@ -1,7 +1,7 @@
-use Rattle.hume_run.proofs.Alike.{ended_alike, of_form}
+use Rattle.hume_run.proofs.Alike.{answers_alike, of_form}
 use Rattle.hume_run.proofs.laws.equal_calls_end_alike.Goals as goal
 
 pub returns : goal.returns
 returns c words order olds news others later status other is there same first second through too =
-    ended_alike order _ olds news others later status other c.inputs_are_unique.ensures there same
+    answers_alike order olds news others later status other c.inputs_are_unique.ensures same _ there
     (of_form words order olds news status is first through.0) (of_form words order others later other is second too.0) through too

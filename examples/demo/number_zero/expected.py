@@ -1,0 +1,1 @@
+../closed_form.py
