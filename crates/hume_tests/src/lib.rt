@@ -1,5 +1,5 @@
-//! Tests of what no contract says and no program shows: places of tokens, and the calls of ports, in order, in pieces and where
-//! one fails.
+//! Tests of what no contract says and no program shows: places of tokens, the calls of ports, in order, in pieces and where one fails,
+//! and that workers are at work at once.
 //!
 //! They stand above all crates that they use, so that no crate is proved a second time for its tests.
 //!
@@ -12,6 +12,8 @@
 mod call_tests;
 mod cells;
 mod front;
+#[cfg(test)]
+mod held_gate_tests;
 #[cfg(test)]
 mod last_call_tests;
 #[cfg(test)]
