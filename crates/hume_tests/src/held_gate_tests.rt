@@ -6,6 +6,7 @@ use hume_run::{Status, hume};
 use std::alloc::{AllocError, Global};
 use std::sync::atomic::{AtomicBool, AtomicU32, Ordering};
 use std::test::Fail as Stop;
+use std::thread::Threads;
 use turn_workers::Gate;
 
 const TWO_BOXES: &[u8] = b"box a in (x :: int 32) out (y :: int 32) match (x) -> x ;
@@ -18,6 +19,7 @@ wire b.y to b.x initial 0 ;
 const MOST_LOOKS: u32 = 200_000_000;
 
 // A gate that holds each of two boxes, when it first comes by, until the other one has come by so often.
+#[derive(Drop)]
 struct HeldGate {
     first: AtomicU32,
     second: AtomicU32,
@@ -72,8 +74,12 @@ fn two_ports(alloc: Global) -> Result<Vec<Box<dyn Port>>, AllocError> {
 }
 
 // Whether a call ends well, and no box waited in vain.
-fn passes(rt: &HostRuntime, words: &str, gate: &HeldGate) -> Result<bool, AllocError> {
-    let alloc = rt.alloc();
+fn passes<R: Threads + Sync>(
+    rt: &R,
+    alloc: Global,
+    words: &str,
+    gate: &HeldGate,
+) -> Result<bool, AllocError> {
     let words = words_of(alloc, words)?;
     let mut ports = two_ports(alloc)?;
     let status = hume(rt, alloc, &words, &mut ports, gate);
@@ -83,13 +89,13 @@ fn passes(rt: &HostRuntime, words: &str, gate: &HeldGate) -> Result<bool, AllocE
 #[test]
 fn two_workers_execute_two_boxes_at_once(rt: HostRuntime) -> Result<(), Stop> {
     let gate = HeldGate::new(1, 1);
-    assert!(rt; passes(&rt, "run 1 2 p", &gate)?);
+    assert!(rt; passes(&rt, rt.alloc(), "run 1 2 p", &gate)?);
     Ok(())
 }
 
 #[test]
 fn a_box_goes_eight_supersteps_on_while_another_one_is_held(rt: HostRuntime) -> Result<(), Stop> {
     let gate = HeldGate::new(8, 0);
-    assert!(rt; passes(&rt, "run 16 2 p", &gate)?);
+    assert!(rt; passes(&rt, rt.alloc(), "run 16 2 p", &gate)?);
     Ok(())
 }
