@@ -161,9 +161,6 @@ module _ (plan : Plan) (node t : ℕ) (side : List ℕ) (lt : node < plan.nodes)
 
 -- the node goes last, with its pairs
 module _ (plan : Plan) (node t : ℕ) (side : List ℕ) (lt : node < plan.nodes) (is : IsSide plan t node side) (v : View) (held : v.held ≡ (node, t) ∷ []) where
-  pub node_put_back : v.passed ≡ [] → MayPutBack plan node t v
-  node_put_back none_passed = may_put_back plan node t v (ap (held_at node) held ∙ held_here node t []) none_passed
-
   pub nothing_held : (new : View) → new.held ≡ without node v.held → new.held ≡ []
   nothing_held new view = view ∙ (ap (without node) held ∙ alone_goes node t)
 

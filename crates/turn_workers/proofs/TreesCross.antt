@@ -56,6 +56,3 @@ expr_sync = as_row_sync expr.the_field expr_field_sync
 pub res_field_sync : IsSync (res.the_field).row
 res_field_sync = res_knot.sync-Res (list.the_sync (option.the_row expr.the_row) (let e = expr_sync in search sendable depth 20)) expr_field_sync (λ h s. boxed.the_sync h s) ty_field_sync
     (λ h s. list.the_sync _ (pair_sync pat.the_row h pat_sync s)) (search sendable) (let e = expr_sync in search sendable depth 20)
-
-pub res_sync : IsSync res.the_row
-res_sync = as_row_sync res.the_field res_field_sync

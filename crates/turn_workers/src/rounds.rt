@@ -7,7 +7,7 @@ ghost use Rattle.step_turns.specs.Rounds.{AllRight, AreInPlace, AreSides, AreUnt
 ghost use Rattle.turn_locker.specs.Held.{items_of};
 ghost use Rattle.turn_locker.specs.Seats.{IsSeatOf, view_of};
 ghost use Rattle.turn_locker.specs.Views.{newcomer};
-ghost use Rattle.turn_workers.specs.Rounds.{IsIdle, IsShared};
+ghost use Rattle.turn_workers.specs.inner.Rounds.{IsIdle, IsShared};
 
 use crate::gate::Gate;
 use crate::items::{Item, Opens};

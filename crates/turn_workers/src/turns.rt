@@ -10,7 +10,7 @@ ghost use Rattle.turn_locker.specs.Held.{items_of};
 ghost use Rattle.turn_locker.specs.Seats.{IsSeatOf, view_of};
 ghost use Rattle.turn_locker.specs.Views.{claims, passes, puts_back};
 ghost use Rattle.turn_workers.specs.Items.{IsNodeRight, IsWireRight};
-ghost use Rattle.turn_workers.specs.Rounds.{IsIdle, IsShared};
+ghost use Rattle.turn_workers.specs.inner.Rounds.{IsIdle, IsShared};
 ghost use Rattle.turn_workers.specs.inner.Benches.{AreHeld};
 ghost use Rattle.turn_workers.specs.inner.Stacks.{AreAlike, pairs_of, stack};
 
