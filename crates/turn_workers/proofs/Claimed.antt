@@ -20,7 +20,8 @@ use Rattle.turn_workers.proofs.Stacks.{IsSide, plain_side, one_may_pass, held_on
 use Rattle.turn_workers.proofs.Stacks.{one_put_back, held_put_back, nothing_held, node_may_go, no_pairs}
 
 -- one wire more is held
-pub more_held : (nodes node t : ℕ) (side : List ℕ) (k m wire time : ℕ) (v new : View) → v.held ≡ stack nodes node t side k → m ≡ k + 1 → wire ≡ slice_index side k → time ≡ t
+pub more_held : (nodes node t : ℕ) (side : List ℕ) (k m wire time : ℕ) (v new : View) → v.held ≡ stack nodes node t side k → m ≡ k + 1
+    → wire ≡ slice_index side k → time ≡ t
     → new ≡ claims (nodes + wire) time v → new.held ≡ stack nodes node t side m
 more_held nodes node t side k m wire time v new held longer is now claimed =
     let e : suc k ≡ m = omega (arith, longer) in
@@ -91,22 +92,26 @@ module _ (opened : Opening → Type 0) (nodes steps : ℕ) (core : Core) (locker
     -- it is passed where the half step was made
     module _ (passed : v.passed ≡ pairs_of node (drop m side)) (later : time ≡ t + 1) where
       pub top_may_pass : MayPassWire locker.plan cell.number (cell.time - 1) v
-      top_may_pass = one_may_pass locker.plan node t side less is_side k m back.near back.longer v held_of_plan cell.number at passed cell.time (back.top.at ∙ later)
+      top_may_pass = one_may_pass locker.plan node t side less is_side k m back.near back.longer v held_of_plan cell.number at passed cell.time
+          (back.top.at ∙ later)
 
       module _ (new : View) (view : new ≡ passes locker.plan (nodes + cell.number) (cell.time - 1) v) where
         view_of_plan : new ≡ passes locker.plan (locker.plan.nodes + cell.number) (cell.time - 1) v
         view_of_plan = view ∙ ap (λ n. passes locker.plan (n + cell.number) (cell.time - 1) v) same_count
 
         pub below_passed : new.held ≡ stack nodes node t side k
-        below_passed = below_of_plan new (held_one_passed locker.plan node t side less is_side k m back.near back.longer v held_of_plan cell.number at passed cell.time
+        below_passed = below_of_plan new (held_one_passed locker.plan node t side less is_side k m back.near back.longer v held_of_plan cell.number at
+            passed cell.time
             (back.top.at ∙ later) new view_of_plan)
 
         pub pairs_more : new.passed ≡ pairs_of node (drop k side)
-        pairs_more = pairs_one_passed locker.plan node t side less is_side k m back.near back.longer v held_of_plan cell.number at passed cell.time (back.top.at ∙ later)
+        pairs_more = pairs_one_passed locker.plan node t side less is_side k m back.near back.longer v held_of_plan cell.number at passed cell.time
+            (back.top.at ∙ later)
             new view_of_plan
 
   -- the node, behind all wires of its side
-  module _ (v : View) (held : v.held ≡ (node, t) ∷ []) (passed : v.passed ≡ pairs_of node side) (number time : ℕ) (is : number ≡ node) (later : time ≡ t + 1) where
+  module _ (v : View) (held : v.held ≡ (node, t) ∷ []) (passed : v.passed ≡ pairs_of node side) (number time : ℕ) (is : number ≡ node)
+      (later : time ≡ t + 1) where
     pub node_may_pass : MayPassNode locker.plan number (time - 1) v
     node_may_pass = subst (λ n. MayPassNode locker.plan n (time - 1) v) (sym is) (node_may_go locker.plan node t side less is_side v held passed time later)
 

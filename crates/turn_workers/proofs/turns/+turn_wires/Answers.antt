@@ -20,7 +20,8 @@ turn_wires-made-requires-clause-bench g n c = λ κs le.
     let near = some_left c.args.side.now (vec_len c.args.bench.now) c.len-place.result c.len-place.ensures c.if-place-side.false c.requires.bench.1 in
     let some = c.in-Some.ensures.some in let ok = c.args.bench.now.ok.0 in let long = c.push_reserved.ensures.len in
     let number : slice_get c.args.side.now (length c.args.bench.now.items) ≡ Some c.in-Some.cell.number = ap (slice_get c.args.side.now) (sym ok)
-    ∙ (slice_get-get_or c.args.side.now (vec_len c.args.bench.now) 0 near ∙ ap (λ w. Some w) (sym (some.0 ∙ ap (slice_index c.args.side.now) c.len-place.ensures))) in (
+    ∙ (slice_get-get_or c.args.side.now (vec_len c.args.bench.now) 0 near ∙ ap (λ w. Some w)
+    (sym (some.0 ∙ ap (slice_index c.args.side.now) c.len-place.ensures))) in (
       subst (AreHeld g.O.Opens.opened c.args.side.now c.args.node.now.time) (sym c.push_reserved.ensures.items)
           (held_more g.O.Opens.opened c.args.side.now g.O.Opens.steps c.args.node.now.time c.args.bench.now.items c.in-Some.cell c.requires.bench.0 number
           (some.1 ∙ c.time.ensures) some.2),
@@ -38,10 +39,12 @@ pass_wire-requires-clause-wire g n c = λ κs le.
     let same = c.turn_wires-made.ensures.bench.1 in let more = c.push_reserved.ensures.len in
     let ok = c.pop.new.self.ok.0 in let shorter = c.in-Some-pop.ensures.len in
     let back = came_back g.O.Opens.opened g.O.Opens.nodes g.O.Opens.steps c.args.node.now.number c.args.node.now.time c.args.side.now
-    (vec_len c.args.bench.now) (vec_len c.push_reserved.new.self) _ _ _ c.turn_wires-made.new.node.time (view_of c.args.seat.now) (view_of c.claim_wire.new.seat)
+    (vec_len c.args.bench.now) (vec_len c.push_reserved.new.self) _ _ _ c.turn_wires-made.new.node.time (view_of c.args.seat.now)
+    (view_of c.claim_wire.new.seat)
     (view_of c.turn_wires-made.new.seat) c.turn_wires-made.new.bench.items c.pop.new.self.items c.in-Some-pop.cell
     c.len-place.ensures c.if-place-side.false c.requires.bench.1 c.requires.held more (ap (slice_index c.args.side.now) c.len-place.ensures) c.time.ensures
-    c.in-Some.ensures.claimed c.turn_wires-made.ensures.held c.turn_wires-made.ensures.bench.0 c.in-Some-pop.ensures.items (omega (arith, ok, shorter, same, more))
+    c.in-Some.ensures.claimed c.turn_wires-made.ensures.held c.turn_wires-made.ensures.bench.0 c.in-Some-pop.ensures.items
+    (omega (arith, ok, shorter, same, more))
     c.turn_wires-made.ensures.node.0.until in
     top_of_plan _ _ _ _ _ c.requires.shared _ _ _ _ c.requires.side c.requires.node.number _ _ _ _ _ _ back
 
@@ -50,10 +53,12 @@ pass_wire-requires-clause-right g n c = λ κs le.
     let same = c.turn_wires-made.ensures.bench.1 in let more = c.push_reserved.ensures.len in
     let ok = c.pop.new.self.ok.0 in let shorter = c.in-Some-pop.ensures.len in
     let back = came_back g.O.Opens.opened g.O.Opens.nodes g.O.Opens.steps c.args.node.now.number c.args.node.now.time c.args.side.now
-    (vec_len c.args.bench.now) (vec_len c.push_reserved.new.self) _ _ _ c.turn_wires-made.new.node.time (view_of c.args.seat.now) (view_of c.claim_wire.new.seat)
+    (vec_len c.args.bench.now) (vec_len c.push_reserved.new.self) _ _ _ c.turn_wires-made.new.node.time (view_of c.args.seat.now)
+    (view_of c.claim_wire.new.seat)
     (view_of c.turn_wires-made.new.seat) c.turn_wires-made.new.bench.items c.pop.new.self.items c.in-Some-pop.cell
     c.len-place.ensures c.if-place-side.false c.requires.bench.1 c.requires.held more (ap (slice_index c.args.side.now) c.len-place.ensures) c.time.ensures
-    c.in-Some.ensures.claimed c.turn_wires-made.ensures.held c.turn_wires-made.ensures.bench.0 c.in-Some-pop.ensures.items (omega (arith, ok, shorter, same, more))
+    c.in-Some.ensures.claimed c.turn_wires-made.ensures.held c.turn_wires-made.ensures.bench.0 c.in-Some-pop.ensures.items
+    (omega (arith, ok, shorter, same, more))
     c.turn_wires-made.ensures.node.0.until in
     back.top.right
 
@@ -62,10 +67,12 @@ put_wire_back-requires-clause-wire g n c = λ κs le.
     let same = c.turn_wires-made.ensures.bench.1 in let more = c.push_reserved.ensures.len in
     let ok = c.pop.new.self.ok.0 in let shorter = c.in-Some-pop.ensures.len in
     let back = came_back g.O.Opens.opened g.O.Opens.nodes g.O.Opens.steps c.args.node.now.number c.args.node.now.time c.args.side.now
-    (vec_len c.args.bench.now) (vec_len c.push_reserved.new.self) _ _ _ c.turn_wires-made.new.node.time (view_of c.args.seat.now) (view_of c.claim_wire.new.seat)
+    (vec_len c.args.bench.now) (vec_len c.push_reserved.new.self) _ _ _ c.turn_wires-made.new.node.time (view_of c.args.seat.now)
+    (view_of c.claim_wire.new.seat)
     (view_of c.turn_wires-made.new.seat) c.turn_wires-made.new.bench.items c.pop.new.self.items c.in-Some-pop.cell
     c.len-place.ensures c.if-place-side.false c.requires.bench.1 c.requires.held more (ap (slice_index c.args.side.now) c.len-place.ensures) c.time.ensures
-    c.in-Some.ensures.claimed c.turn_wires-made.ensures.held c.turn_wires-made.ensures.bench.0 c.in-Some-pop.ensures.items (omega (arith, ok, shorter, same, more))
+    c.in-Some.ensures.claimed c.turn_wires-made.ensures.held c.turn_wires-made.ensures.bench.0 c.in-Some-pop.ensures.items
+    (omega (arith, ok, shorter, same, more))
     c.turn_wires-made.ensures.node.0.until in
     top_of_plan _ _ _ _ _ c.requires.shared _ _ _ _ c.requires.side c.requires.node.number _ _ _ _ _ _ back
 
@@ -74,10 +81,12 @@ put_wire_back-requires-clause-right g n c = λ κs le.
     let same = c.turn_wires-made.ensures.bench.1 in let more = c.push_reserved.ensures.len in
     let ok = c.pop.new.self.ok.0 in let shorter = c.in-Some-pop.ensures.len in
     let back = came_back g.O.Opens.opened g.O.Opens.nodes g.O.Opens.steps c.args.node.now.number c.args.node.now.time c.args.side.now
-    (vec_len c.args.bench.now) (vec_len c.push_reserved.new.self) _ _ _ c.turn_wires-made.new.node.time (view_of c.args.seat.now) (view_of c.claim_wire.new.seat)
+    (vec_len c.args.bench.now) (vec_len c.push_reserved.new.self) _ _ _ c.turn_wires-made.new.node.time (view_of c.args.seat.now)
+    (view_of c.claim_wire.new.seat)
     (view_of c.turn_wires-made.new.seat) c.turn_wires-made.new.bench.items c.pop.new.self.items c.in-Some-pop.cell
     c.len-place.ensures c.if-place-side.false c.requires.bench.1 c.requires.held more (ap (slice_index c.args.side.now) c.len-place.ensures) c.time.ensures
-    c.in-Some.ensures.claimed c.turn_wires-made.ensures.held c.turn_wires-made.ensures.bench.0 c.in-Some-pop.ensures.items (omega (arith, ok, shorter, same, more))
+    c.in-Some.ensures.claimed c.turn_wires-made.ensures.held c.turn_wires-made.ensures.bench.0 c.in-Some-pop.ensures.items
+    (omega (arith, ok, shorter, same, more))
     c.turn_wires-made.ensures.node.0.until in
     back.top.right
 
@@ -86,10 +95,12 @@ pass_wire-requires-clause-time g n c = λ κs le.
     let same = c.turn_wires-made.ensures.bench.1 in let more = c.push_reserved.ensures.len in
     let ok = c.pop.new.self.ok.0 in let shorter = c.in-Some-pop.ensures.len in
     let back = came_back g.O.Opens.opened g.O.Opens.nodes g.O.Opens.steps c.args.node.now.number c.args.node.now.time c.args.side.now
-    (vec_len c.args.bench.now) (vec_len c.push_reserved.new.self) _ _ _ c.turn_wires-made.new.node.time (view_of c.args.seat.now) (view_of c.claim_wire.new.seat)
+    (vec_len c.args.bench.now) (vec_len c.push_reserved.new.self) _ _ _ c.turn_wires-made.new.node.time (view_of c.args.seat.now)
+    (view_of c.claim_wire.new.seat)
     (view_of c.turn_wires-made.new.seat) c.turn_wires-made.new.bench.items c.pop.new.self.items c.in-Some-pop.cell
     c.len-place.ensures c.if-place-side.false c.requires.bench.1 c.requires.held more (ap (slice_index c.args.side.now) c.len-place.ensures) c.time.ensures
-    c.in-Some.ensures.claimed c.turn_wires-made.ensures.held c.turn_wires-made.ensures.bench.0 c.in-Some-pop.ensures.items (omega (arith, ok, shorter, same, more))
+    c.in-Some.ensures.claimed c.turn_wires-made.ensures.held c.turn_wires-made.ensures.bench.0 c.in-Some-pop.ensures.items
+    (omega (arith, ok, shorter, same, more))
     c.turn_wires-made.ensures.node.0.until in
     let at = back.top.at in let later = c.if-made.ensures.time in
     (omega (arith, at, later), c.requires.shared.short)
@@ -99,10 +110,12 @@ pass_wire-requires-clause-may g n c = λ κs le.
     let same = c.turn_wires-made.ensures.bench.1 in let more = c.push_reserved.ensures.len in
     let ok = c.pop.new.self.ok.0 in let shorter = c.in-Some-pop.ensures.len in
     let back = came_back g.O.Opens.opened g.O.Opens.nodes g.O.Opens.steps c.args.node.now.number c.args.node.now.time c.args.side.now
-    (vec_len c.args.bench.now) (vec_len c.push_reserved.new.self) _ _ _ c.turn_wires-made.new.node.time (view_of c.args.seat.now) (view_of c.claim_wire.new.seat)
+    (vec_len c.args.bench.now) (vec_len c.push_reserved.new.self) _ _ _ c.turn_wires-made.new.node.time (view_of c.args.seat.now)
+    (view_of c.claim_wire.new.seat)
     (view_of c.turn_wires-made.new.seat) c.turn_wires-made.new.bench.items c.pop.new.self.items c.in-Some-pop.cell
     c.len-place.ensures c.if-place-side.false c.requires.bench.1 c.requires.held more (ap (slice_index c.args.side.now) c.len-place.ensures) c.time.ensures
-    c.in-Some.ensures.claimed c.turn_wires-made.ensures.held c.turn_wires-made.ensures.bench.0 c.in-Some-pop.ensures.items (omega (arith, ok, shorter, same, more))
+    c.in-Some.ensures.claimed c.turn_wires-made.ensures.held c.turn_wires-made.ensures.bench.0 c.in-Some-pop.ensures.items
+    (omega (arith, ok, shorter, same, more))
     c.turn_wires-made.ensures.node.0.until in
     top_may_pass _ _ _ _ _ c.requires.shared _ _ _ _ c.requires.side c.requires.node.number _ _ _ _ _ _ back c.if-made.ensures.passed c.if-made.ensures.time
 
@@ -111,48 +124,58 @@ put_wire_back-requires-clause-may g n c = λ κs le.
     let same = c.turn_wires-made.ensures.bench.1 in let more = c.push_reserved.ensures.len in
     let ok = c.pop.new.self.ok.0 in let shorter = c.in-Some-pop.ensures.len in
     let back = came_back g.O.Opens.opened g.O.Opens.nodes g.O.Opens.steps c.args.node.now.number c.args.node.now.time c.args.side.now
-    (vec_len c.args.bench.now) (vec_len c.push_reserved.new.self) _ _ _ c.turn_wires-made.new.node.time (view_of c.args.seat.now) (view_of c.claim_wire.new.seat)
+    (vec_len c.args.bench.now) (vec_len c.push_reserved.new.self) _ _ _ c.turn_wires-made.new.node.time (view_of c.args.seat.now)
+    (view_of c.claim_wire.new.seat)
     (view_of c.turn_wires-made.new.seat) c.turn_wires-made.new.bench.items c.pop.new.self.items c.in-Some-pop.cell
     c.len-place.ensures c.if-place-side.false c.requires.bench.1 c.requires.held more (ap (slice_index c.args.side.now) c.len-place.ensures) c.time.ensures
-    c.in-Some.ensures.claimed c.turn_wires-made.ensures.held c.turn_wires-made.ensures.bench.0 c.in-Some-pop.ensures.items (omega (arith, ok, shorter, same, more))
+    c.in-Some.ensures.claimed c.turn_wires-made.ensures.held c.turn_wires-made.ensures.bench.0 c.in-Some-pop.ensures.items
+    (omega (arith, ok, shorter, same, more))
     c.turn_wires-made.ensures.node.0.until in
     top_put_back _ _ _ _ _ c.requires.shared _ _ _ _ c.requires.side c.requires.node.number _ _ _ _ _ _ back c.if-made.ensures.time c.if-made.ensures.passed
 
 pub returns-then-made-clause-held : goal.returns-then-made-clause-held
-returns-then-made-clause-held g n c = 
+returns-then-made-clause-held g n c =
     let same = c.turn_wires-made.ensures.bench.1 in let more = c.push_reserved.ensures.len in
     let ok = c.pop.new.self.ok.0 in let shorter = c.in-Some-pop.ensures.len in
     let back = came_back g.O.Opens.opened g.O.Opens.nodes g.O.Opens.steps c.args.node.now.number c.args.node.now.time c.args.side.now
-    (vec_len c.args.bench.now) (vec_len c.push_reserved.new.self) _ _ _ c.turn_wires-made.new.node.time (view_of c.args.seat.now) (view_of c.claim_wire.new.seat)
+    (vec_len c.args.bench.now) (vec_len c.push_reserved.new.self) _ _ _ c.turn_wires-made.new.node.time (view_of c.args.seat.now)
+    (view_of c.claim_wire.new.seat)
     (view_of c.turn_wires-made.new.seat) c.turn_wires-made.new.bench.items c.pop.new.self.items c.in-Some-pop.cell
     c.len-place.ensures c.if-place-side.false c.requires.bench.1 c.requires.held more (ap (slice_index c.args.side.now) c.len-place.ensures) c.time.ensures
-    c.in-Some.ensures.claimed c.turn_wires-made.ensures.held c.turn_wires-made.ensures.bench.0 c.in-Some-pop.ensures.items (omega (arith, ok, shorter, same, more))
+    c.in-Some.ensures.claimed c.turn_wires-made.ensures.held c.turn_wires-made.ensures.bench.0 c.in-Some-pop.ensures.items
+    (omega (arith, ok, shorter, same, more))
     c.turn_wires-made.ensures.node.0.until in
-    below_passed _ _ _ _ _ c.requires.shared _ _ _ _ c.requires.side c.requires.node.number _ _ _ _ _ _ back c.if-made.ensures.passed c.if-made.ensures.time (view_of c.pass_wire.new.seat) c.pass_wire.ensures.view
+    below_passed _ _ _ _ _ c.requires.shared _ _ _ _ c.requires.side c.requires.node.number _ _ _ _ _ _ back c.if-made.ensures.passed
+    c.if-made.ensures.time (view_of c.pass_wire.new.seat) c.pass_wire.ensures.view
     ∙ sym c.requires.held
 
 pub returns-then-made-clause-passed : goal.returns-then-made-clause-passed
-returns-then-made-clause-passed g n c = 
+returns-then-made-clause-passed g n c =
     let same = c.turn_wires-made.ensures.bench.1 in let more = c.push_reserved.ensures.len in
     let ok = c.pop.new.self.ok.0 in let shorter = c.in-Some-pop.ensures.len in
     let back = came_back g.O.Opens.opened g.O.Opens.nodes g.O.Opens.steps c.args.node.now.number c.args.node.now.time c.args.side.now
-    (vec_len c.args.bench.now) (vec_len c.push_reserved.new.self) _ _ _ c.turn_wires-made.new.node.time (view_of c.args.seat.now) (view_of c.claim_wire.new.seat)
+    (vec_len c.args.bench.now) (vec_len c.push_reserved.new.self) _ _ _ c.turn_wires-made.new.node.time (view_of c.args.seat.now)
+    (view_of c.claim_wire.new.seat)
     (view_of c.turn_wires-made.new.seat) c.turn_wires-made.new.bench.items c.pop.new.self.items c.in-Some-pop.cell
     c.len-place.ensures c.if-place-side.false c.requires.bench.1 c.requires.held more (ap (slice_index c.args.side.now) c.len-place.ensures) c.time.ensures
-    c.in-Some.ensures.claimed c.turn_wires-made.ensures.held c.turn_wires-made.ensures.bench.0 c.in-Some-pop.ensures.items (omega (arith, ok, shorter, same, more))
+    c.in-Some.ensures.claimed c.turn_wires-made.ensures.held c.turn_wires-made.ensures.bench.0 c.in-Some-pop.ensures.items
+    (omega (arith, ok, shorter, same, more))
     c.turn_wires-made.ensures.node.0.until in
-    pairs_more _ _ _ _ _ c.requires.shared _ _ _ _ c.requires.side c.requires.node.number _ _ _ _ _ _ back c.if-made.ensures.passed c.if-made.ensures.time (view_of c.pass_wire.new.seat) c.pass_wire.ensures.view
+    pairs_more _ _ _ _ _ c.requires.shared _ _ _ _ c.requires.side c.requires.node.number _ _ _ _ _ _ back c.if-made.ensures.passed c.if-made.ensures.time
+    (view_of c.pass_wire.new.seat) c.pass_wire.ensures.view
     ∙ sym (λ i. if c.if-made.true i then pairs_of c.args.node.now.number (drop (vec_len c.args.bench.now) c.args.side.now) else [])
 
 pub returns-then-made-clause-bench : goal.returns-then-made-clause-bench
-returns-then-made-clause-bench g n c = 
+returns-then-made-clause-bench g n c =
     let same = c.turn_wires-made.ensures.bench.1 in let more = c.push_reserved.ensures.len in
     let ok = c.pop.new.self.ok.0 in let shorter = c.in-Some-pop.ensures.len in
     let back = came_back g.O.Opens.opened g.O.Opens.nodes g.O.Opens.steps c.args.node.now.number c.args.node.now.time c.args.side.now
-    (vec_len c.args.bench.now) (vec_len c.push_reserved.new.self) _ _ _ c.turn_wires-made.new.node.time (view_of c.args.seat.now) (view_of c.claim_wire.new.seat)
+    (vec_len c.args.bench.now) (vec_len c.push_reserved.new.self) _ _ _ c.turn_wires-made.new.node.time (view_of c.args.seat.now)
+    (view_of c.claim_wire.new.seat)
     (view_of c.turn_wires-made.new.seat) c.turn_wires-made.new.bench.items c.pop.new.self.items c.in-Some-pop.cell
     c.len-place.ensures c.if-place-side.false c.requires.bench.1 c.requires.held more (ap (slice_index c.args.side.now) c.len-place.ensures) c.time.ensures
-    c.in-Some.ensures.claimed c.turn_wires-made.ensures.held c.turn_wires-made.ensures.bench.0 c.in-Some-pop.ensures.items (omega (arith, ok, shorter, same, more))
+    c.in-Some.ensures.claimed c.turn_wires-made.ensures.held c.turn_wires-made.ensures.bench.0 c.in-Some-pop.ensures.items
+    (omega (arith, ok, shorter, same, more))
     c.turn_wires-made.ensures.node.0.until in (
       back.top.below,
       omega (arith, shorter, same, more),
@@ -160,26 +183,31 @@ returns-then-made-clause-bench g n c =
     )
 
 pub returns-else-made-clause-held : goal.returns-else-made-clause-held
-returns-else-made-clause-held g n c = 
+returns-else-made-clause-held g n c =
     let same = c.turn_wires-made.ensures.bench.1 in let more = c.push_reserved.ensures.len in
     let ok = c.pop.new.self.ok.0 in let shorter = c.in-Some-pop.ensures.len in
     let back = came_back g.O.Opens.opened g.O.Opens.nodes g.O.Opens.steps c.args.node.now.number c.args.node.now.time c.args.side.now
-    (vec_len c.args.bench.now) (vec_len c.push_reserved.new.self) _ _ _ c.turn_wires-made.new.node.time (view_of c.args.seat.now) (view_of c.claim_wire.new.seat)
+    (vec_len c.args.bench.now) (vec_len c.push_reserved.new.self) _ _ _ c.turn_wires-made.new.node.time (view_of c.args.seat.now)
+    (view_of c.claim_wire.new.seat)
     (view_of c.turn_wires-made.new.seat) c.turn_wires-made.new.bench.items c.pop.new.self.items c.in-Some-pop.cell
     c.len-place.ensures c.if-place-side.false c.requires.bench.1 c.requires.held more (ap (slice_index c.args.side.now) c.len-place.ensures) c.time.ensures
-    c.in-Some.ensures.claimed c.turn_wires-made.ensures.held c.turn_wires-made.ensures.bench.0 c.in-Some-pop.ensures.items (omega (arith, ok, shorter, same, more))
+    c.in-Some.ensures.claimed c.turn_wires-made.ensures.held c.turn_wires-made.ensures.bench.0 c.in-Some-pop.ensures.items
+    (omega (arith, ok, shorter, same, more))
     c.turn_wires-made.ensures.node.0.until in
-    below_put_back _ _ _ _ _ c.requires.shared _ _ _ _ c.requires.side c.requires.node.number _ _ _ _ _ _ back (view_of c.put_wire_back.new.seat) c.put_wire_back.ensures.view ∙ sym c.requires.held
+    below_put_back _ _ _ _ _ c.requires.shared _ _ _ _ c.requires.side c.requires.node.number _ _ _ _ _ _ back (view_of c.put_wire_back.new.seat)
+    c.put_wire_back.ensures.view ∙ sym c.requires.held
 
 pub returns-else-made-clause-bench : goal.returns-else-made-clause-bench
-returns-else-made-clause-bench g n c = 
+returns-else-made-clause-bench g n c =
     let same = c.turn_wires-made.ensures.bench.1 in let more = c.push_reserved.ensures.len in
     let ok = c.pop.new.self.ok.0 in let shorter = c.in-Some-pop.ensures.len in
     let back = came_back g.O.Opens.opened g.O.Opens.nodes g.O.Opens.steps c.args.node.now.number c.args.node.now.time c.args.side.now
-    (vec_len c.args.bench.now) (vec_len c.push_reserved.new.self) _ _ _ c.turn_wires-made.new.node.time (view_of c.args.seat.now) (view_of c.claim_wire.new.seat)
+    (vec_len c.args.bench.now) (vec_len c.push_reserved.new.self) _ _ _ c.turn_wires-made.new.node.time (view_of c.args.seat.now)
+    (view_of c.claim_wire.new.seat)
     (view_of c.turn_wires-made.new.seat) c.turn_wires-made.new.bench.items c.pop.new.self.items c.in-Some-pop.cell
     c.len-place.ensures c.if-place-side.false c.requires.bench.1 c.requires.held more (ap (slice_index c.args.side.now) c.len-place.ensures) c.time.ensures
-    c.in-Some.ensures.claimed c.turn_wires-made.ensures.held c.turn_wires-made.ensures.bench.0 c.in-Some-pop.ensures.items (omega (arith, ok, shorter, same, more))
+    c.in-Some.ensures.claimed c.turn_wires-made.ensures.held c.turn_wires-made.ensures.bench.0 c.in-Some-pop.ensures.items
+    (omega (arith, ok, shorter, same, more))
     c.turn_wires-made.ensures.node.0.until in (
       back.top.below,
       omega (arith, shorter, same, more),
