@@ -72,4 +72,5 @@ pub one_more : (T : RattleType) (Ts : List RattleType) → IsSend T → MayCross
 one_more T Ts one rest = record { all = (one, rest.all) }
 
 pub captures_send : (name : Sym) (types : List RattleType) → MayCross types → IsSend (TupleAt name types)
-captures_send name types cross = let T = type_at name types in recorded_send (Struct (shape T)) T.D T.to T.to_one (struct_send (shape T) (all_fields types cross.all))
+captures_send name types cross = let T = type_at name types in recorded_send (Struct (shape T)) T.D T.to T.to_one
+    (struct_send (shape T) (all_fields types cross.all))

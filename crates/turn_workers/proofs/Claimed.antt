@@ -1,26 +1,55 @@
 -- A worker on its way through the side of a node: what its seat holds after each call, and what it may pass and put back.
-use Rattle.std.proofs.Common.{◌≡◌, ℕ, suc, ◌+◌, ◌-◌, ◌<◌, List, [], ◌∷◌, drop, length, Some, slice_get, sym, ap, ◌∙◌, subst, arith}
+use Rattle.std.proofs.Common.{◌≡◌, ◌≢◌, ℕ, suc, ◌+◌, ◌-◌, ◌*◌, ◌<◌, ◌≤◌, List, [], ◌∷◌, ◌++◌, drop, length, Some, sym, ap, ◌∙◌, subst, arith}
 use Rattle.std.specs.Prelude.{slice_index}
 use Rattle.std.proofs.lemmas.Option.{get_or_from_slice_get}
 use Rattle.hume_model.specs.declared.core_tree.Core.{Core}
 use Rattle.hume_net.specs.declared.plan.Plan.{Plan}
 use Rattle.hume_net.specs.Plan.{wires_of}
+use Rattle.wire_cells.specs.Cells.{CellView}
 use Rattle.box_step.specs.nodes.Openings.{Opening}
 use Rattle.step_turns.specs.Rounds.{IsWholeSide}
 use Rattle.turn_locker.specs.declared.view.View.{View}
 use Rattle.turn_locker.specs.Asking.{MayPassNode, MayPassWire, MayPutBack}
 use Rattle.turn_locker.specs.Seats.{LockerView}
 use Rattle.turn_locker.specs.Views.{HoldsNothing, claims, passes, puts_back}
-use Rattle.turn_workers.specs.Rounds.{IsShared}
+use Rattle.turn_workers.specs.inner.Benches.{AreHeld}
+use Rattle.turn_workers.specs.inner.Rounds.{IsShared}
 use Rattle.turn_workers.specs.inner.Stacks.{stack, pairs_of}
-use Rattle.turn_workers.proofs.Stacks.{IsSide, plain_side, one_may_pass, held_one_passed, pairs_one_passed, one_put_back, held_put_back, nothing_held, node_may_go, no_pairs}
+use Rattle.turn_workers.proofs.Turning.{IsTop, top_of}
+use Rattle.turn_workers.proofs.Stacks.{IsSide, plain_side, one_may_pass, held_one_passed, pairs_one_passed}
+use Rattle.turn_workers.proofs.Stacks.{one_put_back, held_put_back, nothing_held, node_may_go, no_pairs}
 
 -- one wire more is held
-pub more_held : (nodes node t : ℕ) (side : List ℕ) (k m wire time : ℕ) (v new : View) → v.held ≡ stack nodes node t side k → m ≡ k + 1 → wire ≡ slice_index side k → time ≡ t
+pub more_held : (nodes node t : ℕ) (side : List ℕ) (k m wire time : ℕ) (v new : View) → v.held ≡ stack nodes node t side k → m ≡ k + 1
+    → wire ≡ slice_index side k → time ≡ t
     → new ≡ claims (nodes + wire) time v → new.held ≡ stack nodes node t side m
 more_held nodes node t side k m wire time v new held longer is now claimed =
     let e : suc k ≡ m = omega (arith, longer) in
     ap (λ (x : View). x.held) claimed ∙ ((λ i. (nodes + is i, now i) ∷ held i) ∙ ap (stack nodes node t side) e)
+
+-- some wire of the side is left
+pub some_left : (side : List ℕ) (k place : ℕ) → place ≡ k → (place ≡ length side → ⊥) → k ≤ length side → k < length side
+some_left side k place is not_all few = let apart : k ≢ length side = (λ e. not_all (is ∙ e)) in omega (arith, few, apart)
+
+module _ (opened : Opening → Type 0) (nodes steps node t : ℕ) (side : List ℕ) where
+  -- The first so many wires of the side were claimed, and the rest was tried: the cell of the last one is off the bench again, and the
+  -- seat holds what it held then.
+  pub record IsBack (k m time : ℕ) (v : View) (rest : List CellView) (cell : CellView) : Type 0 where
+    pub near : k < length side
+    pub longer : m ≡ k + 1
+    pub held : v.held ≡ stack nodes node t side m
+    pub top : IsTop opened side steps time k cell rest
+
+  pub came_back : (k m place wire now time : ℕ) (v claimed new : View) (cells rest : List CellView) (cell : CellView)
+      → place ≡ k → (place ≡ length side → ⊥) → k ≤ length side
+      → v.held ≡ stack nodes node t side k → m ≡ k + 1 → wire ≡ slice_index side k → now ≡ t → claimed ≡ claims (nodes + wire) now v → new.held ≡ claimed.held
+      → AreHeld opened side time cells → cells ≡ rest ++ cell ∷ [] → length rest ≡ k → time ≤ 2 * steps → IsBack k m time new rest cell
+  came_back k m place wire now time v claimed new cells rest cell at not_all few held longer is same view kept bench popped long until = record {
+    near = some_left side k place at not_all few;
+    longer = longer;
+    held = kept ∙ more_held nodes node t side k m wire now v claimed held longer is same view;
+    top = top_of opened side steps time k cells rest cell bench popped long until;
+  }
 
 module _ (opened : Opening → Type 0) (nodes steps : ℕ) (core : Core) (locker : LockerView) (shared : IsShared opened nodes steps core locker)
     (node t room : ℕ) (side : List ℕ) (whole : IsWholeSide core node t room side) (lt : node < nodes) where
@@ -37,42 +66,52 @@ module _ (opened : Opening → Type 0) (nodes steps : ℕ) (core : Core) (locker
   of_plan k near = (is_side.of_side k near).0
 
   -- the wire on top
-  module _ (k m : ℕ) (near : k < length side) (longer : m ≡ k + 1) (v : View) (held : v.held ≡ stack nodes node t side m) (number : ℕ) (there : slice_get side k ≡ Some number) where
-    at : number ≡ slice_index side k
-    at = sym (get_or_from_slice_get side k number 0 there)
+  module _ (k m time : ℕ) (v : View) (rest : List CellView) (cell : CellView) (back : IsBack opened nodes steps node t side k m time v rest cell) where
+    at : cell.number ≡ slice_index side k
+    at = sym (get_or_from_slice_get side k cell.number 0 back.top.number)
 
     held_of_plan : v.held ≡ stack locker.plan.nodes node t side m
-    held_of_plan = held ∙ ap (λ n. stack n node t side m) same_count
+    held_of_plan = back.held ∙ ap (λ n. stack n node t side m) same_count
 
-    pub top_of_plan : number < wires_of locker.plan
-    top_of_plan = subst (λ w. w < wires_of locker.plan) (sym at) (of_plan k near)
+    below_of_plan : (new : View) → new.held ≡ stack locker.plan.nodes node t side k → new.held ≡ stack nodes node t side k
+    below_of_plan new held = held ∙ ap (λ n. stack n node t side k) (sym same_count)
 
-    pub top_put_back : v.passed ≡ [] → (time : ℕ) → time ≡ t → MayPutBack locker.plan (nodes + number) time v
-    top_put_back none_passed time same = subst (λ (y : ℕ × ℕ). MayPutBack locker.plan (y.0 + number) y.1 v) (λ i. (sym same_count i, sym same i))
-        (one_put_back locker.plan node t side less is_side k m near longer v held_of_plan number at none_passed)
+    pub top_of_plan : cell.number < wires_of locker.plan
+    top_of_plan = subst (λ w. w < wires_of locker.plan) (sym at) (of_plan k back.near)
 
-    pub below_put_back : (new : View) → new ≡ puts_back (nodes + number) v → new.held ≡ stack nodes node t side k
-    below_put_back new view =
-        held_put_back locker.plan node t side less is_side k m near longer v held_of_plan number at new (view ∙ ap (λ n. puts_back (n + number) v) same_count)
-        ∙ ap (λ n. stack n node t side k) (sym same_count)
+    -- it goes back where the half step was not made
+    module _ (still : time ≡ t) where
+      pub top_put_back : v.passed ≡ [] → MayPutBack locker.plan (nodes + cell.number) cell.time v
+      top_put_back none_passed = subst (λ (y : ℕ × ℕ). MayPutBack locker.plan (y.0 + cell.number) y.1 v) (λ i. (sym same_count i, sym (back.top.at ∙ still) i))
+          (one_put_back locker.plan node t side less is_side k m back.near back.longer v held_of_plan cell.number at none_passed)
 
-    module _ (passed : v.passed ≡ pairs_of node (drop m side)) (time : ℕ) (later : time ≡ t + 1) where
-      pub top_may_pass : MayPassWire locker.plan number (time - 1) v
-      top_may_pass = one_may_pass locker.plan node t side less is_side k m near longer v held_of_plan number at passed time later
+    pub below_put_back : (new : View) → new ≡ puts_back (nodes + cell.number) v → new.held ≡ stack nodes node t side k
+    below_put_back new view = below_of_plan new (held_put_back locker.plan node t side less is_side k m back.near back.longer v held_of_plan cell.number at new
+        (view ∙ ap (λ n. puts_back (n + cell.number) v) same_count))
 
-      module _ (new : View) (view : new ≡ passes locker.plan (nodes + number) (time - 1) v) where
-        view_of_plan : new ≡ passes locker.plan (locker.plan.nodes + number) (time - 1) v
-        view_of_plan = view ∙ ap (λ n. passes locker.plan (n + number) (time - 1) v) same_count
+    -- it is passed where the half step was made
+    module _ (passed : v.passed ≡ pairs_of node (drop m side)) (later : time ≡ t + 1) where
+      pub top_may_pass : MayPassWire locker.plan cell.number (cell.time - 1) v
+      top_may_pass = one_may_pass locker.plan node t side less is_side k m back.near back.longer v held_of_plan cell.number at passed cell.time
+          (back.top.at ∙ later)
+
+      module _ (new : View) (view : new ≡ passes locker.plan (nodes + cell.number) (cell.time - 1) v) where
+        view_of_plan : new ≡ passes locker.plan (locker.plan.nodes + cell.number) (cell.time - 1) v
+        view_of_plan = view ∙ ap (λ n. passes locker.plan (n + cell.number) (cell.time - 1) v) same_count
 
         pub below_passed : new.held ≡ stack nodes node t side k
-        below_passed = held_one_passed locker.plan node t side less is_side k m near longer v held_of_plan number at passed time later new view_of_plan
-            ∙ ap (λ n. stack n node t side k) (sym same_count)
+        below_passed = below_of_plan new (held_one_passed locker.plan node t side less is_side k m back.near back.longer v held_of_plan cell.number at
+            passed cell.time
+            (back.top.at ∙ later) new view_of_plan)
 
         pub pairs_more : new.passed ≡ pairs_of node (drop k side)
-        pairs_more = pairs_one_passed locker.plan node t side less is_side k m near longer v held_of_plan number at passed time later new view_of_plan
+        pairs_more = pairs_one_passed locker.plan node t side less is_side k m back.near back.longer v held_of_plan cell.number at passed cell.time
+            (back.top.at ∙ later)
+            new view_of_plan
 
   -- the node, behind all wires of its side
-  module _ (v : View) (held : v.held ≡ (node, t) ∷ []) (passed : v.passed ≡ pairs_of node side) (number time : ℕ) (is : number ≡ node) (later : time ≡ t + 1) where
+  module _ (v : View) (held : v.held ≡ (node, t) ∷ []) (passed : v.passed ≡ pairs_of node side) (number time : ℕ) (is : number ≡ node)
+      (later : time ≡ t + 1) where
     pub node_may_pass : MayPassNode locker.plan number (time - 1) v
     node_may_pass = subst (λ n. MayPassNode locker.plan n (time - 1) v) (sym is) (node_may_go locker.plan node t side less is_side v held passed time later)
 

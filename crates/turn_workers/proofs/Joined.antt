@@ -37,7 +37,8 @@ module _ (opened : Opening → Type 0) (steps : ℕ) (core : Core) (nodes : List
   }
     where
       at_first : (n : ℕ) (cell : BoxCell) → slice_get nodes n ≡ Some cell → cell.time ≡ 0
-      at_first n cell at = let low = begun n (slice_get_within nodes n cell at) in let same : node_time nodes n ≡ cell.time = ap time_there at in omega (arith, low, same)
+      at_first n cell at = let low = begun n (slice_get_within nodes n cell at) in let same : node_time nodes n ≡ cell.time = ap time_there at in omega
+          (arith, low, same)
 
   pub wire_at_rest : IsPlan (plan_of core) → (w : ℕ) → w < length core.wires → IsWireAtRest opened steps w home
   wire_at_rest planned w less =
@@ -188,8 +189,10 @@ module _ (P : Type 0) (opened : Opening → Type 0) (nodes steps : ℕ) (core : 
     (node_back : (n : ℕ) (cell : BoxCell) → slice_get cells n ≡ Some cell → slice_get (cells_of (take nodes values)) n ≡ Some (Node cell))
     (long : length home ≡ length core.wires)
     (wire_back : (w : ℕ) → w < length core.wires → IsWireBack nodes w (cells_of values) home) where
-  of_core : AreHome (λ (i : Item P). number_in i.cell) (λ (i : Item P). time_in i.cell) (λ (i : Item P). IsRight opened (length core.nodes) steps i.cell) (plan_of core) values
-  of_core = subst (λ (x : ℕ × Plan). AreHome (λ (i : Item P). number_in i.cell) (λ (i : Item P). time_in i.cell) (λ (i : Item P). IsRight opened x.0 steps i.cell) x.1 values)
+  of_core : AreHome (λ (i : Item P). number_in i.cell) (λ (i : Item P). time_in i.cell) (λ (i : Item P). IsRight opened (length core.nodes) steps i.cell)
+      (plan_of core) values
+  of_core = subst (λ (x : ℕ × Plan). AreHome (λ (i : Item P). number_in i.cell) (λ (i : Item P). time_in i.cell)
+      (λ (i : Item P). IsRight opened x.0 steps i.cell) x.1 values)
       (λ i. (same i, is i)) closed
 
   node_home : (n : ℕ) (cell : BoxCell) → slice_get cells n ≡ Some cell → slice_get (cells_of values) n ≡ Some (Node cell)
@@ -202,12 +205,15 @@ module _ (P : Type 0) (opened : Opening → Type 0) (nodes steps : ℕ) (core : 
 
   pub back_in_place : AreInPlace core cells home
   back_in_place = in_place opened steps core planned (cells_of values) of_core.clock (all_items opened (length core.nodes) steps (plan_of core) values of_core)
-      (time_of_item opened (length core.nodes) steps (plan_of core) values of_core) of_core.balanced of_core.wires cells home (count ∙ same) node_home long wire_home
+      (time_of_item opened (length core.nodes) steps (plan_of core) values of_core) of_core.balanced of_core.wires cells home (count ∙ same) node_home long
+      wire_home
 
   pub back_until : AreUntil (2 * steps) cells
   back_until = until_end opened steps core planned (cells_of values) of_core.clock (all_items opened (length core.nodes) steps (plan_of core) values of_core)
-      (time_of_item opened (length core.nodes) steps (plan_of core) values of_core) of_core.balanced of_core.wires cells home (count ∙ same) node_home long wire_home
+      (time_of_item opened (length core.nodes) steps (plan_of core) values of_core) of_core.balanced of_core.wires cells home (count ∙ same) node_home long
+      wire_home
 
   pub back_right : (opening : Opening) → opened opening → AllRight opening cells home
   back_right = all_right opened steps core planned (cells_of values) of_core.clock (all_items opened (length core.nodes) steps (plan_of core) values of_core)
-      (time_of_item opened (length core.nodes) steps (plan_of core) values of_core) of_core.balanced of_core.wires cells home (count ∙ same) node_home long wire_home
+      (time_of_item opened (length core.nodes) steps (plan_of core) values of_core) of_core.balanced of_core.wires cells home (count ∙ same) node_home long
+      wire_home

@@ -29,11 +29,13 @@ none_passed plan m v is = ap (λ (w : View). w.passed) is
 
 pub one_home : (plan : Plan) (n m : ℕ) (v : View) → v ≡ still_holds plan m → m ≡ n + 1 → puts_back n v ≡ still_holds plan n
 one_home plan n m v is e = let longer : m ≡ suc n = omega (arith, e) in
-    ap (puts_back n) is ∙ (λ i. record (newcomer plan) { held = without n (held_at_first (longer i)) }) ∙ (λ i. record (newcomer plan) { held = without_last n i })
+    ap (puts_back n) is ∙ (λ i. record (newcomer plan) { held = without n (held_at_first (longer i)) })
+    ∙ (λ i. record (newcomer plan) { held = without_last n i })
 
 -- nodes at rest, one less
 
-module _ (opened : Opening → Type 0) (nodes steps : ℕ) (cells : List BoxCell) (cell : BoxCell) (rest : AreNodesAtRest opened nodes steps (cells ++ cell ∷ [])) where
+module _ (opened : Opening → Type 0) (nodes steps : ℕ) (cells : List BoxCell) (cell : BoxCell)
+    (rest : AreNodesAtRest opened nodes steps (cells ++ cell ∷ [])) where
   pub nodes_less : AreNodesAtRest opened nodes steps cells
   nodes_less = record {
     numbers = (at_one_less cells cell (λ n (c : BoxCell). c.number ≡ n) rest.numbers).0;
@@ -42,7 +44,12 @@ module _ (opened : Opening → Type 0) (nodes steps : ℕ) (cells : List BoxCell
   }
 
   pub last_node : (cell.number ≡ length cells) × (cell.time ≡ 0) × IsNodeRight opened nodes steps cell
-  last_node = (rest.numbers (length cells) cell (last_get cells cell), rest.begun (length cells) cell (last_get cells cell), rest.right (length cells) cell (last_get cells cell))
+  last_node = (
+    rest.numbers (length cells) cell (last_get cells cell),
+    rest.begun (length cells) cell (last_get cells cell),
+    rest.right (length cells) cell
+        (last_get cells cell),
+  )
 
 pub wire_by : (opened : Opening → Type 0) (steps w : ℕ) (old new : List (Option CellView)) → slice_get new w ≡ slice_get old w
     → IsWireAtRest opened steps w old → IsWireAtRest opened steps w new
@@ -63,7 +70,8 @@ turned xs k x at =
     let inside = slice_get_within (reverse xs) k x at in
     let same = length-reverse xs in
     let near : k < length xs = omega (arith, inside, same) in
-    slice_get-get_or xs (length xs - 1 - k) x (omega (arith, near)) ∙ ap (λ y. Some y) (sym (get_or-reverse xs k x near) ∙ get_or_from_slice_get (reverse xs) k x x at)
+    slice_get-get_or xs (length xs - 1 - k) x (omega (arith, near)) ∙ ap (λ y. Some y) (sym (get_or-reverse xs k x near)
+    ∙ get_or_from_slice_get (reverse xs) k x x at)
 
 pub in_order : (count : ℕ) (cells : List NetCell) (nodes : List BoxCell) → AreNodesBack count cells nodes → length nodes ≡ count
     → (n : ℕ) (cell : BoxCell) → slice_get (reverse nodes) n ≡ Some cell → slice_get cells n ≡ Some (Node cell)

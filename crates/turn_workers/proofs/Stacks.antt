@@ -47,18 +47,22 @@ without_absent i (h ∷ hs) gone = dite (ℕ_discrete h.0 i)
 
 pub node_there : (nodes node t : ℕ) (side : List ℕ) (k : ℕ) → node < nodes → held_at node (stack nodes node t side k) ≡ some t
 node_there nodes node t side zero lt = held_here node t []
-node_there nodes node t side (suc k) lt = held_else (nodes + slice_index side k) t node (stack nodes node t side k) (λ e. omega (arith, e)) ∙ node_there nodes node t side k lt
+node_there nodes node t side (suc k) lt = held_else (nodes + slice_index side k) t node (stack nodes node t side k) (λ e. omega (arith, e))
+    ∙ node_there nodes node t side k lt
 
 pub wire_there : (nodes node t : ℕ) (side : List ℕ) (k j : ℕ) → j < k → held_at (nodes + slice_index side j) (stack nodes node t side k) ≡ some t
 wire_there nodes node t side zero j lt = absurd (omega arith)
 wire_there nodes node t side (suc k) j lt = dite (ℕ_discrete (nodes + slice_index side j) (nodes + slice_index side k))
-    (λ e. ap (λ q. held_at q ((nodes + slice_index side k, t) ∷ stack nodes node t side k)) e ∙ held_here (nodes + slice_index side k) t (stack nodes node t side k))
+    (λ e. ap (λ q. held_at q ((nodes + slice_index side k, t) ∷ stack nodes node t side k)) e
+    ∙ held_here (nodes + slice_index side k) t (stack nodes node t side k))
     (λ other. held_else (nodes + slice_index side k) t (nodes + slice_index side j) (stack nodes node t side k) other
     ∙ wire_there nodes node t side k j (let apart : j ≢ k = λ f. other (ap (λ i. nodes + slice_index side i) f) in omega (arith, apart)))
 
-pub wire_gone : (nodes node t : ℕ) (side : List ℕ) (k w : ℕ) → node < nodes → ((j : ℕ) → j < k → slice_index side j ≢ w) → held_at (nodes + w) (stack nodes node t side k) ≡ none
+pub wire_gone : (nodes node t : ℕ) (side : List ℕ) (k w : ℕ) → node < nodes → ((j : ℕ) → j < k → slice_index side j ≢ w)
+    → held_at (nodes + w) (stack nodes node t side k) ≡ none
 wire_gone nodes node t side zero w lt apart = held_else node t (nodes + w) [] (λ e. omega (arith, e))
-wire_gone nodes node t side (suc k) w lt apart = held_else (nodes + slice_index side k) t (nodes + w) (stack nodes node t side k) (λ e. apart k (omega arith) (omega (arith, e)))
+wire_gone nodes node t side (suc k) w lt apart = held_else (nodes + slice_index side k) t (nodes + w) (stack nodes node t side k)
+    (λ e. apart k (omega arith) (omega (arith, e)))
     ∙ wire_gone nodes node t side k w lt (λ j near. apart j (omega arith))
 
 pub pair_there : (node : ℕ) (ws : List ℕ) (k x : ℕ) → k < length ws → slice_index ws k ≡ x → has_pair node x (pairs_of node ws) ≡ true
@@ -73,9 +77,11 @@ module _ (plan : Plan) (node t : ℕ) (side : List ℕ) (lt : node < plan.nodes)
   -- the top of the stack goes
   pub top_goes : (k : ℕ) → k < length side → without (plan.nodes + slice_index side k) (stack plan.nodes node t side (suc k)) ≡ stack plan.nodes node t side k
   top_goes k near = let w : ℕ = slice_index side k in let i : ℕ = plan.nodes + w in
-      rw (eq-eqb i i refl) (without_absent i (stack plan.nodes node t side k) (wire_gone plan.nodes node t side k w lt (λ j below e. let same : j ≡ k = is.once j k (omega arith) near e in omega (arith, same))))
+      rw (eq-eqb i i refl) (without_absent i (stack plan.nodes node t side k) (wire_gone plan.nodes node t side k w lt
+      (λ j below e. let same : j ≡ k = is.once j k (omega arith) near e in omega (arith, same))))
 
-  module _ (k : ℕ) (near : k < length side) (v : View) (held : v.held ≡ stack plan.nodes node t side (suc k)) (passed : v.passed ≡ pairs_of node (drop (suc k) side)) where
+  module _ (k : ℕ) (near : k < length side) (v : View) (held : v.held ≡ stack plan.nodes node t side (suc k))
+      (passed : v.passed ≡ pairs_of node (drop (suc k) side)) where
     moves : mover plan t (slice_index side k) ≡ node
     moves = (is.of_side k near).1
 
@@ -99,7 +105,8 @@ module _ (plan : Plan) (node t : ℕ) (side : List ℕ) (lt : node < plan.nodes)
     held_passed = ap (without (plan.nodes + slice_index side k)) held ∙ top_goes k near
 
     pub pairs_passed : (passes plan (plan.nodes + slice_index side k) t v).passed ≡ pairs_of node (drop k side)
-    pairs_passed = passed_wire plan (slice_index side k) t v.passed ∙ ((λ i. (moves i, slice_index side k) ∷ passed i) ∙ ap (pairs_of node) (sym (drop-cons side k 0 near)))
+    pairs_passed = passed_wire plan (slice_index side k) t v.passed ∙ ((λ i. (moves i, slice_index side k) ∷ passed i)
+        ∙ ap (pairs_of node) (sym (drop-cons side k 0 near)))
 
   pub may_pass_node : (v : View) → v.held ≡ (node, t) ∷ [] → v.passed ≡ pairs_of node side → MayPassNode plan node t v
   may_pass_node v held passed = record {
@@ -124,7 +131,8 @@ alone_goes node t = rw (eq-eqb node node refl) refl
 
 -- on the way through a side, as the code meets it
 
-module _ (plan : Plan) (node t : ℕ) (side : List ℕ) (lt : node < plan.nodes) (is : IsSide plan t node side) (k m : ℕ) (near : k < length side) (longer : m ≡ k + 1)
+module _ (plan : Plan) (node t : ℕ) (side : List ℕ) (lt : node < plan.nodes) (is : IsSide plan t node side) (k m : ℕ) (near : k < length side)
+    (longer : m ≡ k + 1)
     (v : View) (held : v.held ≡ stack plan.nodes node t side m) (number : ℕ) (at : number ≡ slice_index side k) where
   next : m ≡ suc k
   next = omega (arith, longer)
@@ -149,7 +157,8 @@ module _ (plan : Plan) (node t : ℕ) (side : List ℕ) (lt : node < plan.nodes)
 
     -- the wire may be passed
     pub one_may_pass : MayPassWire plan number (time - 1) v
-    one_may_pass = subst (λ (y : ℕ × ℕ). MayPassWire plan y.0 y.1 v) (λ i. (sym at i, before i)) (may_pass_wire plan node t side lt is k near v held_next passed_next)
+    one_may_pass = subst (λ (y : ℕ × ℕ). MayPassWire plan y.0 y.1 v) (λ i. (sym at i, before i))
+        (may_pass_wire plan node t side lt is k near v held_next passed_next)
 
     pub held_one_passed : (new : View) → new ≡ passes plan (plan.nodes + number) (time - 1) v → new.held ≡ stack plan.nodes node t side k
     held_one_passed new view = ap (λ (x : View). x.held) view
@@ -161,15 +170,13 @@ module _ (plan : Plan) (node t : ℕ) (side : List ℕ) (lt : node < plan.nodes)
 
 -- the node goes last, with its pairs
 module _ (plan : Plan) (node t : ℕ) (side : List ℕ) (lt : node < plan.nodes) (is : IsSide plan t node side) (v : View) (held : v.held ≡ (node, t) ∷ []) where
-  pub node_put_back : v.passed ≡ [] → MayPutBack plan node t v
-  node_put_back none_passed = may_put_back plan node t v (ap (held_at node) held ∙ held_here node t []) none_passed
-
   pub nothing_held : (new : View) → new.held ≡ without node v.held → new.held ≡ []
   nothing_held new view = view ∙ (ap (without node) held ∙ alone_goes node t)
 
   module _ (passed : v.passed ≡ pairs_of node side) (time : ℕ) (later : time ≡ t + 1) where
     pub node_may_go : MayPassNode plan node (time - 1) v
-    node_may_go = subst (λ (x : ℕ). MayPassNode plan node x v) (let e : t ≡ time - 1 = omega (arith, later) in e) (may_pass_node plan node t side lt is v held passed)
+    node_may_go = subst (λ (x : ℕ). MayPassNode plan node x v) (let e : t ≡ time - 1 = omega (arith, later) in e)
+        (may_pass_node plan node t side lt is v held passed)
 
     pub no_pairs : (new : View) → new ≡ passes plan node (time - 1) v → new.passed ≡ []
     no_pairs new view = ap (λ (x : View). x.passed) view ∙ (passed_node plan node (time - 1) v.passed lt ∙ (ap (pairs_but node) passed ∙ but_all node side))

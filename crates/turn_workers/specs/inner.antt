@@ -1,3 +1,4 @@
 pub mod Stacks
 pub mod Benches
 pub mod Moved
+pub mod Rounds

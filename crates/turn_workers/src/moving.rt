@@ -7,7 +7,7 @@ ghost use Rattle.turn_locker.specs.Held.{items_of};
 ghost use Rattle.turn_locker.specs.Seats.{IsSeatOf, view_of};
 ghost use Rattle.turn_locker.specs.Views.{newcomer, whole_share};
 ghost use Rattle.turn_workers.specs.Items.{IsNodeRight};
-ghost use Rattle.turn_workers.specs.Rounds.{IsIdle};
+ghost use Rattle.turn_workers.specs.inner.Rounds.{IsIdle};
 ghost use Rattle.turn_workers.specs.inner.Moved.{cells_of, AreItems, AreNodesAtRest, AreNodesBack, IsWireAtRest, IsWireBack, still_holds};
 ghost use Rattle.turn_workers.specs.declared.cells.NetCell.TheVariants.{Node, Wire as AWire};
 

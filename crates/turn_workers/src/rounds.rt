@@ -7,7 +7,7 @@ ghost use Rattle.step_turns.specs.Rounds.{AllRight, AreInPlace, AreSides, AreUnt
 ghost use Rattle.turn_locker.specs.Held.{items_of};
 ghost use Rattle.turn_locker.specs.Seats.{IsSeatOf, view_of};
 ghost use Rattle.turn_locker.specs.Views.{newcomer};
-ghost use Rattle.turn_workers.specs.Rounds.{IsIdle, IsShared};
+ghost use Rattle.turn_workers.specs.inner.Rounds.{IsIdle, IsShared};
 
 use crate::gate::Gate;
 use crate::items::{Item, Opens};
@@ -173,7 +173,8 @@ fn run_all<O: Opens, R: Threads + Sync, G: Gate>(
     let (a, b) = join(
         rt,
         move || -> Seat<Item<O>>
-            requires { IsSync R.row × IsSync G.row × IsShared O.opened O.nodes O.steps core.now locker.now × (nodes ≡ O.nodes) × (steps ≡ O.steps) × (from ≤ middle) × (middle ≤ nodes) × AreSides core.now room sides.now × IsIdle locker.now left × (rest ≤ (view_of left).share) }
+            requires { IsSync R.row × IsSync G.row × IsShared O.opened O.nodes O.steps core.now locker.now × (nodes ≡ O.nodes) × (steps ≡ O.steps)
+                × (from ≤ middle) × (middle ≤ nodes) × AreSides core.now room sides.now × IsIdle locker.now left × (rest ≤ (view_of left).share) }
             ensures { IsIdle locker.entry.now result × ((view_of result).share ≡ (view_of left).share) }
         {
             run_all::<O, R, G>(
@@ -181,7 +182,8 @@ fn run_all<O: Opens, R: Threads + Sync, G: Gate>(
             )
         },
         move || -> Seat<Item<O>>
-            requires { IsSync R.row × IsSync G.row × IsShared O.opened O.nodes O.steps core.now locker.now × (nodes ≡ O.nodes) × (steps ≡ O.steps) × (middle ≤ to) × (to ≤ nodes) × AreSides core.now room sides.now × IsIdle locker.now right × (half ≤ (view_of right).share) }
+            requires { IsSync R.row × IsSync G.row × IsShared O.opened O.nodes O.steps core.now locker.now × (nodes ≡ O.nodes) × (steps ≡ O.steps)
+                × (middle ≤ to) × (to ≤ nodes) × AreSides core.now room sides.now × IsIdle locker.now right × (half ≤ (view_of right).share) }
             ensures { IsIdle locker.entry.now result × ((view_of result).share ≡ (view_of right).share) }
         {
             run_all::<O, R, G>(

@@ -3,7 +3,7 @@ ghost use Rattle.std.specs.Prelude.{◌≡◌, ◌+◌, ◌*◌, ◌<◌, ◌≤
 ghost use Rattle.hume_model.specs.declared.core_tree.Core.{Core as AnyCore};
 ghost use Rattle.step_turns.specs.Rounds.{AreSides, IsWholeSide};
 ghost use Rattle.turn_locker.specs.Seats.{view_of};
-ghost use Rattle.turn_workers.specs.Rounds.{IsIdle, IsShared};
+ghost use Rattle.turn_workers.specs.inner.Rounds.{IsIdle, IsShared};
 
 use crate::gate::Gate;
 use crate::items::{Item, Opens};

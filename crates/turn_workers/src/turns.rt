@@ -10,7 +10,7 @@ ghost use Rattle.turn_locker.specs.Held.{items_of};
 ghost use Rattle.turn_locker.specs.Seats.{IsSeatOf, view_of};
 ghost use Rattle.turn_locker.specs.Views.{claims, passes, puts_back};
 ghost use Rattle.turn_workers.specs.Items.{IsNodeRight, IsWireRight};
-ghost use Rattle.turn_workers.specs.Rounds.{IsIdle, IsShared};
+ghost use Rattle.turn_workers.specs.inner.Rounds.{IsIdle, IsShared};
 ghost use Rattle.turn_workers.specs.inner.Benches.{AreHeld};
 ghost use Rattle.turn_workers.specs.inner.Stacks.{AreAlike, pairs_of, stack};
 
@@ -82,7 +82,8 @@ fn turn_wires<O: Opens, G: Gate>(
     ensures held { (view_of seat.new).held ≡ (view_of seat.old).held }
     ensures passed { (view_of seat.new).passed ≡ (if result then pairs_of node.old.number (drop (vec_len bench.old) side.now) else []) }
     ensures share { (view_of seat.new).share ≡ (view_of seat.old).share }
-    ensures bench { AreHeld O.opened side.now node.new.time bench.new.items × (vec_len bench.new ≡ vec_len bench.old) × (vec_capacity bench.new ≡ vec_capacity bench.old) }
+    ensures bench { AreHeld O.opened side.now node.new.time bench.new.items × (vec_len bench.new ≡ vec_len bench.old)
+        × (vec_capacity bench.new ≡ vec_capacity bench.old) }
     ensures node { IsNodeRight O.opened O.nodes O.steps node.new × (node.new.number ≡ node.old.number) }
     ensures time { node.new.time ≡ (if result then node.old.time + 1 else node.old.time) }
 {
@@ -121,7 +122,8 @@ fn step_held<O: Opens, G: Gate>(
     requires bench { AreHeld O.opened side.now node.old.time bench.old.items × (vec_len bench.old ≡ length side.now) }
     requires node { IsNodeRight O.opened O.nodes O.steps node.old }
     requires time { (node.old.time < 2 * O.steps) × (O.steps < 2 ^ 32) }
-    ensures bench { AreHeld O.opened side.now node.new.time bench.new.items × (vec_len bench.new ≡ vec_len bench.old) × (vec_capacity bench.new ≡ vec_capacity bench.old) }
+    ensures bench { AreHeld O.opened side.now node.new.time bench.new.items × (vec_len bench.new ≡ vec_len bench.old)
+        × (vec_capacity bench.new ≡ vec_capacity bench.old) }
     ensures node { IsNodeRight O.opened O.nodes O.steps node.new × (node.new.number ≡ node.old.number) }
     ensures time { node.new.time ≡ node.old.time + 1 }
 {

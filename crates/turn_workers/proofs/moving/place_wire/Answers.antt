@@ -13,13 +13,18 @@ take_from-cell-requires g c = (c.requires.cell.cell, c.requires.cell.there)
 pub place-requires-clause-value : goal.place-requires-clause-value
 place-requires-clause-value g c = λ κs le.
     let rest = c.requires.cell in
-    let same : rest.cell ≡ c.take_from-cell.result = (let both : Some (Some rest.cell) ≡ Some (Some c.take_from-cell.result) = sym rest.there ∙ c.take_from-cell.ensures.cell in cc) in
+    let same : rest.cell ≡ c.take_from-cell.result = (let both : Some (Some rest.cell) ≡ Some (Some c.take_from-cell.result) = sym rest.there
+    ∙ c.take_from-cell.ensures.cell in cc) in
     let is = c.wire.ensures in
     let number : c.take_from-cell.result.number ≡ c.args.w = ap (λ (x : CellView). x.number) (sym same) ∙ rest.number in
     let nodes = c.requires.plan.0 in (
       ap number_in is,
       ap time_in is ∙ (ap (λ (x : CellView). x.time) (sym same) ∙ rest.begun),
-      subst (IsRight g.O.Opens.opened g.O.Opens.nodes g.O.Opens.steps) (sym is) (omega (arith, number, nodes), subst (IsWireRight g.O.Opens.opened g.O.Opens.steps) same rest.right),
+      subst (IsRight g.O.Opens.opened g.O.Opens.nodes g.O.Opens.steps) (sym is) (
+        omega (arith, number, nodes),
+        subst
+            (IsWireRight g.O.Opens.opened g.O.Opens.steps) same rest.right,
+      ),
     )
 
 pub place-requires-clause-vacant : goal.place-requires-clause-vacant

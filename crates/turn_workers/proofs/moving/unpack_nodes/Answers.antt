@@ -10,21 +10,24 @@ use Rattle.turn_workers.proofs.moving.unpack_nodes.Goals as goal
 pub into_node-requires-clause-number : goal.into_node-requires-clause-number
 into_node-requires-clause-number g c = λ κs le.
     let shorter = c.in-Some.ensures.len in let ok = c.pop.new.self.ok.0 in let count = c.unpacking.invariant.count in
-    let it = taken_item g.O.Opens.opened g.O.Opens.nodes g.O.Opens.steps _ (vec_len c.unpacking.items) c.args.items.items c.unpacking.items.items c.pop.new.self.items c.in-Some.item
+    let it = taken_item g.O.Opens.opened g.O.Opens.nodes g.O.Opens.steps _ (vec_len c.unpacking.items) c.args.items.items c.unpacking.items.items
+    c.pop.new.self.items c.in-Some.item
     c.requires.items c.unpacking.invariant.left c.in-Some.ensures.items (omega (arith, shorter, ok)) in
     let number = it.1.number in omega (arith, number, shorter, ok, count)
 
 pub into_node-requires-clause-right : goal.into_node-requires-clause-right
 into_node-requires-clause-right g c = λ κs le.
     let shorter = c.in-Some.ensures.len in let ok = c.pop.new.self.ok.0 in
-    let it = taken_item g.O.Opens.opened g.O.Opens.nodes g.O.Opens.steps _ (vec_len c.unpacking.items) c.args.items.items c.unpacking.items.items c.pop.new.self.items c.in-Some.item
+    let it = taken_item g.O.Opens.opened g.O.Opens.nodes g.O.Opens.steps _ (vec_len c.unpacking.items) c.args.items.items c.unpacking.items.items
+    c.pop.new.self.items c.in-Some.item
     c.requires.items c.unpacking.invariant.left c.in-Some.ensures.items (omega (arith, shorter, ok)) in
     it.1.right
 
 pub unpacking-preserved : goal.unpacking-preserved
 unpacking-preserved g c =
     let shorter = c.in-Some.ensures.len in let ok = c.pop.new.self.ok.0 in let count = c.unpacking.invariant.count in
-    let it = taken_item g.O.Opens.opened g.O.Opens.nodes g.O.Opens.steps _ (vec_len c.unpacking.items) c.args.items.items c.unpacking.items.items c.pop.new.self.items c.in-Some.item
+    let it = taken_item g.O.Opens.opened g.O.Opens.nodes g.O.Opens.steps _ (vec_len c.unpacking.items) c.args.items.items c.unpacking.items.items
+    c.pop.new.self.items c.in-Some.item
     c.requires.items c.unpacking.invariant.left c.in-Some.ensures.items (omega (arith, shorter, ok)) in
     let more = c.push_reserved.ensures.len in
     let nodes_ok = c.unpacking.nodes.ok.0 in
@@ -37,7 +40,8 @@ unpacking-preserved g c =
       count = omega (arith, shorter, more, count);
       room = (let room = c.unpacking.invariant.room in let same = c.push_reserved.ensures.capacity in omega (arith, room, same));
       back = subst (AreNodesBack g.O.Opens.nodes (cells_of c.args.items.items)) (sym c.push_reserved.ensures.items) (record {
-        each = at_one_more c.unpacking.nodes.items c.into_node.result (λ k (x : BoxCell). slice_get (cells_of c.args.items.items) (g.O.Opens.nodes - 1 - k) ≡ Some (Node x))
+        each = at_one_more c.unpacking.nodes.items c.into_node.result (λ k (x : BoxCell). slice_get (cells_of c.args.items.items) (g.O.Opens.nodes - 1 - k)
+            ≡ Some (Node x))
             c.unpacking.invariant.back.each here;
       });
     }

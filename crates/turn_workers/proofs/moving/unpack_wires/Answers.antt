@@ -11,14 +11,16 @@ pub into_wire-requires-clause-number : goal.into_wire-requires-clause-number
 into_wire-requires-clause-number g c = λ κs le.
     let above : c.args.nodes < vec_len c.unpacking.items = search rules in
     let shorter = c.in-Some.ensures.len in let ok = c.pop.new.self.ok.0 in let nodes = c.requires.count.0 in
-    let it = taken_item g.O.Opens.opened g.O.Opens.nodes g.O.Opens.steps _ (vec_len c.unpacking.items) c.args.items.now.items c.unpacking.items.items c.pop.new.self.items c.in-Some.item
+    let it = taken_item g.O.Opens.opened g.O.Opens.nodes g.O.Opens.steps _ (vec_len c.unpacking.items) c.args.items.now.items c.unpacking.items.items
+    c.pop.new.self.items c.in-Some.item
     c.requires.items c.unpacking.invariant.left c.in-Some.ensures.items (omega (arith, shorter, ok)) in
     let number = it.1.number in omega (arith, number, above, shorter, ok, nodes)
 
 pub into_wire-requires-clause-right : goal.into_wire-requires-clause-right
 into_wire-requires-clause-right g c = λ κs le.
     let shorter = c.in-Some.ensures.len in let ok = c.pop.new.self.ok.0 in
-    let it = taken_item g.O.Opens.opened g.O.Opens.nodes g.O.Opens.steps _ (vec_len c.unpacking.items) c.args.items.now.items c.unpacking.items.items c.pop.new.self.items c.in-Some.item
+    let it = taken_item g.O.Opens.opened g.O.Opens.nodes g.O.Opens.steps _ (vec_len c.unpacking.items) c.args.items.now.items c.unpacking.items.items
+    c.pop.new.self.items c.in-Some.item
     c.requires.items c.unpacking.invariant.left c.in-Some.ensures.items (omega (arith, shorter, ok)) in
     it.1.right
 
@@ -27,7 +29,8 @@ unpacking-preserved g c =
     let above : c.args.nodes < vec_len c.unpacking.items = search rules in
     let shorter = c.in-Some.ensures.len in let ok = c.pop.new.self.ok.0 in let nodes = c.requires.count.0 in let all = c.requires.count.1 in
     let k = c.unpacking.invariant in let most = k.most in let least = k.least in
-    let it = taken_item g.O.Opens.opened g.O.Opens.nodes g.O.Opens.steps _ (vec_len c.unpacking.items) c.args.items.now.items c.unpacking.items.items c.pop.new.self.items c.in-Some.item
+    let it = taken_item g.O.Opens.opened g.O.Opens.nodes g.O.Opens.steps _ (vec_len c.unpacking.items) c.args.items.now.items c.unpacking.items.items
+    c.pop.new.self.items c.in-Some.item
     c.requires.items k.left c.in-Some.ensures.items (omega (arith, shorter, ok)) in
     let number = it.1.number in
     let is = it.0 ∙ ap (λ x. Some x) (c.into_wire.ensures ∙ ap (λ n. Wire c.into_wire.result n) number) in
@@ -44,7 +47,8 @@ unpacking-preserved g c =
       back = λ v inside later. elim (cases_eq w v) [
         | inl same ↦ (let place : g.O.Opens.nodes + v ≡ length c.pop.new.self.items = omega (arith, here, same) in record {
           cell = c.into_wire.result;
-          there = ap (λ hs. slice_get hs v) c.put_to.ensures.0 ∙ (ap (λ n. slice_get (slice_set c.unpacking.home.items w (Some c.into_wire.result)) n) (sym same)
+          there = ap (λ hs. slice_get hs v) c.put_to.ensures.0 ∙ (ap (λ n. slice_get (slice_set c.unpacking.home.items w (Some c.into_wire.result)) n)
+              (sym same)
               ∙ set_here c.unpacking.home.items w (Some c.into_wire.result) (omega (arith, inside, same, home_ok, long)));
           was = ap (slice_get (cells_of c.args.items.now.items)) place ∙ (is ∙ ap (λ n. Some (Wire c.into_wire.result n)) (sym place));
         })

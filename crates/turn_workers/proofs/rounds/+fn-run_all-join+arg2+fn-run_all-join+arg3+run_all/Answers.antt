@@ -16,5 +16,6 @@ join-a-requires-send-F g t c κs within =
     let j = item_sync (param 0 g.row.O) search in
     let l = locker_sync (item.the_row (param 0 g.row.O)) (ghosts (param 0 g.row.O) g.O.Opens no_dict) i j in
     let numbers = one_more _ _ u32_send (one_more _ _ u32_send (one_more _ _ u32_send (one_more _ _ u32_send (one_more _ _ u32_send none_left)))) in
-    param_send 1 _ (arg_send _ no _ (captures_send _ _ (one_more _ _ (shr_send _ _ _ r) (one_more _ _ global_send (one_more _ _ (shr_send _ _ _ core_sync) (one_more _ _ (shr_send _ _ _ sides_sync)
+    param_send 1 _ (arg_send _ no _ (captures_send _ _ (one_more _ _ (shr_send _ _ _ r) (one_more _ _ global_send
+    (one_more _ _ (shr_send _ _ _ core_sync) (one_more _ _ (shr_send _ _ _ sides_sync)
     (one_more _ _ u64_send (one_more _ _ (shr_send _ _ _ p) (one_more _ _ (shr_send _ _ _ l) (one_more _ _ (seat_send _ i) numbers))))))))))

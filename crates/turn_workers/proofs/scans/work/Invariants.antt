@@ -1,6 +1,6 @@
 use Rattle.std.proofs.Common.{◌≡◌, ◌≤◌, vec_len, vec_capacity}
 use Rattle.turn_locker.specs.Seats.{view_of}
-use Rattle.turn_workers.specs.Rounds.{IsIdle}
+use Rattle.turn_workers.specs.inner.Rounds.{IsIdle}
 use Rattle.turn_workers.proofs.scans.work.Given as goal
 
 abbrev pub invariant-loop : goal.invariant-loop

@@ -16,12 +16,14 @@ half_step-requires-clause-room g c = λ κs le even. let some = c.requires.some 
 pub half_step-requires-clause-even : goal.half_step-requires-clause-even
 half_step-requires-clause-even g c = λ κs le even.
     let ok = c.args.bench.now.ok.0 in let same = c.requires.bench.1 in
-    side_held g.O.Opens.opened c.args.side.now c.args.node.now.time _ _ c.args.bench.now.items c.requires.bench.0 (omega (arith, ok, same)) (c.requires.side.is.even even)
+    side_held g.O.Opens.opened c.args.side.now c.args.node.now.time _ _ c.args.bench.now.items c.requires.bench.0 (omega (arith, ok, same))
+    (c.requires.side.is.even even)
 
 pub half_step-requires-clause-odd : goal.half_step-requires-clause-odd
 half_step-requires-clause-odd g c = λ κs le odd.
     let ok = c.args.bench.now.ok.0 in let same = c.requires.bench.1 in
-    side_held g.O.Opens.opened c.args.side.now c.args.node.now.time _ _ c.args.bench.now.items c.requires.bench.0 (omega (arith, ok, same)) (c.requires.side.is.odd odd)
+    side_held g.O.Opens.opened c.args.side.now c.args.node.now.time _ _ c.args.bench.now.items c.requires.bench.0 (omega (arith, ok, same))
+    (c.requires.side.is.odd odd)
 
 pub half_step-requires-clause-right : goal.half_step-requires-clause-right
 half_step-requires-clause-right g c = λ κs le. let some = c.requires.some in (
@@ -36,7 +38,8 @@ half_step-requires-clause-right g c = λ κs le. let some = c.requires.some in (
 pub returns-clause-bench : goal.returns-clause-bench
 returns-clause-bench g c =
     let time = c.half_step.ensures.time in
-    let later = held_later g.O.Opens.opened c.args.side.now c.args.node.now.time c.args.bench.now.items c.half_step.new.bench.items c.requires.bench.0 c.half_step.ensures.rest
+    let later = held_later g.O.Opens.opened c.args.side.now c.args.node.now.time c.args.bench.now.items c.half_step.new.bench.items c.requires.bench.0
+    c.half_step.ensures.rest
     (λ opening is. (c.half_step.ensures.right opening (c.requires.opens opening is) (record {
       kind = c.requires.node.right opening is;
       wires = wires_held g.O.Opens.opened c.args.side.now c.args.node.now.time c.args.bench.now.items c.requires.bench.0 opening is;

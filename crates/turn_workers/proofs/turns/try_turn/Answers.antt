@@ -14,7 +14,8 @@ pass_node-requires-clause-may g c = λ κs le.
     ∙ (λ i. pairs_of (some.0 i) (drop (c.requires.bench i) c.args.side.now)) in
     let later : c.turn_wires-made.new.node.time ≡ c.args.time + 1 = c.if-made.ensures.time ∙ ap (λ t. t + 1) some.1 in
     let is : c.turn_wires-made.new.node.number ≡ c.args.node = c.turn_wires-made.ensures.node.1 ∙ some.0 in
-    node_may_pass _ _ _ _ _ c.requires.shared _ _ _ _ c.requires.side c.requires.node (view_of c.turn_wires-made.new.seat) held passed c.turn_wires-made.new.node.number c.turn_wires-made.new.node.time is later
+    node_may_pass _ _ _ _ _ c.requires.shared _ _ _ _ c.requires.side c.requires.node (view_of c.turn_wires-made.new.seat) held passed
+    c.turn_wires-made.new.node.number c.turn_wires-made.new.node.time is later
 
 pub returns-then-made-clause-idle : goal.returns-then-made-clause-idle
 returns-then-made-clause-idle g c =
@@ -25,4 +26,9 @@ returns-then-made-clause-idle g c =
     ∙ (λ i. pairs_of (some.0 i) (drop (c.requires.bench i) c.args.side.now)) in
     let later : c.turn_wires-made.new.node.time ≡ c.args.time + 1 = c.if-made.ensures.time ∙ ap (λ t. t + 1) some.1 in
     let is : c.turn_wires-made.new.node.number ≡ c.args.node = c.turn_wires-made.ensures.node.1 ∙ some.0 in
-    record { own = c.pass_node.ensures.own; free = all_gone _ _ _ _ _ c.requires.shared _ _ _ _ c.requires.side c.requires.node (view_of c.turn_wires-made.new.seat) held passed c.turn_wires-made.new.node.number c.turn_wires-made.new.node.time is later (view_of c.pass_node.new.seat) c.pass_node.ensures.view }
+    record {
+      own = c.pass_node.ensures.own;
+      free = all_gone _ _ _ _ _ c.requires.shared _ _ _ _ c.requires.side c.requires.node
+          (view_of c.turn_wires-made.new.seat) held passed c.turn_wires-made.new.node.number c.turn_wires-made.new.node.time is later
+          (view_of c.pass_node.new.seat) c.pass_node.ensures.view;
+    }
