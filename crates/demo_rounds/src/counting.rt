@@ -20,7 +20,7 @@ use turn_workers::Gate;
 /// How many supersteps a round has, but for the last.
 pub(crate) const SPAN: u32 = 64;
 
-/// Makes `steps` supersteps by rounds, each by so many workers at most. Each total gets the values that its output stream takes.
+/// Makes `steps` supersteps by rounds of at most `workers` threads. Each total gets the values that its output stream takes.
 pub(crate) fn count_rounds<R: Threads + Sync, G: Gate>(
     rt: &R,
     engine: &mut Engine,

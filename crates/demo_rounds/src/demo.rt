@@ -26,7 +26,7 @@ use stream_totals::{CHAIN_LINE_BYTES, Total};
 use turn_workers::Gate;
 use wiring_check::Wiring;
 
-/// A demo that is open: a net, a total for each node, and room for a line. No later call takes memory.
+/// A demo that is open: a net, a total for each node, and room for a line. No later call needs memory.
 #[derive(Drop)]
 pub struct Demo {
     engine: Engine,
@@ -38,7 +38,7 @@ pub struct Demo {
 impl Demo {
     ghost use Rattle.demo_rounds.specs.Opened.{core_in, IsOpened};
 
-    /// The demo of a core before its first superstep, of boxes whose programs are given. All memory of the demo is taken here.
+    /// The demo of a core before its first superstep, of boxes whose programs are given. It takes all memory that the demo needs.
     pub fn make(
         alloc: Global,
         core: Core,
@@ -68,7 +68,7 @@ impl Demo {
         self.engine.core()
     }
 
-    /// Makes `steps` supersteps by so many workers at most, and then writes the line of each output stream to the port at the place
+    /// Makes `steps` supersteps by at most `workers` threads, and then writes the line of each output stream to the port at the place
     /// `out`.
     pub fn run<R: Threads + Sync, G: Gate>(
         &mut self,

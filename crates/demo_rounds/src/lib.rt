@@ -4,9 +4,11 @@
 //! first superstep.
 //!
 //! Proved: `run` writes exactly a line for each output stream, with the total of all values that it takes in so many supersteps
-//! from the start, or one of these writes has failed (`demo_lines`). It reads nothing and takes no memory; `make` takes all of it.
+//! from the start, or one of these writes has failed (`demo_lines`). The lines are the same whatever the number of workers and the
+//! interleaving of their steps. `run` reads nothing. `make` takes all memory that is needed: if a round gets none for its workers, it
+//! is made on one thread.
 //!
-//! It knows cores and an engine that runs a net. It doesn't know which net is shown.
+//! It knows cores, an engine that runs a net, and workers that it hands on. It doesn't know which net is shown.
 #![tactic(auto)]
 
 mod chains;

@@ -6,13 +6,15 @@
 //!
 //! Proved: `run` makes exactly the acts that the texts of the ports owe (`RunsTo`), or one of them has failed and those before it
 //! were made (`FailsToRun`). A read failed only where the whole lines that were taken from its port have fewer good values than its
-//! stream had asserted and may need in the round (`run_few`). `make` takes all memory, and `run` takes none. Laws: every list of
-//! texts brings values to the streams (`each_run_has_inputs`), the same ones each time (`inputs_are_unique`), and they have the
-//! types of the streams (`inputs_have_types`). What the acts write is what `Writes.antt` says, and they finish nothing
-//! (`runs_write_their_lines`). Each of their reads is for one round, before which exactly the earlier rounds have written
-//! (`wants_stand_before_rounds`).
+//! stream had asserted and may need in the round (`run_few`). No definition of what is owed names a worker: the acts are the same
+//! whatever the number of workers and the interleaving of their steps. `make` takes all memory that is needed: if a round gets none
+//! for its workers, it is made on one thread. Laws: every list of texts brings values to the streams (`each_run_has_inputs`), the
+//! same ones each time (`inputs_are_unique`), and they have the types of the streams (`inputs_have_types`). What the acts write is
+//! what `Writes.antt` says, and they finish nothing (`runs_write_their_lines`). Each of their reads is for one round, before which
+//! exactly the earlier rounds have written (`wants_stand_before_rounds`).
 //!
-//! It knows cores, an engine that runs a net, rounds and the places of ports. It doesn't know sources, or how a core was accepted.
+//! It knows cores, an engine that runs a net, rounds, the places of ports, and workers that it hands on. It doesn't know sources, or
+//! how a core was accepted.
 #![tactic(auto)]
 
 mod bad_line;

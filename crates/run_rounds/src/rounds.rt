@@ -40,7 +40,7 @@ pub fn span(traced: bool) -> u32
     if traced { 1 } else { SPAN }
 }
 
-/// Makes rounds by so many workers at most until so many supersteps are made, or a stream blocks one by a bad line. The ports of the
+/// Makes rounds of at most `workers` threads until `steps` supersteps are made, or a stream blocks one by a bad line. The ports of the
 /// streams are given by their places, one for each node, and so is the port for all that is told besides.
 pub fn make_rounds<R: Threads + Sync, G: Gate>(
     rt: &R,

@@ -32,7 +32,7 @@ use wiring_check::Wiring;
 // No text of a value is longer than so many bytes for each of its words.
 const WORD_BYTES: u32 = 512;
 
-/// A run that is open: a net, and room for a line. No later call takes memory.
+/// A run that is open: a net, and room for a line. No later call needs memory.
 #[derive(Drop)]
 pub struct Running {
     engine: Engine,
@@ -47,7 +47,7 @@ impl Running {
     ghost use Rattle.run_rounds.specs.Opened.{core_in, traced_in, IsOpened};
 
     /// The run of a core before its first superstep, of boxes whose programs are given. If `traced`, it will tell all wires after each
-    /// superstep. All memory of the run is taken here.
+    /// superstep. It takes all memory that the run needs.
     pub fn make(
         alloc: Global,
         core: Core,
@@ -78,8 +78,8 @@ impl Running {
         self.engine.core()
     }
 
-    /// Makes `steps` supersteps by rounds, each by so many workers at most, and then tells what each box took at most. Answers whether
-    /// a bad line of a stream has blocked a round; it is told then. The ports of the streams are given by their places, one for each
+    /// Makes `steps` supersteps by rounds of at most `workers` threads, and then tells what each box took at most. Answers whether a
+    /// bad line of a stream has blocked a round; it is told then. The ports of the streams are given by their places, one for each
     /// node, and so is the port for all that is told besides.
     pub fn run<R: Threads + Sync, G: Gate>(
         &mut self,

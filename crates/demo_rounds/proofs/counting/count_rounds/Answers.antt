@@ -11,7 +11,7 @@ pub loop-done-init : goal.loop-done-init
 loop-done-init g c = record { core = refl; counted = c.requires.counted }
 
 pub round-requires-clause-clear : goal.round-requires-clause-clear
-round-requires-clause-clear g c = cleared_before (core_of c.args.engine.now) c.args.steps c.loop-done.done c.loop-done.totals c.loop-done.engine c.loop-done.invariant.counted
+round-requires-clause-clear g c κs within = cleared_before (core_of c.args.engine.now) c.args.steps c.loop-done.done c.loop-done.totals c.loop-done.engine c.loop-done.invariant.counted
     (next_round c.args.steps c.loop-done.done (subst (λ count. c.loop-done.done < count) c.div_ceil-done-end.ensures c.loop-done-test.true)) c.ranges.steps.fits
 
 pub count_outputs-requires-clause-runnable : goal.count_outputs-requires-clause-runnable

@@ -23,7 +23,7 @@ returns-in-Err-clause-ends g c olds stands =
     (c.fill_inputs.ensures.ends c.args.traced c.args.steps c.args.done olds filling)
 
 pub run_round-requires-clause-parts : goal.run_round-requires-clause-parts
-run_round-requires-clause-parts g c =
+run_round-requires-clause-parts g c κs within =
     let r = c.requires.stands in
     let wanted = supersteps_are c.args.traced c.args.steps c.args.done _ _ _ c.span.ensures c.span-2.ensures c.min-supersteps.ensures in
     let filling = fill_first (core_of c.args.engine.now) c.args.traced c.args.steps c.args.done _ r.0 _ c.args.engine.now c.requires.is wanted r.1 in
@@ -32,7 +32,7 @@ run_round-requires-clause-parts g c =
     (c.fill_inputs.ensures.ends c.args.traced c.args.steps c.args.done r.0 filling))
 
 pub run_round-requires-clause-clear : goal.run_round-requires-clause-clear
-run_round-requires-clause-clear g c =
+run_round-requires-clause-clear g c κs within =
     let r = c.requires.stands in
     let wanted = supersteps_are c.args.traced c.args.steps c.args.done _ _ _ c.span.ensures c.span-2.ensures c.min-supersteps.ensures in
     let filling = fill_first (core_of c.args.engine.now) c.args.traced c.args.steps c.args.done _ r.0 _ c.args.engine.now c.requires.is wanted r.1 in

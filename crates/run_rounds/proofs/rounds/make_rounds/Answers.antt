@@ -10,12 +10,12 @@ pub loop-done-init : goal.loop-done-init
 loop-done-init g c = rounding_none c.args.traced c.args.steps _ c.args.engine.now _ c.requires.stands
 
 pub make_round-requires-clause-is : goal.make_round-requires-clause-is
-make_round-requires-clause-is g c =
+make_round-requires-clause-is g c κs within =
     next_round c.args.traced c.args.steps c.loop-done.done
     (subst (λ count. c.loop-done.done < count) (c.div_ceil-done-end.ensures ∙ ap (λ span. rounds_of span c.args.steps) c.span.ensures) c.loop-done-test.true)
 
 pub make_round-requires-clause-stands : goal.make_round-requires-clause-stands
-make_round-requires-clause-stands g c =
+make_round-requires-clause-stands g c κs within =
     (_, stands_own c.args.traced c.args.steps _ _ c.args.engine.now c.loop-done.engine _ _ c.loop-done.done c.loop-done.invariant)
 
 pub returns-in-Ok-Some-clause-ends : goal.returns-in-Ok-Some-clause-ends

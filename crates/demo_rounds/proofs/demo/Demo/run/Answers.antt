@@ -11,7 +11,7 @@ use Rattle.demo_rounds.proofs.Rounds.{counted_first, lines_are}
 use Rattle.demo_rounds.proofs.demo.Demo.run.Goals as goal
 
 pub count_rounds-requires-clause-counted : goal.count_rounds-requires-clause-counted
-count_rounds-requires-clause-counted g c =
+count_rounds-requires-clause-counted g c κs within =
     counted_first (core_of c.args.self.now.engine) c.args.steps _ c.args.self.now.engine c.requires.opened.is_core c.requires.opened.is_span c.requires.opened.state
     (c.deref_mut.ensures.value ∙ c.requires.opened.none)
 

@@ -5,7 +5,7 @@ use Rattle.run_rounds.proofs.RunStarts.{stands_first}
 use Rattle.run_rounds.proofs.run.Running.run.Goals as goal
 
 pub make_rounds-requires-clause-stands : goal.make_rounds-requires-clause-stands
-make_rounds-requires-clause-stands g c =
+make_rounds-requires-clause-stands g c κs within =
     stands_first (core_of c.args.self.now.engine) c.args.self.now.traced c.args.steps _ c.args.self.now.engine c.requires.opened.fresh
 
 pub returns-in-Ok-clause-ends : goal.returns-in-Ok-clause-ends
