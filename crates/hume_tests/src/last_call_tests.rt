@@ -80,7 +80,11 @@ fn is_all_of(text: &str, parts: &[&str]) -> bool {
     rest.is_empty()
 }
 
-fn all_are_noted(rt: &(impl Abort + Threads + Sync), alloc: Global, rows: &[Row]) -> Result<(), Stop> {
+fn all_are_noted(
+    rt: &(impl Abort + Threads + Sync),
+    alloc: Global,
+    rows: &[Row],
+) -> Result<(), Stop> {
     for row in rows {
         let (status, notes) = noted(rt, alloc, row.0)?;
         assert!(rt; status == row.1 && is_all_of(&notes, &row.2));

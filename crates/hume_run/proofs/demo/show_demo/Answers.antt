@@ -1,4 +1,4 @@
-use Rattle.std.proofs.Common.{◌∙◌, inl, refl}
+use Rattle.std.proofs.Common.{◌∙◌}
 use Rattle.hume_run.proofs.Showing.{shown, unshown}
 use Rattle.hume_run.proofs.demo.show_demo.Goals as goal
 

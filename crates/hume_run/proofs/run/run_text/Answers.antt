@@ -1,4 +1,4 @@
-use Rattle.std.proofs.Common.{◌∙◌, ap, inl, inr, refl, Err}
+use Rattle.std.proofs.Common.{◌∙◌, ap, inl, refl, Err}
 use Rattle.hume_run.proofs.Answering.{refused_run, run_text, unfit_text}
 use Rattle.hume_run.proofs.run.run_text.Goals as goal
 

@@ -1,5 +1,4 @@
 use Rattle.std.proofs.Common.{sym}
-use Rattle.hume_run.proofs.Naming.{demo_headlined, headlined, source_named}
 use Rattle.hume_run.proofs.FitPorts.{found_place}
 use Rattle.hume_run.proofs.top.hume.Goals as goal
 

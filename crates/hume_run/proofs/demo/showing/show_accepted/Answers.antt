@@ -1,4 +1,3 @@
-use Rattle.std.proofs.Common.{inl, refl}
 use Rattle.hume_run.proofs.Showing.{demo_told, demo_failed}
 use Rattle.hume_run.proofs.demo.showing.show_accepted.Goals as goal
 
