@@ -1,12 +1,11 @@
 -- Calls whose ports have room, and calls over ports with the same texts.
-use Rattle.std.proofs.Common.{◌≡◌, ◌⊎◌, ℕ, Bool, false, List, [], ◌∷◌, Option, Some, None, IfSome, IsSomeAnd, slice_get, refl, sym, ap, ◌∙◌, subst, inl, inr}
+use Rattle.std.proofs.Common.{◌≡◌, ◌⊎◌, ℕ, false, List, [], Option, Some, None, IfSome, IsSomeAnd, slice_get, refl, sym, ap, ◌∙◌, subst, inl, inr}
 use Rattle.std.specs.Option.{is_none}
 use Rattle.std.specs.Str.{bytes_eq}
 use Rattle.hume_base.specs.declared.types.Value.{Value}
 use Rattle.hume_model.specs.declared.core_tree.Core.{Core}
 use Rattle.hume_model.specs.declared.core_tree.NodeC.{NodeC}
 use Rattle.hume_model.specs.declared.core_tree.NodeC.TheVariants.{Rules, From, To}
-use Rattle.hume_model.specs.declared.core_tree.StreamC.{StreamC}
 use Rattle.hume_net.specs.rounds.Pieces.{listed}
 use Rattle.hume_streams.specs.Good.{IsGoodUntil}
 use Rattle.hume_ports.specs.Port.{PortView}
@@ -17,7 +16,7 @@ use Rattle.port_acts.specs.Ends.{Owed, EndsAs, bytes_of, never}
 use Rattle.port_acts.specs.Early.{after_reads, EndsEarly}
 use Rattle.port_acts.proofs.Stopping.{end_alike}
 use Rattle.phase_workers.specs.StreamTypes.{type_at}
-use Rattle.run_rounds.specs.Inputs.{AreInputs, ComesTo}
+use Rattle.run_rounds.specs.Inputs.{ComesTo}
 use Rattle.run_rounds.specs.Streams.{streams}
 use Rattle.hume_run.specs.declared.status.Status.{Status}
 use Rattle.hume_run.specs.declared.status.Status.TheVariants.{Usage, Fault, NoMemory}

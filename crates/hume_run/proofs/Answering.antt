@@ -1,16 +1,14 @@
 -- From the parts of a call to the whole.
-use Rattle.std.proofs.Common.{◌≡◌, ◌⊎◌, ℕ, Bool, true, false, List, [], ◌∷◌, ◌++◌, Option, Some, None, IfSome, refl, ap, sym, ◌∙◌, subst, inl, inr}
+use Rattle.std.proofs.Common.{◌≡◌, ◌⊎◌, ℕ, Bool, false, List, [], ◌∷◌, ◌++◌, Some, None, IfSome, refl, ap, sym, ◌∙◌, subst, inl, inr}
 use Rattle.std.specs.Str.{bytes_eq}
 use Rattle.std.proofs.lemmas.Bool.{true≢false}
 use Rattle.hume_base.specs.declared.rule.Refusal.{Refusal}
 use Rattle.hume_base.specs.declared.rule.Rule.TheVariants.{C55}
 use Rattle.hume_model.specs.declared.core_tree.Core.{Core}
-use Rattle.hume_model.specs.declared.core_tree.NodeC.TheVariants.{From}
-use Rattle.hume_model.specs.declared.core_tree.StreamC.{StreamC}
 use Rattle.hume_ports.specs.Port.{PortView}
 use Rattle.hume_ports.specs.Ports.{names, left_of, place_of, ForNameAt}
 use Rattle.hume_ports.specs.Delivery.{Pairs, bytes_for}
-use Rattle.port_acts.specs.Acts.{Act, wants, writes, finishes, name_of, write_each}
+use Rattle.port_acts.specs.Acts.{Act, wants, writes, finishes, name_of}
 use Rattle.port_acts.specs.Ends.{Few, never, Made, IsFew, Fails, Owed}
 use Rattle.port_acts.specs.Early.{read_each, EndsEarly}
 use Rattle.port_acts.specs.Places.{IsPlaceOf}
@@ -28,9 +26,9 @@ use Rattle.hume_run.specs.declared.order.Order.{Order}
 use Rattle.hume_run.specs.declared.order.Order.TheVariants.{Run, Check}
 use Rattle.hume_run.specs.Streams.{unfit_line}
 use Rattle.hume_run.specs.Owed.{IsRefusal, broken, unfit, IsOwed, owed_run, owed_refused, owed_check, table_writes, run_finishes}
-use Rattle.hume_run.specs.Few.{source_few, CallFew, call_few}
+use Rattle.hume_run.specs.Few.{source_few, call_few}
 use Rattle.hume_run.specs.Headline.{AnswersFrom, source_reads, source_text}
-use Rattle.hume_run.specs.inner.Ended.{RunsOut, EndsAfter, EndsOwed, EndsRefused, OwesFor, EndsText, RunsCore}
+use Rattle.hume_run.specs.inner.Ended.{RunsOut, EndsAfter, EndsOwed, EndsRefused, EndsText, RunsCore}
 use Rattle.hume_run.proofs.Texts.{told_texts, told_by_all, texts_before}
 use Rattle.hume_run.proofs.Wanting.{want_of_run, apart_from_source}
 

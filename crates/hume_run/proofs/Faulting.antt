@@ -1,9 +1,8 @@
 -- What a fault of a call tells by the counts that rose.
-use Rattle.std.proofs.Common.{◌≡◌, ℕ, ◌<◌, ◌-◌, Bool, true, false, List, [], ◌∷◌, ◌++◌, length, Option, Some, None, slice_get, refl, ap, sym, ◌∙◌, subst, inl, inr, append_assoc}
+use Rattle.std.proofs.Common.{◌≡◌, ℕ, ◌<◌, ◌-◌, Bool, true, false, List, [], ◌∷◌, ◌++◌, length, refl, ap, sym, ◌∙◌, subst, inl, inr, append_assoc}
 use Rattle.std.specs.Str.{bytes_eq}
 use Rattle.std.proofs.lemmas.Bool.{true≢false, cases_Bool}
 use Rattle.std.proofs.lemmas.Grind.{flat_map-append}
-use Rattle.hume_base.specs.declared.types.Value.{Value}
 use Rattle.hume_model.specs.declared.core_tree.Core.{Core}
 use Rattle.hume_streams.specs.Good.{IsGoodUntil}
 use Rattle.hume_streams.specs.Lines.{whole_lines}
@@ -21,15 +20,14 @@ use Rattle.hume_front.specs.declared.acceptance.Accepted.{Accepted}
 use Rattle.hume_front.specs.Accepted.{IsAccepted}
 use Rattle.phase_workers.specs.StreamTypes.{type_at}
 use Rattle.run_rounds.specs.Inputs.{Inputs}
-use Rattle.run_rounds.specs.Streams.{std_out, streams}
+use Rattle.run_rounds.specs.Streams.{std_out}
 use Rattle.run_rounds.specs.Writes.{writes, rounds_writes}
-use Rattle.run_rounds.specs.RunActs.{run_acts, needed}
+use Rattle.run_rounds.specs.RunActs.{run_acts}
 use Rattle.hume_run.specs.declared.order.Order.{Order}
 use Rattle.hume_run.specs.declared.order.Order.TheVariants.{Run, Check, Demo}
 use Rattle.hume_run.specs.declared.status.Status.{Status}
-use Rattle.hume_run.specs.Streams.{unfit_line}
-use Rattle.hume_run.specs.Owed.{IsOwed, owed_refused, owed_check, owed_run, owed_demo, refused_line, table_writes, demo_writes, run_finishes}
-use Rattle.hume_run.specs.Few.{CallFew, call_few}
+use Rattle.hume_run.specs.Owed.{IsOwed, owed_check, owed_run, owed_demo, refused_line, table_writes, demo_writes, run_finishes}
+use Rattle.hume_run.specs.Few.{call_few}
 use Rattle.hume_run.specs.Headline.{OwesAlone, source_reads}
 use Rattle.hume_run.specs.Faults.{FailedInput, ReadRose}
 use Rattle.hume_run.proofs.Answering.{WantsTell, wants_apart}

@@ -1,11 +1,11 @@
 -- The parts of a demo in turn: the bounds of all boxes, the chains, the finish.
-use Rattle.std.proofs.Common.{◌≡◌, ℕ, List, [], ◌∷◌, ◌++◌, map, Result, refl, sym, ◌∙◌, subst, inl, inr}
+use Rattle.std.proofs.Common.{◌≡◌, ℕ, List, [], ◌∷◌, ◌++◌, Result, refl, sym, ◌∙◌, subst, inl, inr}
 use Rattle.hume_ports.specs.declared.port.Failed.{Failed}
 use Rattle.hume_ports.specs.Port.{PortView}
 use Rattle.hume_ports.specs.Ports.{names, ForNameAt}
 use Rattle.hume_ports.proofs.Names.{place-kept}
 use Rattle.hume_model.specs.declared.core_tree.Core.{Core}
-use Rattle.port_acts.specs.Acts.{Act, writes, finishes, write_each}
+use Rattle.port_acts.specs.Acts.{Act, writes, finishes}
 use Rattle.port_acts.specs.Ends.{never, Made, Fails, Ends}
 use Rattle.port_acts.specs.Places.{IsPlaceOf}
 use Rattle.port_acts.proofs.Failing.{Fails-stop, Fails-on, Ends-on}

@@ -36,12 +36,16 @@ abbrev pub demo_of : Option ℕ → Option ℕ → Option ℕ → Option Order
 demo_of (Some number) (Some steps) (Some workers) = if nat_le number MAX_NUMBER && is_run steps workers then Some (Demo number steps workers) else None
 demo_of _ _ _ = None
 
+-- what four words ask for: a demo, or a run without ports
+abbrev pub four_of : List ℕ → List ℕ → List ℕ → List ℕ → Option Order
+four_of command first second third =
+    if bytes_eq command (codes "demo") then demo_of (number_of first) (number_of second) (number_of third)
+    else run_of (traced_of command) (number_of first) (number_of second)
+
 -- what the words ask for, if they have a form
 abbrev pub order_of : List (List ℕ) → Option Order
 order_of (command ∷ source ∷ []) = if bytes_eq command (codes "check") then Some (Check 1) else None
-order_of (command ∷ first ∷ second ∷ third ∷ []) =
-    if bytes_eq command (codes "demo") then demo_of (number_of first) (number_of second) (number_of third)
-    else run_of (traced_of command) (number_of first) (number_of second)
+order_of (command ∷ first ∷ second ∷ third ∷ []) = four_of command first second third
 order_of (command ∷ steps ∷ workers ∷ source ∷ ports) = run_of (traced_of command) (number_of steps) (number_of workers)
 order_of _ = None
 

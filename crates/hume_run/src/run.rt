@@ -58,7 +58,9 @@ pub fn run_text<R: Threads + Sync, G: Gate>(
     };
     match find_places(alloc, ports, &accepted.core, source) {
         Ok(places) => {
-            run_accepted(rt, alloc, ports, steps, workers, traced, accepted, places, out, gate)
+            run_accepted(
+                rt, alloc, ports, steps, workers, traced, accepted, places, out, gate,
+            )
         },
         Err(PlacesError::Unfit(line)) => refuse(alloc, ports, out, unfit_at(line)),
         Err(PlacesError::NoMemory) => Status::NoMemory,

@@ -104,7 +104,9 @@ fn answer_text<R: Threads + Sync, G: Gate>(
             workers,
             traced,
             ..
-        } => run_text(rt, alloc, ports, steps, workers, traced, source, text, out, gate),
+        } => run_text(
+            rt, alloc, ports, steps, workers, traced, source, text, out, gate,
+        ),
         Order::Check { .. } => check_text(alloc, ports, text, out),
         Order::Demo { .. } => unreachable!(),
     }

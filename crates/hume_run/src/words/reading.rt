@@ -1,6 +1,7 @@
 ghost use Rattle.std.specs.Prelude.{◌≡◌, ◌<◌, ◌≤◌, length, map, IfSome, Some, string_bytes};
 ghost use Rattle.demo_net.specs.declared.source.TheConstants.{MAX_NUMBER};
-ghost use Rattle.hume_run.specs.Words.{order_of, number_of, traced_of as trace_asked, run_of as asked_run, demo_of as asked_demo, is_run as run_asked, steps_of, net_of, workers_of};
+ghost use Rattle.hume_run.specs.Words.{order_of, four_of as asked_four, number_of, traced_of as trace_asked, run_of as asked_run, demo_of as asked_demo};
+ghost use Rattle.hume_run.specs.Words.{is_run as run_asked, steps_of, net_of, workers_of};
 ghost use Rattle.hume_run.specs.inner.Places.{source_place};
 
 use crate::order::Order;
@@ -29,14 +30,26 @@ pub fn read_words(words: &[String]) -> Option<Order>
         [command, _] if command.as_str() == "check" => Some(Order::Check {
             source: CHECK_SOURCE,
         }),
-        [command, net, steps, workers] if command.as_str() == "demo" => {
-            demo_of(number(net)?, number(steps)?, number(workers)?)
-        }
+        [command, first, second, third] => four_of(command, first, second, third),
         [command, steps, workers, _, ..] => {
             run_of(traced_of(command)?, number(steps)?, number(workers)?)
         }
         _ => None,
     }
+}
+
+// What four words ask for: a demo, or a run without ports.
+fn four_of(command: &str, first: &str, second: &str, third: &str) -> Option<Order>
+    ensures order { result ≡ asked_four command.now first.now second.now third.now }
+    ensures steps { IfSome result (λ order. steps_of order ≤ MAX_SUPERSTEPS) }
+    ensures number { IfSome result (λ order. net_of order ≤ MAX_NUMBER) }
+    ensures workers { IfSome result (λ order. workers_of order ≤ MAX_WORKERS) }
+    ensures source { IfSome result (λ order. IfSome (source_place order) (λ place. place ≡ RUN_SOURCE)) }
+{
+    if command == "demo" {
+        return demo_of(number(first)?, number(second)?, number(third)?);
+    }
+    run_of(traced_of(command)?, number(first)?, number(second)?)
 }
 
 // Whether the command traces a run, if it runs one.

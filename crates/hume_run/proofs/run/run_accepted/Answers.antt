@@ -10,4 +10,4 @@ pub returns-in-Err : goal.returns-in-Err
 returns-in-Err g c = inl (refl, refl)
 
 pub run_opened-requires-clause-apart : goal.run_opened-requires-clause-apart
-run_opened-requires-clause-apart g c = subst ArePortsApart (sym c.in-Ok.ensures.core) c.requires.apart
+run_opened-requires-clause-apart g c κs within = subst ArePortsApart (sym c.in-Ok.ensures.core) c.requires.apart

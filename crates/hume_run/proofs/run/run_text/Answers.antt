@@ -1,9 +1,9 @@
-use Rattle.std.proofs.Common.{◌∙◌, ap, inl, inr, refl, Err}
+use Rattle.std.proofs.Common.{◌∙◌, ap, inl, refl, Err}
 use Rattle.hume_run.proofs.Answering.{refused_run, run_text, unfit_text}
 use Rattle.hume_run.proofs.run.run_text.Goals as goal
 
 pub run_accepted-requires-clause-accepted : goal.run_accepted-requires-clause-accepted
-run_accepted-requires-clause-accepted g c = (_, c.in-Ok.ensures.accepted)
+run_accepted-requires-clause-accepted g c κs within = (_, c.in-Ok.ensures.accepted)
 
 pub returns-in-Err : goal.returns-in-Err
 returns-in-Err g c place = refused_run c.args.steps c.args.workers place c.args.traced _ _ _ _ _ (c.end_unaccepted.ensures _ c.in-Err.ensures.error)

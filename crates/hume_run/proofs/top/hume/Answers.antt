@@ -1,13 +1,12 @@
 use Rattle.std.proofs.Common.{sym}
-use Rattle.hume_run.proofs.Naming.{demo_headlined, headlined, source_named}
 use Rattle.hume_run.proofs.FitPorts.{found_place}
 use Rattle.hume_run.proofs.top.hume.Goals as goal
 
 pub show_demo-requires-clause-out : goal.show_demo-requires-clause-out
-show_demo-requires-clause-out g c = found_place _ _ _ (sym c.in-Some-find.ensures.place)
+show_demo-requires-clause-out g c κs within = found_place _ _ _ (sym c.in-Some-find.ensures.place)
 
 pub answer-requires-clause-source : goal.answer-requires-clause-source
-answer-requires-clause-source g c = found_place _ _ _ (sym c.in-Some-find-2.ensures.place)
+answer-requires-clause-source g c κs within = found_place _ _ _ (sym c.in-Some-find-2.ensures.place)
 
 pub answer-requires-clause-out : goal.answer-requires-clause-out
-answer-requires-clause-out g c = found_place _ _ _ (sym c.in-Some-find.ensures.place)
+answer-requires-clause-out g c κs within = found_place _ _ _ (sym c.in-Some-find.ensures.place)

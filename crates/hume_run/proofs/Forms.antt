@@ -1,0 +1,52 @@
+-- What words ask for, by how many there are.
+use Rattle.std.proofs.Common.{◌≡◌, ◌≤◌, ◌<◌, ℕ, Bool, List, [], ◌∷◌, map, length, Option, None, Some, if◌then◌else◌, slice_index_or, codes, refl, sym, ap, ◌∙◌, arith}
+use Rattle.std.specs.Str.{bytes_eq}
+use Rattle.hume_run.specs.declared.order.Order.{Order}
+use Rattle.hume_run.specs.declared.order.Order.TheVariants.{Check}
+use Rattle.hume_run.specs.Words.{order_of, four_of, number_of, traced_of, run_of}
+
+-- a check, if so
+abbrev pub check_if : Bool → Option Order
+check_if is = if is then Some (Check 1) else None
+
+module _ {A : Type 0} (bytes_of : A → List ℕ) where
+  -- two words
+  pub two_words : (words : List A) (command : A) (text : List ℕ) (test : Bool) → 2 ≤ length words → length words < 3
+      → command ≡ slice_index_or words 0 command → text ≡ bytes_of command → test ≡ bytes_eq text (codes "check")
+      → order_of (map bytes_of words) ≡ check_if test
+  two_words [] command text test least less is named tested = absurd (omega arith)
+  two_words (first ∷ []) command text test least less is named tested = absurd (omega arith)
+  two_words (first ∷ second ∷ []) command text test least less is named tested =
+      ap (λ (word : A). check_if (bytes_eq (bytes_of word) (codes "check"))) (sym is)
+      ∙ ap (λ (bytes : List ℕ). check_if (bytes_eq bytes (codes "check"))) (sym named) ∙ ap check_if (sym tested)
+  two_words (first ∷ second ∷ third ∷ words) command text test least less is named tested = absurd (omega arith)
+
+  -- three words have no form
+  pub three_words : (words : List A) → 3 ≤ length words → length words < 4 → order_of (map bytes_of words) ≡ None
+  three_words [] least less = absurd (omega arith)
+  three_words (first ∷ []) least less = absurd (omega arith)
+  three_words (first ∷ second ∷ []) least less = absurd (omega arith)
+  three_words (first ∷ second ∷ third ∷ []) least less = refl
+  three_words (first ∷ second ∷ third ∷ fourth ∷ words) least less = absurd (omega arith)
+
+  -- four words
+  pub four_words : (words : List A) (command first second third : A) → 4 ≤ length words → length words < 5 → command ≡ slice_index_or words 0 command
+      → first ≡ slice_index_or words 1 first → second ≡ slice_index_or words 2 second → third ≡ slice_index_or words 3 third
+      → order_of (map bytes_of words) ≡ four_of (bytes_of command) (bytes_of first) (bytes_of second) (bytes_of third)
+  four_words [] command first second third least less is at by on = absurd (omega arith)
+  four_words (one ∷ []) command first second third least less is at by on = absurd (omega arith)
+  four_words (one ∷ two ∷ []) command first second third least less is at by on = absurd (omega arith)
+  four_words (one ∷ two ∷ three ∷ []) command first second third least less is at by on = absurd (omega arith)
+  four_words (one ∷ two ∷ three ∷ four ∷ []) command first second third least less is at by on = rw (is, at, by, on) refl
+  four_words (one ∷ two ∷ three ∷ four ∷ five ∷ words) command first second third least less is at by on = absurd (omega arith)
+
+  -- more words
+  pub more_words : (words : List A) (command steps workers : A) → 5 ≤ length words → command ≡ slice_index_or words 0 command
+      → steps ≡ slice_index_or words 1 steps → workers ≡ slice_index_or words 2 workers
+      → order_of (map bytes_of words) ≡ run_of (traced_of (bytes_of command)) (number_of (bytes_of steps)) (number_of (bytes_of workers))
+  more_words [] command steps workers least is at by = absurd (omega arith)
+  more_words (one ∷ []) command steps workers least is at by = absurd (omega arith)
+  more_words (one ∷ two ∷ []) command steps workers least is at by = absurd (omega arith)
+  more_words (one ∷ two ∷ three ∷ []) command steps workers least is at by = absurd (omega arith)
+  more_words (one ∷ two ∷ three ∷ four ∷ []) command steps workers least is at by = absurd (omega arith)
+  more_words (one ∷ two ∷ three ∷ four ∷ five ∷ words) command steps workers least is at by = rw (is, at, by) refl
