@@ -18,7 +18,15 @@ pub(crate) fn flatten_standing(types: &Types, ty: &Ty, word: u64, heap: &BoxHeap
     requires fill { (words : List ℕ) × (flat_at types.now (objects_in heap.now) ty.now word ≡ Some words) × (length words ≡ length into.old) }
     ensures { flat_at types.now (objects_in heap.now) ty.now word ≡ Some into.new }
 {
-    write_value(types, types.sums.len(), ty, word, heap, into, 0);
+    match ty {
+        Ty::Bool => into[0] = word,
+        Ty::Char => into[0] = word,
+        Ty::Int(_) => into[0] = word,
+        Ty::Nat(_) => into[0] = word,
+        _ => {
+            write_value(types, types.sums.len(), ty, word, heap, into, 0);
+        }
+    }
 }
 
 // From a place on, and the place behind them. Data types of numbers from the bound on have no words: the type holds none.
