@@ -10,7 +10,7 @@ use crate::objects::{field_at, keeps_room, tag_at};
 use box_heap::BoxHeap;
 use hume_base::{SumDef, Ty, Types};
 
-/// Writes the flat words of what a word stands for by a type, which fill the row.
+/// Writes the flat words of what a word stands for by a type, which fill the row. One word is written without a call.
 pub(crate) fn flatten_standing(types: &Types, ty: &Ty, word: u64, heap: &BoxHeap, into: &mut [u64])
     requires sizes { HaveTheirSizes types.now }
     requires readable { HaveReadableSizes types.now }
@@ -23,10 +23,19 @@ pub(crate) fn flatten_standing(types: &Types, ty: &Ty, word: u64, heap: &BoxHeap
         Ty::Char => into[0] = word,
         Ty::Int(_) => into[0] = word,
         Ty::Nat(_) => into[0] = word,
-        _ => {
-            write_value(types, types.sums.len(), ty, word, heap, into, 0);
-        }
+        _ => flatten_whole(types, ty, word, heap, into),
     }
+}
+
+#[inline(never)]
+fn flatten_whole(types: &Types, ty: &Ty, word: u64, heap: &BoxHeap, into: &mut [u64])
+    requires sizes { HaveTheirSizes types.now }
+    requires readable { HaveReadableSizes types.now }
+    requires held { IsHeap heap.now }
+    requires fill { (words : List ℕ) × (flat_at types.now (objects_in heap.now) ty.now word ≡ Some words) × (length words ≡ length into.old) }
+    ensures { flat_at types.now (objects_in heap.now) ty.now word ≡ Some into.new }
+{
+    write_value(types, types.sums.len(), ty, word, heap, into, 0);
 }
 
 // From a place on, and the place behind them. Data types of numbers from the bound on have no words: the type holds none.

@@ -25,11 +25,19 @@ pub(crate) fn build_value(
         Ty::Char => first_of(words),
         Ty::Int(_) => first_of(words),
         Ty::Nat(_) => first_of(words),
-        _ => {
-            let (word, _) = build_front(types, bound, ty, words, heap);
-            word
-        }
+        _ => build_whole(types, bound, ty, words, heap),
     }
+}
+
+#[inline(never)]
+#[tactic(auto, using(crate::proofs::Objects::building_steps))]
+fn build_whole(types: &Types, bound: usize, ty: &Ty, words: &[u64], heap: &mut BoxHeap) -> u64
+    requires { length heap.old.words + length (build_with (build_named types.now bound) ty.now (length heap.old.words) words.now).put ≤ heap.old.room }
+    ensures heap { heap.new ≡ grown heap.old (build_with (build_named types.now bound) ty.now (length heap.old.words) words.now).put }
+    ensures word { result ≡ (build_with (build_named types.now bound) ty.now (length heap.old.words) words.now).word }
+{
+    let (word, _) = build_front(types, bound, ty, words, heap);
+    word
 }
 
 #[inline(always)]

@@ -1,12 +1,8 @@
 use Rattle.std.proofs.Common.{length, ap, ◌∙◌}
 use Rattle.box_code.specs.FlatObjects.{flat_at, named_at}
 use Rattle.box_machine.specs.inner.Stepping.{objects_in}
-use Rattle.box_machine.proofs.Writing.{exact_sizes}
 use Rattle.box_machine.proofs.WritingParts.{alone, flat_bool, flat_char, flat_int, flat_nat}
 use Rattle.box_machine.proofs.standing.flatten_standing.Goals as goal
-
-pub write_value-requires-clause-sizes : goal.write_value-requires-clause-sizes
-write_value-requires-clause-sizes c = exact_sizes c.args.types.now c.requires.sizes c.requires.readable
 
 pub returns-in-Bool : goal.returns-in-Bool
 returns-in-Bool c =
