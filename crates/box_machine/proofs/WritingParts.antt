@@ -1,5 +1,5 @@
 -- How the fields of an object are written one after another.
-use Rattle.std.proofs.Common.{◌≡◌, ℕ, suc, ◌+◌, ◌<◌, ◌≤◌, List, [], ◌∷◌, map, take, length, get_or, Option, Some, None, slice_get, refl, ap, sym, ◌∙◌, subst, arith}
+use Rattle.std.proofs.Common.{◌≡◌, ℕ, suc, ◌+◌, ◌<◌, ◌≤◌, List, [], ◌∷◌, map, take, length, get_or, Option, Some, None, slice_get, slice_set, refl, ap, sym, ◌∙◌, subst, arith}
 use Rattle.std.specs.Option.{option_map, option_and_then}
 use Rattle.std.proofs.lemmas.List.{take_all}
 use Rattle.std.proofs.lemmas.Option.{slice_get_within, slice_get-get_or, slice_get_read}
@@ -178,3 +178,28 @@ flat_tuple objects named tys word = form objects named (shape.Tuple tys) (Ty-F.T
 pub flat_vector : (objects : List Object) (named : ℕ → Flattening) (count : ℕ) (item : Box Ty) (word : ℕ)
     → flat_at_with objects named (shape.Vector count item) word ≡ items_at objects (flat_at_with objects named item) word
 flat_vector objects named count item word = form objects named (shape.Vector count item) (Ty-F.Vector count item) word (shape.rolls-Vector count item)
+
+-- by one that has no parts
+
+pub flat_bool : (objects : List Object) (named : ℕ → Flattening) (word : ℕ) → flat_at_with objects named shape.Bool word ≡ Some (word ∷ [])
+flat_bool objects named word = form objects named shape.Bool Ty-F.Bool word shape.rolls-Bool
+
+pub flat_char : (objects : List Object) (named : ℕ → Flattening) (word : ℕ) → flat_at_with objects named shape.Char word ≡ Some (word ∷ [])
+flat_char objects named word = form objects named shape.Char Ty-F.Char word shape.rolls-Char
+
+pub flat_int : (objects : List Object) (named : ℕ → Flattening) (bits word : ℕ) → flat_at_with objects named (shape.Int bits) word ≡ Some (word ∷ [])
+flat_int objects named bits word = form objects named (shape.Int bits) (Ty-F.Int bits) word (shape.rolls-Int bits)
+
+pub flat_nat : (objects : List Object) (named : ℕ → Flattening) (bits word : ℕ) → flat_at_with objects named (shape.Nat bits) word ≡ Some (word ∷ [])
+flat_nat objects named bits word = form objects named (shape.Nat bits) (Ty-F.Nat bits) word (shape.rolls-Nat bits)
+
+-- one word, written into a row that has room for what there is
+pub alone : (flat : Option (List ℕ)) (word : ℕ) (words row : List ℕ) → flat ≡ Some (word ∷ []) → flat ≡ Some words → length words ≡ length row
+    → flat ≡ Some (slice_set row 0 word)
+alone flat word words [] is fills long =
+    let same : words ≡ word ∷ [] = let e : ◌≡◌ {A = Option (List ℕ)} (Some words) (Some (word ∷ [])) = sym fills ∙ is in cc in
+    let one = ap (λ ws. length ws) same in absurd (omega (arith, one, long))
+alone flat word words (x ∷ []) is fills long = is
+alone flat word words (x ∷ y ∷ row) is fills long =
+    let same : words ≡ word ∷ [] = let e : ◌≡◌ {A = Option (List ℕ)} (Some words) (Some (word ∷ [])) = sym fills ∙ is in cc in
+    let one = ap (λ ws. length ws) same in absurd (omega (arith, one, long))

@@ -161,6 +161,10 @@ fn extended(bits: u8, word: u64) -> u64
     requires { bits ≤ MAX_WIDTH }
     ensures { result ≡ word_of (from_low bits (pos (word % 2 ^ bits))) }
 {
+    // Most numbers have all bits.
+    if bits == MAX_WIDTH {
+        return word;
+    }
     let low = low(bits, word);
     let half = 1u64 << bits.saturating_sub(1);
     if low < half {

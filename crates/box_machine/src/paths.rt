@@ -97,9 +97,25 @@ fn found_at(depth: u32, path: Path, top: usize, words: &[u64], heap: &BoxHeap, c
     follow(&code[from..from + path.length as usize], heap, start)
 }
 
-// The word to which field numbers lead from a word on.
+// The word to which field numbers lead from a word on. Most paths have one number or none: for these no call is made.
 #[inline(always)]
 fn follow(numbers: &[u64], heap: &BoxHeap, start: u64) -> u64
+    requires held { IsHeap heap.now }
+    requires there { (word : ℕ) × (at_path (objects_in heap.now) numbers.now start ≡ Some word) }
+    ensures { at_path (objects_in heap.now) numbers.now start ≡ Some result }
+{
+    if numbers.len() == 0 {
+        return start;
+    }
+    if numbers.len() == 1 {
+        keeps_room(heap);
+        return field_at(heap, start, numbers[0] as u32);
+    }
+    follow_on(numbers, heap, start)
+}
+
+#[inline(never)]
+fn follow_on(numbers: &[u64], heap: &BoxHeap, start: u64) -> u64
     requires held { IsHeap heap.now }
     requires there { (word : ℕ) × (at_path (objects_in heap.now) numbers.now start ≡ Some word) }
     ensures { at_path (objects_in heap.now) numbers.now start ≡ Some result }

@@ -10,8 +10,25 @@ use crate::objects::{field_at, keeps_room, tag_at};
 use box_heap::BoxHeap;
 use hume_base::{SumDef, Ty, Types};
 
-/// Writes the flat words of what a word stands for by a type, which fill the row.
+/// Writes the flat words of what a word stands for by a type, which fill the row. One word is written without a call.
 pub(crate) fn flatten_standing(types: &Types, ty: &Ty, word: u64, heap: &BoxHeap, into: &mut [u64])
+    requires sizes { HaveTheirSizes types.now }
+    requires readable { HaveReadableSizes types.now }
+    requires held { IsHeap heap.now }
+    requires fill { (words : List ℕ) × (flat_at types.now (objects_in heap.now) ty.now word ≡ Some words) × (length words ≡ length into.old) }
+    ensures { flat_at types.now (objects_in heap.now) ty.now word ≡ Some into.new }
+{
+    match ty {
+        Ty::Bool => into[0] = word,
+        Ty::Char => into[0] = word,
+        Ty::Int(_) => into[0] = word,
+        Ty::Nat(_) => into[0] = word,
+        _ => flatten_whole(types, ty, word, heap, into),
+    }
+}
+
+#[inline(never)]
+fn flatten_whole(types: &Types, ty: &Ty, word: u64, heap: &BoxHeap, into: &mut [u64])
     requires sizes { HaveTheirSizes types.now }
     requires readable { HaveReadableSizes types.now }
     requires held { IsHeap heap.now }

@@ -5,6 +5,51 @@ ghost use Rattle.match_rules.specs.inner.Builders.{build_word, build_object, bui
 use box_heap::BoxHeap;
 use hume_base::{SumDef, Ty, Types};
 
+/// Builds the value of a type at the front of the words, and answers the word that stands for it, where only data types of numbers
+/// below the bound are built. A value of one word is read without a call.
+#[inline(always)]
+#[tactic(auto, using(crate::proofs::Objects::building_steps))]
+pub(crate) fn build_value(
+    types: &Types,
+    bound: usize,
+    ty: &Ty,
+    words: &[u64],
+    heap: &mut BoxHeap,
+) -> u64
+    requires { length heap.old.words + length (build_with (build_named types.now bound) ty.now (length heap.old.words) words.now).put ≤ heap.old.room }
+    ensures heap { heap.new ≡ grown heap.old (build_with (build_named types.now bound) ty.now (length heap.old.words) words.now).put }
+    ensures word { result ≡ (build_with (build_named types.now bound) ty.now (length heap.old.words) words.now).word }
+{
+    match ty {
+        Ty::Bool => first_of(words),
+        Ty::Char => first_of(words),
+        Ty::Int(_) => first_of(words),
+        Ty::Nat(_) => first_of(words),
+        _ => build_whole(types, bound, ty, words, heap),
+    }
+}
+
+#[inline(never)]
+#[tactic(auto, using(crate::proofs::Objects::building_steps))]
+fn build_whole(types: &Types, bound: usize, ty: &Ty, words: &[u64], heap: &mut BoxHeap) -> u64
+    requires { length heap.old.words + length (build_with (build_named types.now bound) ty.now (length heap.old.words) words.now).put ≤ heap.old.room }
+    ensures heap { heap.new ≡ grown heap.old (build_with (build_named types.now bound) ty.now (length heap.old.words) words.now).put }
+    ensures word { result ≡ (build_with (build_named types.now bound) ty.now (length heap.old.words) words.now).word }
+{
+    let (word, _) = build_front(types, bound, ty, words, heap);
+    word
+}
+
+#[inline(always)]
+fn first_of(words: &[u64]) -> u64
+    ensures { result ≡ (build_word 0 words.now).word }
+{
+    match words.first() {
+        None => 0,
+        Some(word) => *word,
+    }
+}
+
 /// Builds the value of a type at the front of the words, and answers the word that stands for it and the words behind it, where only
 /// data types of numbers below the bound are built.
 #[cycle(build)]

@@ -13,7 +13,7 @@ ghost use Rattle.match_rules.specs.inner.WordTests.{position_test, positions_tes
 use crate::order::RuleOrder;
 use crate::word_tests::words_match;
 use hume_base::{Ty, Types};
-use hume_model::{BoxC, Core, InPat, PortC};
+use hume_model::{BoxC, Core, InPat, PatC, PortC};
 use wire_cells::WireCell;
 
 /// The number of the first rule in the order that fits the oldest values; none exactly where none does. It takes no memory.
@@ -75,6 +75,7 @@ fn position_passes(types: &Types, pat: &InPat, ty: &Ty, cell: &WireCell) -> bool
         InPat::Star => true,
         InPat::AnyStar => true,
         InPat::Any => cell.full(),
+        InPat::Built(PatC::Var) => cell.full(),
         InPat::Built(pattern) => cell.full() && words_match(types, pattern, ty, cell.words()),
     }
 }

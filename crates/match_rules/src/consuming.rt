@@ -35,9 +35,7 @@ fn consume_at(pat: &InPat, cell: &mut WireCell)
 {
     match pat {
         InPat::Star => {}
-        InPat::AnyStar => take_if_full(cell),
-        InPat::Any => take_if_full(cell),
-        InPat::Built(_) => take_if_full(cell),
+        _ => take_if_full(cell),
     }
 }
 

@@ -11,7 +11,7 @@ ghost use Rattle.box_costs.specs.ResultSpending.{built_value, built_values, inpu
 ghost use Rattle.match_rules.specs.Inputs.{IsCellOf, AreCellsOf, AreBuilt};
 ghost use Rattle.match_rules.specs.inner.Putting.{IsPut};
 
-use crate::building::build_front;
+use crate::building::build_value;
 use box_heap::{BoxHeap, BoxStack};
 use hume_model::{Core, InPat, RuleC};
 use wire_cells::WireCell;
@@ -73,15 +73,12 @@ fn build_oldest(core: &Core, cell: &WireCell, heap: &mut BoxHeap) -> u64
 {
     match core.wires.get(cell.number() as usize) {
         None => 0,
-        Some(wire) => {
-            let (word, _) = build_front(
-                &core.types,
-                core.types.sums.len(),
-                &wire.ty,
-                cell.words(),
-                heap,
-            );
-            word
-        }
+        Some(wire) => build_value(
+            &core.types,
+            core.types.sums.len(),
+            &wire.ty,
+            cell.words(),
+            heap,
+        ),
     }
 }

@@ -188,7 +188,12 @@ fn write_row(row: &[u64], into: &mut [u64], start: usize)
     ensures room { length into.new ≡ length into.old }
     ensures words { into.new ≡ take start into.old ++ row.now ++ drop (start + length row.now) into.old }
 {
-    into[start..start + row.len()].copy_from_slice(row);
+    // Most values have one word, for which a call that copies takes longer than the copy.
+    if row.len() == 1 {
+        into[start] = row[0];
+    } else {
+        into[start..start + row.len()].copy_from_slice(row);
+    }
 }
 
 // Writes the words of the value at the front, if there is one, and answers how many there are.

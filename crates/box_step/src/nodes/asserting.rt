@@ -76,9 +76,12 @@ fn has_room(compiled: &CompiledBox, i: u32, cell: &WireCell) -> bool
     requires { i < length compiled.now.sizes }
     ensures { result ≡ has_room_for (pending_words compiled.now i) cell.now }
 {
+    if cell.room() {
+        return true;
+    }
     match compiled.output(i) {
         None => true,
-        Some(_) => cell.room(),
+        Some(_) => false,
     }
 }
 

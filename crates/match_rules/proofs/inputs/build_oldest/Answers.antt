@@ -3,8 +3,8 @@ use Rattle.match_rules.specs.inner.Builders.{build_with, build_named, grown}
 use Rattle.match_rules.proofs.InputsBuilt.{oldest_takes, oldest_put}
 use Rattle.match_rules.proofs.inputs.build_oldest.Goals as goal
 
-pub build_front-word-requires : goal.build_front-word-requires
-build_front-word-requires c =
+pub build_value-requires : goal.build_value-requires
+build_value-requires c =
     let heap = c.args.heap.now in
     let core = c.args.core.now in
     let wire = c.in-Some.wire.now in
@@ -21,6 +21,6 @@ returns-in-Some c = λ type v later is.
     let wire = c.in-Some.wire.now in
     let words = c.words.result.now in
     let found : slice_get core.wires c.args.cell.now.number ≡ Some wire = ap (slice_get core.wires) (sym c.number.ensures) ∙ c.in-Some.ensures in
-    oldest_put core c.requires.core type c.args.cell.now v later is wire found words c.words.ensures heap c.build_front-word.new.heap c.build_front-word.result.0
-    (c.build_front-word.ensures.heap ∙ ap (λ n. grown heap (build_with (build_named core.types n) wire.ty (length heap.words) words).put) c.len.ensures)
-    (c.build_front-word.ensures.word ∙ ap (λ n. (build_with (build_named core.types n) wire.ty (length heap.words) words).word) c.len.ensures)
+    oldest_put core c.requires.core type c.args.cell.now v later is wire found words c.words.ensures heap c.build_value.new.heap c.build_value.result
+    (c.build_value.ensures.heap ∙ ap (λ n. grown heap (build_with (build_named core.types n) wire.ty (length heap.words) words).put) c.len.ensures)
+    (c.build_value.ensures.word ∙ ap (λ n. (build_with (build_named core.types n) wire.ty (length heap.words) words).word) c.len.ensures)
