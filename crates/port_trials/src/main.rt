@@ -1,9 +1,9 @@
-//! A program for work on this repository, `port_trials PIECE FAILING CALL TAKEN NAME.. -- WORD..`: one call of the tool over ports in
-//! memory that tell each call that is made of them.
+//! A program for work on this repository: one call of the tool over ports in memory that tell each call that is made of them.
 //!
-//! The words behind `--` are those of the call, and the names before it those of its ports. A port gives the bytes of the file of its
-//! name, if there is one, in pieces of at most PIECE bytes. Call number CALL of the port FAILING fails, and takes TAKEN bytes if it
-//! is a write. The standard output has a line for each call, then the number of the call's status, then what each port was given.
+//! It is called by `port_trials PIECE FAILING CALL TAKEN NAME.. -- WORD..`. The words behind `--` are those of the call, and the names
+//! before it those of its ports. A port gives the bytes of the file of its name, if there is one, in pieces of at most PIECE bytes.
+//! Call number CALL of the port FAILING fails, and takes TAKEN bytes if it is a write. The standard output has a line for each call,
+//! then the number of the call's status, then what each port was given.
 //!
 //! Proved: its safety, and that a port that tells its calls keeps the contract of the port inside. What it prints has no contract.
 //!
