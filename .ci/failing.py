@@ -11,7 +11,7 @@ import os
 import sys
 
 sys.dont_write_bytecode = True
-from failing_cases import FAULT, NO_MEMORY, add_one, cases, example  # noqa: E402
+from failing_cases import FAULT, NO_MEMORY, WORKERS, add_one, cases, example  # noqa: E402
 from failing_world import FAILED, OLD, Call, World  # noqa: E402
 
 PIECES = 1, 4096
@@ -180,11 +180,12 @@ def refused(case, whole, outcome, number):
 def all_growths(library, program, folders):
     total, findings = [0, 0, 0], []
     for folder in folders:
-        with World(library, program, example(folder)) as world:
-            counts, found = try_growths(world)
-        total = [first + second for first, second in zip(total, counts)]
-        findings += [f"{folder}: {it}" for it in found]
-        print(f"{folder}: {sum(counts)} growths, {told(counts)}")
+        for workers in WORKERS:
+            with World(library, program, example(folder, workers)) as world:
+                counts, found = try_growths(world)
+            total = [first + second for first, second in zip(total, counts)]
+            findings += [f"{folder}, {workers} workers: {it}" for it in found]
+            print(f"{folder}: {sum(counts)} growths, {told(counts)}", flush=True)
     return f"{sum(total)} growths were refused: {told(total)}", findings
 
 

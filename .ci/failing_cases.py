@@ -5,7 +5,11 @@ from dataclasses import dataclass, field
 
 TOP = os.path.dirname(os.path.dirname(os.path.abspath(__file__)))
 ROUND = 64
+# each call is made with each of these numbers of workers
+WORKERS = (1,)
 NO_INPUTS = "words", "README.md", "expected.py", "stdin"
+# the place of WORKERS among the words
+WORKERS_AT = {"run": 2, "trace": 2, "demo": 3}
 NO_OUTPUTS = "status", "table", "taken", "stdout", "hints"
 DONE, REFUSED, BAD_VALUE, FAULT, NO_MEMORY = 0, 2, 3, 4, 5
 
@@ -91,7 +95,7 @@ def rounds(steps, values):
         yield [value for k, value in enumerate(values, 1) if begin < k + 2 <= end]
 
 
-def sum_and_difference(steps, width):
+def sum_and_difference(steps, workers, width):
     """Two inputs and two outputs. With longer lines each round reads on in both inputs."""
     first, second, i, j = numbers(steps + 50, width)
     acts = [wants("p"), *TABLE_OF_TWO]
@@ -101,7 +105,7 @@ def sum_and_difference(steps, width):
         acts += writes("o", *(it[0] for it in values)) + writes("q", *(it[1] for it in values))
     acts += PEAK_OF_TWO + finishes("o", "q", "std_out")
     files = {"p": SUM_AND_DIFFERENCE, "i": i, "j": j}
-    return Case(f"two inputs and two outputs, {steps} supersteps", f"run {steps} 1 p i j o q", files, acts, DONE, ["o", "q"])
+    return Case(f"two inputs and two outputs, {steps} supersteps", f"run {steps} {workers} p i j o q", files, acts, DONE, ["o", "q"])
 
 
 def one_box(name, words, acts, status, **files):
@@ -109,50 +113,52 @@ def one_box(name, words, acts, status, **files):
     return Case(name, words, files, [wants("p"), *acts], status, ["o"])
 
 
-def add_one():
+def add_one(workers=1):
     acts = [*TABLE, wants("i"), *writes("o", 2, 3), *PEAK, *finishes("o", "std_out")]
-    return one_box("one box", "run 4 1 p i o", acts, DONE)
+    return one_box("one box", f"run 4 {workers} p i o", acts, DONE)
 
 
-def traced():
+def traced(workers):
     steps = [("1", "empty", []), ("2", "2", []), ("empty", "3", ["2"])]
     acts = [*TABLE]
     for k, (first, second, out) in enumerate(steps, 1):
         wires = f"step {k}", f"wire s to b.x {first}", f"wire b.y to t {second}"
         acts += [wants("i"), *writes("o", *out), *writes("std_out", *wires)]
-    return one_box("a trace", "trace 3 1 p i o", [*acts, *PEAK, *finishes("o", "std_out")], DONE)
+    return one_box("a trace", f"trace 3 {workers} p i o", [*acts, *PEAK, *finishes("o", "std_out")], DONE)
 
 
 def checked():
     return one_box("a check", "check p", [*TABLE, *finishes("std_out")], DONE)
 
 
-def refused():
+def refused(workers):
     acts = [*writes("std_out", "refused 10 line 2"), *finishes("std_out")]
-    return one_box("a source that is refused", "run 4 1 p i o", acts, REFUSED, p=ADD_ONE.replace(b"+", b"/"))
+    return one_box("a source that is refused", f"run 4 {workers} p i o", acts, REFUSED, p=ADD_ONE.replace(b"+", b"/"))
 
 
-def bad_value():
+def bad_value(workers):
     acts = [*TABLE, wants("i"), *writes("std_out", "bad value s line 2"), *finishes("o", "std_out")]
-    return one_box("a bad line", "run 4 1 p i o", acts, BAD_VALUE, i=b"1\nx\n")
+    return one_box("a bad line", f"run 4 {workers} p i o", acts, BAD_VALUE, i=b"1\nx\n")
 
 
-def demo():
+def demo(workers):
     """The form `demo` by an example, if there is one: it reads nothing, and each of its lines goes to the standard output."""
     folder = os.path.join(TOP, "examples", "demo", "first_value")
     if not os.path.isdir(folder):
         return []
     words, out = (open(os.path.join(folder, it), encoding="utf-8").read().split("\n")[:-1] for it in ("words", "expected/stdout"))
-    return [Case("the demo", " ".join(words), {}, [*writes("std_out", *out), *finishes("std_out")], DONE)]
+    return [Case("the demo", " ".join([*words[:-1], str(workers)]), {}, [*writes("std_out", *out), *finishes("std_out")], DONE)]
 
 
 def cases(width):
     """All calls. Lines of the inputs of the longest have so many digits."""
-    return [add_one(), traced(), checked(), refused(), bad_value(), *demo(), sum_and_difference(150, width)]
+    for workers in WORKERS:
+        yield from (add_one(workers), traced(workers), refused(workers), bad_value(workers), *demo(workers), sum_and_difference(150, workers, width))
+    yield checked()
 
 
-def example(folder):
-    """The call of an example, whose acts are only known port by port."""
+def example(folder, workers):
+    """The call of an example, by so many workers if it has any, whose acts are only known port by port."""
     def text(*path):
         whole = os.path.join(folder, *path)
         return open(whole, "rb").read() if os.path.isfile(whole) else b""
@@ -161,5 +167,7 @@ def example(folder):
     files = {it: text(it) for it in os.listdir(folder) if it not in NO_INPUTS and os.path.isfile(os.path.join(folder, it))}
     acts = [Act("writes", it, text("expected", it)) for it in outputs]
     acts.append(Act("writes", "std_out", text("expected", "table") + text("expected", "stdout")))
-    words = " ".join(text("words").decode().split())
-    return Case(folder, words, files, acts, int(text("expected", "status")), outputs, text("stdin"))
+    words = text("words").decode().split()
+    if words[0] in WORKERS_AT:
+        words[WORKERS_AT[words[0]]] = str(workers)
+    return Case(folder, " ".join(words), files, acts, int(text("expected", "status")), outputs, text("stdin"))

@@ -11,9 +11,10 @@ import re
 import subprocess
 import sys
 import tempfile
+from itertools import product
 
 sys.dont_write_bytecode = True
-from failing_cases import ADD_ONE, FAULT, add_one, cases  # noqa: E402
+from failing_cases import ADD_ONE, FAULT, WORKERS, add_one, cases  # noqa: E402
 
 NO_PORT = "-"
 WHOLE = 1_000_000
@@ -107,13 +108,15 @@ def one_case(trials, piece):
 
 def by_hand(program):
     """The rows of the table, with pieces of 1 and 4,096 bytes."""
-    trials, findings = Trials(program, add_one()), []
-    for piece in (1, 4096):
+    tried, findings = 0, []
+    for workers, piece in product(WORKERS, (1, 4096)):
+        trials = Trials(program, add_one(workers))
         for port, call, taken, out, o in TABLE:
             _, status, given = trials.run(piece, port, call, taken)
             if (status, given["std_out"], given["o"], given["p"], given["i"]) != (FAULT, out, o, b"", b""):
-                findings.append(f"by hand, pieces of {piece}: call {call} of {port}, taking {taken}")
-    return trials.tried, findings
+                findings.append(f"by hand, {workers} workers, pieces of {piece}: call {call} of {port}, taking {taken}")
+        tried += trials.tried
+    return tried, findings
 
 
 def long_source(program):

@@ -59,7 +59,8 @@ class World:
         with tempfile.TemporaryFile() as notes:
             world = {"LD_PRELOAD": self.library, "NOTES": str(notes.fileno()), **{name: str(it) for name, it in settings.items()}}
             words = [self.program, *self.case.words.split()]
-            done = subprocess.run(words, cwd=self.folder, env=world, pass_fds=[notes.fileno()], input=self.case.standard_input, capture_output=True, check=False)
+            shared = {"cwd": self.folder, "env": world, "pass_fds": [notes.fileno()]}
+            done = subprocess.run(words, input=self.case.standard_input, capture_output=True, check=False, **shared)
             notes.seek(0)
             calls, growths = read_notes(notes.read().decode())
         given = {name: self.text(name) for name in self.case.outputs}
