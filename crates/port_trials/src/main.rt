@@ -47,13 +47,8 @@ fn run(rt: &HostRuntime) -> Result<(), TrialError> {
         return Err(TrialError::Usage);
     };
     let mut ports = make_ports(rt, alloc, &order)?;
-    let status = call(alloc, order.words, &mut ports);
+    let status = hume(alloc, order.words, &mut ports);
     tell(rt, status, &ports)
-}
-
-// The only place that makes the call.
-fn call(alloc: Global, words: &[String], ports: &mut [Box<dyn Port>]) -> Status {
-    hume(alloc, words, ports)
 }
 
 fn make_ports(
