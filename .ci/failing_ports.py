@@ -19,6 +19,8 @@ from failing_cases import ADD_ONE, FAULT, WORKERS, add_one, cases  # noqa: E402
 NO_PORT = "-"
 WHOLE = 1_000_000
 MOST_OF_SOURCE = 262_144
+# acts of a call that takes long by single bytes
+MANY = 50
 TWO_LINES = b"box b heap 0 stack 4 work 5\ntotal heap 0 stack 4\n"
 THREE_LINES = TWO_LINES + b"peak b heap 0 stack 4\n"
 
@@ -134,7 +136,7 @@ def main(program, whole):
     findings += long_source(program)
     for piece in (1, 4096):
         for case in cases(2 if piece == 1 else 100):
-            if whole or len(case.acts) < 50:
+            if whole or piece > 1 or len(case.acts) < MANY:
                 trials = Trials(program, case)
                 findings += one_case(trials, piece)
                 tried += trials.tried

@@ -10,6 +10,8 @@
 //! It knows ports in memory, files that it reads before the call, and the call. It doesn't know what a call owes: `.ci/failing.py` does.
 #![tactic(auto)]
 
+ghost use Rattle.std.specs.Prelude.{◌<◌};
+
 mod error;
 mod files;
 mod order;
@@ -55,7 +57,9 @@ fn make_ports(
     rt: &HostRuntime,
     alloc: Global,
     order: &Order,
-) -> Result<Vec<Box<dyn Port>>, AllocError> {
+) -> Result<Vec<Box<dyn Port>>, AllocError>
+    requires { 0 < order.now.piece }
+{
     let mut ports: Vec<Box<dyn Port>> = Vec::new(alloc);
     for name in order.names {
         let bytes = read_whole(rt, alloc, name)?;
