@@ -1,6 +1,5 @@
 //! That two workers are at work at once, and that no barrier parts the halves of a superstep: calls with gates that hold a box until the
 //! other one has come by. On one thread, or with a barrier, such a gate gives up.
-use crate::noting_port::words_of;
 use hume_ports::{MemPort, Port};
 use hume_run::{Status, hume};
 use std::alloc::{AllocError, Global};
@@ -61,6 +60,15 @@ fn has_come(box_count: &AtomicU32, wanted: u32) -> bool {
         }
     }
     false
+}
+
+// The words of a call, from one text.
+fn words_of(alloc: Global, text: &str) -> Result<Vec<String>, AllocError> {
+    let mut words = Vec::new(alloc);
+    for word in text.split_whitespace() {
+        words.push(String::from_str(alloc, word)?)?;
+    }
+    Ok(words)
 }
 
 // Ports `p` with the source, and `std_out`.

@@ -1,25 +1,20 @@
-//! Tests of what no contract says and no program shows: places of tokens, the calls of ports, in order, in pieces and where one fails,
-//! and that workers are at work at once.
+//! Tests of what no contract says and no program shows: places of tokens, the calls of ports, in pieces and where one fails, and that
+//! workers are at work at once.
 //!
 //! They stand above all crates that they use, so that no crate is proved a second time for its tests.
 //!
 //! Proved: nothing; tests alone.
 //!
-//! It knows the public calls of each crate. It doesn't know files: `.ci/run` tests the program from outside.
+//! It knows the public calls of each crate; how ports end the top call is asked by `port_trials`. It doesn't know files:
+//! `.ci/run` tests the program from outside.
 #![tactic(auto)]
 
-#[cfg(test)]
-mod call_tests;
 mod cells;
 mod front;
 #[cfg(test)]
 mod held_gate_tests;
 #[cfg(test)]
-mod last_call_tests;
-#[cfg(test)]
 mod lexing_tests;
-#[cfg(test)]
-mod noting_port;
 #[cfg(test)]
 mod port_tests;
 #[cfg(test)]
