@@ -1,0 +1,173 @@
+"""Calls of the tool with all that they owe, act by act, for trials in which the world fails. What they owe was worked out by hand, or is a rule
+here: an input is wanted before each round, and a value that came k-th is put out in superstep k + 2."""
+import os
+from dataclasses import dataclass, field
+
+TOP = os.path.dirname(os.path.dirname(os.path.abspath(__file__)))
+ROUND = 64
+# each call is made with each of these numbers of workers
+WORKERS = (1,)
+NO_INPUTS = "words", "README.md", "expected.py", "stdin"
+# the place of WORKERS among the words
+WORKERS_AT = {"run": 2, "trace": 2, "demo": 3}
+NO_OUTPUTS = "status", "table", "taken", "stdout", "hints"
+DONE, REFUSED, BAD_VALUE, FAULT, NO_MEMORY = 0, 2, 3, 4, 5
+
+
+@dataclass(frozen=True)
+class Act:
+    """A want reads the port, a write gives it the text by one call, a finish ends it."""
+    kind: str
+    port: str
+    text: bytes = b""
+
+
+@dataclass
+class Case:
+    name: str
+    words: str
+    files: dict
+    acts: list
+    status: int
+    outputs: list = field(default_factory=list)
+    standard_input: bytes = b""
+
+    def ports(self):
+        """The names of the ports that the words name, and the standard output."""
+        return [*self.files, *self.outputs, "std_out"]
+
+    def given(self, acts, port):
+        """What these acts write to the port."""
+        return b"".join(it.text for it in acts if it.kind == "writes" and it.port == port)
+
+
+def wants(port):
+    return Act("wants", port)
+
+
+def writes(port, *lines):
+    return [Act("writes", port, f"{line}\n".encode()) for line in lines]
+
+
+def finishes(*ports):
+    return [Act("finishes", port) for port in ports]
+
+
+ADD_ONE = b"""box b in (x :: int 32) out (y :: int 32)
+match (x) -> (x + 1) ;
+stream s from "i" ;
+stream t to "o" ;
+wire s to b.x ;
+wire b.y to t ;
+"""
+
+SUM_AND_DIFFERENCE = b"""box b in (x :: int 32, y :: int 32) out (u :: int 32, v :: int 32)
+match (x, y) -> (x + y, x - y) ;
+stream r from "i" ;
+stream s from "j" ;
+stream t to "o" ;
+stream w to "q" ;
+wire r to b.x ;
+wire s to b.y ;
+wire b.u to t ;
+wire b.v to w ;
+"""
+
+# The costs of ADD_ONE are worked out in .ci/cases. The other box has two inputs, two variables and on the stack the first sum and two words;
+# it runs two instructions for its variables, three for each sum and one for the end.
+TABLE = writes("std_out", "box b heap 0 stack 4 work 5", "total heap 0 stack 4")
+PEAK = writes("std_out", "peak b heap 0 stack 4")
+TABLE_OF_TWO = writes("std_out", "box b heap 0 stack 7 work 9", "total heap 0 stack 7")
+PEAK_OF_TWO = writes("std_out", "peak b heap 0 stack 7")
+
+
+def numbers(count, width):
+    """Two columns of numbers, each as a line of so many digits at least."""
+    first = [7 * k % 1000 for k in range(1, count + 1)]
+    second = [3 * k % 500 for k in range(1, count + 1)]
+    return first, second, *("".join(f"{it:0{width}}\n" for it in column).encode() for column in (first, second))
+
+
+def rounds(steps, values):
+    """For each round the values that are put out in it: the k-th in superstep k + 2."""
+    for begin in range(0, steps, ROUND):
+        end = min(begin + ROUND, steps)
+        yield [value for k, value in enumerate(values, 1) if begin < k + 2 <= end]
+
+
+def sum_and_difference(steps, workers, width):
+    """Two inputs and two outputs. With longer lines each round reads on in both inputs."""
+    first, second, i, j = numbers(steps + 50, width)
+    acts = [wants("p"), *TABLE_OF_TWO]
+    pairs = [(x + y, x - y) for x, y in zip(first, second)]
+    for values in rounds(steps, pairs):
+        acts += [wants("i"), wants("j")]
+        acts += writes("o", *(it[0] for it in values)) + writes("q", *(it[1] for it in values))
+    acts += PEAK_OF_TWO + finishes("o", "q", "std_out")
+    files = {"p": SUM_AND_DIFFERENCE, "i": i, "j": j}
+    return Case(f"two inputs and two outputs, {steps} supersteps", f"run {steps} {workers} p i j o q", files, acts, DONE, ["o", "q"])
+
+
+def one_box(name, words, acts, status, **files):
+    files = {"p": ADD_ONE, "i": b"1\n2\n", **files}
+    return Case(name, words, files, [wants("p"), *acts], status, ["o"])
+
+
+def add_one(workers=1):
+    acts = [*TABLE, wants("i"), *writes("o", 2, 3), *PEAK, *finishes("o", "std_out")]
+    return one_box("one box", f"run 4 {workers} p i o", acts, DONE)
+
+
+def traced(workers):
+    steps = [("1", "empty", []), ("2", "2", []), ("empty", "3", ["2"])]
+    acts = [*TABLE]
+    for k, (first, second, out) in enumerate(steps, 1):
+        wires = f"step {k}", f"wire s to b.x {first}", f"wire b.y to t {second}"
+        acts += [wants("i"), *writes("o", *out), *writes("std_out", *wires)]
+    return one_box("a trace", f"trace 3 {workers} p i o", [*acts, *PEAK, *finishes("o", "std_out")], DONE)
+
+
+def checked():
+    return one_box("a check", "check p", [*TABLE, *finishes("std_out")], DONE)
+
+
+def refused(workers):
+    acts = [*writes("std_out", "refused 10 line 2"), *finishes("std_out")]
+    return one_box("a source that is refused", f"run 4 {workers} p i o", acts, REFUSED, p=ADD_ONE.replace(b"+", b"/"))
+
+
+def bad_value(workers):
+    acts = [*TABLE, wants("i"), *writes("std_out", "bad value s line 2"), *finishes("o", "std_out")]
+    return one_box("a bad line", f"run 4 {workers} p i o", acts, BAD_VALUE, i=b"1\nx\n")
+
+
+def demo(workers):
+    """The form `demo` by an example, if there is one: it reads nothing, and each of its lines goes to the standard output."""
+    folder = os.path.join(TOP, "examples", "demo", "first_value")
+    if not os.path.isdir(folder):
+        return []
+    words, out = (open(os.path.join(folder, it), encoding="utf-8").read().split("\n")[:-1] for it in ("words", "expected/stdout"))
+    return [Case("the demo", " ".join([*words[:-1], str(workers)]), {}, [*writes("std_out", *out), *finishes("std_out")], DONE)]
+
+
+def cases(width):
+    """All calls. Lines of the inputs of the longest have so many digits."""
+    for workers in WORKERS:
+        yield from (add_one(workers), traced(workers), refused(workers), bad_value(workers), *demo(workers), sum_and_difference(150, workers, width))
+    yield checked()
+
+
+def example(folder, workers):
+    """The call of an example, by so many workers if it has any, whose acts are only known port by port."""
+    def text(*path):
+        whole = os.path.join(folder, *path)
+        return open(whole, "rb").read() if os.path.isfile(whole) else b""
+
+    outputs = [it for it in sorted(os.listdir(os.path.join(folder, "expected"))) if it not in NO_OUTPUTS]
+    files = {it: text(it) for it in os.listdir(folder) if it not in NO_INPUTS and os.path.isfile(os.path.join(folder, it))}
+    acts = [Act("writes", it, text("expected", it)) for it in outputs]
+    acts.append(Act("writes", "std_out", text("expected", "table") + text("expected", "stdout")))
+    words = text("words").decode().split()
+    if words[0] in WORKERS_AT:
+        words[WORKERS_AT[words[0]]] = str(workers)
+    return Case(folder, " ".join(words), files, acts, int(text("expected", "status")), outputs, text("stdin"))

@@ -1,0 +1,13 @@
+use hume_base::limits::MAX_SOURCE_BYTES;
+use hume_ports::{FilePort, Port, fill_at};
+use std::alloc::{AllocError, Global};
+
+/// The bytes of the file of that name, as many as a source may have and some more; none where it can't be read.
+pub fn read_whole(rt: &HostRuntime, alloc: Global, name: &str) -> Result<Vec<u8>, AllocError> {
+    let mut ports: Vec<Box<dyn Port>> = Vec::new(alloc);
+    ports.push(Box::new(alloc, FilePort::make(rt, alloc, name)?)?)?;
+    let mut bytes = vec![in alloc; 0u8; MAX_SOURCE_BYTES + 64]?;
+    let count = fill_at(&mut ports, 0, &mut bytes).unwrap_or(0);
+    bytes.truncate(count);
+    Ok(bytes)
+}
