@@ -6,7 +6,7 @@ from dataclasses import dataclass, field
 TOP = os.path.dirname(os.path.dirname(os.path.abspath(__file__)))
 ROUND = 64
 # each call is made with each of these numbers of workers
-WORKERS = (1,)
+WORKERS = 1, 2
 NO_INPUTS = "words", "README.md", "expected.py", "stdin"
 # the place of WORKERS among the words
 WORKERS_AT = {"run": 2, "trace": 2, "demo": 3}
