@@ -5,8 +5,8 @@
 //!
 //! Proved: `share_round` leaves each cell at its place, at balanced times that are not beyond the end, and right for every opening for
 //! which all cells were right before: whatever the number of workers and the interleaving of their half steps, and also where a
-//! worker leaves early or no table was to be had. A half step is made between cells that one worker holds, of which no other worker
-//! sees any before it is made.
+//! worker leaves early. At `Err` all cells are as they were. A half step is made between cells that one worker holds, and no other
+//! worker sees any of them before it is made. Nothing is said of how many half steps are made: the caller makes those that are left.
 //!
 //! It knows half steps, sides and the locker. It doesn't know kinds of nodes, nor how the half steps that are left are made.
 #![tactic(auto)]
