@@ -1,8 +1,7 @@
 //! Whether the union of two programs is within the limits of a program.
-ghost use Rattle.std.specs.Prelude.{◌≡◌, ◌+◌, ◌*◌, ◌≤◌, ◌-◌, ◌&&◌, Decides, ℕ, Some, length, map, nat_le, slice_get, sum};
+ghost use Rattle.std.specs.Prelude.{◌≡◌, ◌+◌, ◌*◌, ◌≤◌, Decides, map, nat_le, slice_get, sum};
 ghost use Rattle.hume_base.specs.Sizes.{HaveTheirSizes};
-ghost use Rattle.hume_base.specs.declared.limits.TheConstants.{MAX_TYPE_WORDS as MOST_TYPE_WORDS, MAX_WIRES as MOST_WIRES, MAX_WIRE_DEPTH as MOST_DEPTH};
-ghost use Rattle.hume_model.specs.declared.core_tree.WireC.{WireC as Wire};
+ghost use Rattle.hume_base.specs.declared.limits.TheConstants.{MAX_TYPE_WORDS as MOST_TYPE_WORDS, MAX_WIRE_DEPTH as MOST_DEPTH};
 ghost use Rattle.hume_model.specs.Limits.{is_stream_there, wire_words};
 ghost use Rattle.hume_model.specs.WellFormed.{HasSoundFrame};
 ghost use Rattle.hume_model.specs.WireEnds.{HasEnds};
@@ -62,7 +61,7 @@ fn words_of(core: &Core, wire: &WireC) -> u32
     requires sizes { HaveTheirSizes core.now.types }
     requires ends { HasEnds core.now wire.now }
     ensures words { result ≡ wire_words core.now wire.now }
-    ensures few { result ≤ 16384 }
+    ensures few { result ≤ MOST_TYPE_WORDS * MOST_DEPTH }
 {
     if is_stream_at(core, wire.from) && is_stream_at(core, wire.to) {
         return 0;
