@@ -24,14 +24,17 @@ pub type_char : (moves : Moves) → moved_type moves shape.Char ≡ shape.Char
 type_char moves = ap (moved_type moves) (sym shape.rolls-Char) ∙ fold-roll-Ty Ty (λ x. roll-Ty (moved_type_layer moves x)) Ty-F.Char ∙ shape.rolls-Char
 
 pub type_int : (moves : Moves) (bits : ℕ) → moved_type moves (shape.Int bits) ≡ shape.Int bits
-type_int moves bits = ap (moved_type moves) (sym (shape.rolls-Int bits)) ∙ fold-roll-Ty Ty (λ x. roll-Ty (moved_type_layer moves x)) (Ty-F.Int bits) ∙ shape.rolls-Int bits
+type_int moves bits =
+    ap (moved_type moves) (sym (shape.rolls-Int bits)) ∙ fold-roll-Ty Ty (λ x. roll-Ty (moved_type_layer moves x)) (Ty-F.Int bits) ∙ shape.rolls-Int bits
 
 pub type_nat : (moves : Moves) (bits : ℕ) → moved_type moves (shape.Nat bits) ≡ shape.Nat bits
-type_nat moves bits = ap (moved_type moves) (sym (shape.rolls-Nat bits)) ∙ fold-roll-Ty Ty (λ x. roll-Ty (moved_type_layer moves x)) (Ty-F.Nat bits) ∙ shape.rolls-Nat bits
+type_nat moves bits =
+    ap (moved_type moves) (sym (shape.rolls-Nat bits)) ∙ fold-roll-Ty Ty (λ x. roll-Ty (moved_type_layer moves x)) (Ty-F.Nat bits) ∙ shape.rolls-Nat bits
 
 pub type_tuple : (moves : Moves) (tys : List Ty) → moved_type moves (shape.Tuple tys) ≡ shape.Tuple (map (moved_type moves) tys)
 type_tuple moves tys =
-    ap (moved_type moves) (sym (shape.rolls-Tuple tys)) ∙ fold-roll-Ty Ty (λ x. roll-Ty (moved_type_layer moves x)) (Ty-F.Tuple tys) ∙ shape.rolls-Tuple (map (moved_type moves) tys)
+    ap (moved_type moves) (sym (shape.rolls-Tuple tys)) ∙ fold-roll-Ty Ty (λ x. roll-Ty (moved_type_layer moves x)) (Ty-F.Tuple tys)
+    ∙ shape.rolls-Tuple (map (moved_type moves) tys)
 
 pub type_vector : (moves : Moves) (count : ℕ) (item : Box Ty) → moved_type moves (shape.Vector count item) ≡ shape.Vector count (moved_type moves item)
 type_vector moves count item =
@@ -78,8 +81,10 @@ module _ (moves : Moves) where
   pub expr_if : (t a b : Box Expr) → moved moves (expr.If t a b) ≡ expr.If (moved moves t) (moved moves a) (moved moves b)
   expr_if t a b = expr_at (Expr-F.If t a b) _ _ (expr.rolls-If t a b) (expr.rolls-If (moved moves t) (moved moves a) (moved moves b))
 
-  pub expr_case : (e : Box Expr) (ty : Ty) (arms : List (PatC × Expr)) → moved moves (expr.Case e ty arms) ≡ expr.Case (moved moves e) (moved_type moves ty) (map arm_moved arms)
-  expr_case e ty arms = expr_at (Expr-F.Case e ty arms) _ _ (expr.rolls-Case e ty arms) (expr.rolls-Case (moved moves e) (moved_type moves ty) (map arm_moved arms))
+  pub expr_case : (e : Box Expr) (ty : Ty) (arms : List (PatC × Expr))
+      → moved moves (expr.Case e ty arms) ≡ expr.Case (moved moves e) (moved_type moves ty) (map arm_moved arms)
+  expr_case e ty arms =
+      expr_at (Expr-F.Case e ty arms) _ _ (expr.rolls-Case e ty arms) (expr.rolls-Case (moved moves e) (moved_type moves ty) (map arm_moved arms))
 
   pub expr_let : (a b : Box Expr) → moved moves (expr.Let a b) ≡ expr.Let (moved moves a) (moved moves b)
   expr_let a b = expr_at (Expr-F.Let a b) _ _ (expr.rolls-Let a b) (expr.rolls-Let (moved moves a) (moved moves b))
@@ -93,7 +98,8 @@ module _ (moves : Moves) where
   pub expr_raise_with : (x : ℕ) (e : Box Expr) → moved moves (expr.Raise x (Some e)) ≡ expr.Raise (moved_exn moves x) (Some (moved moves e))
   expr_raise_with x e = expr_at (Expr-F.Raise x (Some e)) _ _ (expr.rolls-Raise x (Some e)) (expr.rolls-Raise (moved_exn moves x) (Some (moved moves e)))
 
-  result_at : (x : Res-F Res) (r d : Res) → roll-Res x ≡ r → roll-Res (moved_result_layer moves (map-Res Res Res (moved_result moves) x)) ≡ d → moved_result moves r ≡ d
+  result_at : (x : Res-F Res) (r d : Res) → roll-Res x ≡ r
+      → roll-Res (moved_result_layer moves (map-Res Res Res (moved_result moves) x)) ≡ d → moved_result moves r ≡ d
   result_at x r d is then = ap (moved_result moves) (sym is) ∙ fold-roll-Res Res (λ y. roll-Res (moved_result_layer moves y)) x ∙ then
 
   abbrev result_arm_moved : PatC × Res → PatC × Res
@@ -107,7 +113,8 @@ module _ (moves : Moves) where
 
   pub result_case : (e : Expr) (ty : Ty) (arms : List (PatC × Res))
       → moved_result moves (res.Case e ty arms) ≡ res.Case (moved moves e) (moved_type moves ty) (map result_arm_moved arms)
-  result_case e ty arms = result_at (Res-F.Case e ty arms) _ _ (res.rolls-Case e ty arms) (res.rolls-Case (moved moves e) (moved_type moves ty) (map result_arm_moved arms))
+  result_case e ty arms =
+      result_at (Res-F.Case e ty arms) _ _ (res.rolls-Case e ty arms) (res.rolls-Case (moved moves e) (moved_type moves ty) (map result_arm_moved arms))
 
   pub result_let : (e : Expr) (b : Box Res) → moved_result moves (res.Let e b) ≡ res.Let (moved moves e) (moved_result moves b)
   result_let e b = result_at (Res-F.Let e b) _ _ (res.rolls-Let e b) (res.rolls-Let (moved moves e) (moved_result moves b))
@@ -115,4 +122,12 @@ module _ (moves : Moves) where
   pub result_raise : (x : ℕ) (e : Option Expr) → moved_result moves (res.Raise x e) ≡ res.Raise (moved_exn moves x) (option_map (moved moves) e)
   result_raise x e = result_at (Res-F.Raise x e) _ _ (res.rolls-Raise x e) (res.rolls-Raise (moved_exn moves x) (option_map (moved moves) e))
 
-pub ruleset move_steps = (common_steps, type_bool, type_char, type_int, type_nat, type_tuple, type_vector, type_named, expr_word, expr_var, expr_con, expr_tuple, expr_vect, expr_prim, expr_index, expr_update, expr_if, expr_case, expr_let, expr_call, expr_raise, expr_raise_with, result_outs, result_if, result_case, result_let, result_raise)
+ruleset type_moves = (type_bool, type_char, type_int, type_nat, type_tuple, type_vector, type_named)
+
+ruleset plain_moves = (expr_word, expr_var, expr_con, expr_tuple, expr_vect, expr_prim, expr_index, expr_update)
+
+ruleset inner_moves = (expr_if, expr_case, expr_let, expr_call, expr_raise, expr_raise_with)
+
+ruleset result_moves = (result_outs, result_if, result_case, result_let, result_raise)
+
+pub ruleset move_steps = (common_steps, type_moves, plain_moves, inner_moves, result_moves)

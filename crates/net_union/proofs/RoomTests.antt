@@ -1,5 +1,5 @@
 -- What the test for room finds, by the numbers of both programs.
-use Rattle.std.proofs.Common.{◌≡◌, ℕ, ◌+◌, ◌-◌, ◌≤◌, List, ◌++◌, map, sum, length, ap, sym, ◌∙◌, subst}
+use Rattle.std.proofs.Common.{◌≡◌, ◌+◌, ◌-◌, ◌≤◌, List, ◌++◌, map, sum, length, ap, sym, ◌∙◌, subst}
 use Rattle.std.proofs.lemmas.List.{length-append, length-drop, length-map}
 use Rattle.hume_base.specs.declared.limits.TheConstants.{MAX_EXCEPTIONS, MAX_FUNCTIONS, MAX_NODES, MAX_WIRES, MAX_WIRE_WORDS}
 use Rattle.hume_model.specs.declared.core_tree.Core.{Core}

@@ -1,5 +1,5 @@
 -- The words of a union's wires are those of both programs' wires.
-use Rattle.std.proofs.Common.{◌≡◌, ℕ, zero, suc, ◌+◌, ◌≤◌, List, [], ◌∷◌, ◌++◌, map, sum, length, Some, slice_get, refl, ap, sym, ◌∙◌, arith}
+use Rattle.std.proofs.Common.{◌≡◌, ℕ, suc, ◌+◌, List, [], ◌∷◌, ◌++◌, map, sum, length, Some, slice_get, refl, ap, sym, ◌∙◌, arith}
 use Rattle.std.proofs.lemmas.List.Sums.{sum_by-append}
 use Rattle.hume_model.specs.declared.core_tree.NodeC.{NodeC}
 use Rattle.hume_model.specs.declared.core_tree.WireC.{WireC}
@@ -42,7 +42,8 @@ module _ (a b : Core) (first : HasSoundFrame a) (second : HasSoundFrame b) where
   back_nodes n node found = in_back (moved_node (behind a)) a.nodes b.nodes n node found
 
   front_wire : (wire : WireC) → HasEnds a wire → wire_words whole wire ≡ wire_words a wire
-  front_wire wire ends = ap (wire_words whole) (sym (wire_same wire)) ∙ words_moved unmoved a whole (left_trees a b first second) first.holds front_nodes wire ends
+  front_wire wire ends =
+      ap (wire_words whole) (sym (wire_same wire)) ∙ words_moved unmoved a whole (left_trees a b first second) first.holds front_nodes wire ends
 
   back_wire : (wire : WireC) → HasEnds b wire → wire_words whole (moved_wire (behind a) wire) ≡ wire_words b wire
   back_wire wire ends = words_moved (behind a) b whole (right_trees a b first second) second.holds back_nodes wire ends

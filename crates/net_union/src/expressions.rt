@@ -1,5 +1,5 @@
 //! Expressions with their numbers moved up.
-ghost use Rattle.std.specs.Prelude.{◌≡◌, map, List, IfOk};
+ghost use Rattle.std.specs.Prelude.{◌≡◌, map, IfOk};
 ghost use Rattle.std.specs.Option.{option_map};
 ghost use Rattle.hume_model.specs.declared.core_tree.PatC.{PatC as Pattern};
 ghost use Rattle.hume_model.specs.declared.core_tree.Expr.{Expr as Tree};
@@ -116,7 +116,8 @@ fn move_case(
     ty: &Ty,
     arms: &List<(PatC, Expr)>,
 ) -> Result<Expr, AllocError>
-    ensures { IfOk result (λ higher. higher ≡ expr.Case (moved moves part.now) (moved_type moves ty.now) (map (λ (arm : Pattern × Tree). (arm.0, moved moves arm.1)) arms.now)) }
+    ensures { IfOk result (λ higher. higher ≡ expr.Case (moved moves part.now) (moved_type moves ty.now)
+        (map (λ (arm : Pattern × Tree). (arm.0, moved moves arm.1)) arms.now)) }
 {
     let part = move_part(alloc, moves, part)?;
     let ty = move_type(alloc, moves, ty)?;

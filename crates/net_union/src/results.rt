@@ -1,5 +1,5 @@
 //! Results of rules and handlers with their numbers moved up.
-ghost use Rattle.std.specs.Prelude.{◌≡◌, map, List, IfOk};
+ghost use Rattle.std.specs.Prelude.{◌≡◌, map, IfOk};
 ghost use Rattle.std.specs.Option.{option_map};
 ghost use Rattle.hume_model.specs.declared.core_tree.PatC.{PatC as Pattern};
 ghost use Rattle.hume_model.specs.declared.core_tree.Res.{Res as Tree};
@@ -58,7 +58,8 @@ fn move_case(
     ty: &Ty,
     arms: &List<(PatC, Res)>,
 ) -> Result<Res, AllocError>
-    ensures { IfOk result (λ higher. higher ≡ res.Case (moved moves part.now) (moved_type moves ty.now) (map (λ (arm : Pattern × Tree). (arm.0, moved_result moves arm.1)) arms.now)) }
+    ensures { IfOk result (λ higher. higher ≡ res.Case (moved moves part.now) (moved_type moves ty.now)
+        (map (λ (arm : Pattern × Tree). (arm.0, moved_result moves arm.1)) arms.now)) }
 {
     let part = move_expression(alloc, moves, part)?;
     let ty = move_type(alloc, moves, ty)?;

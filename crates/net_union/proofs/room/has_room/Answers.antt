@@ -1,4 +1,4 @@
-use Rattle.std.proofs.Common.{rules, ◌≡◌, ◌+◌, ◌-◌, ◌≤◌, ℕ, length, map, nat_le, sum, Bool, true, false, ap, sym, ◌∙◌, arith}
+use Rattle.std.proofs.Common.{rules, ◌≡◌, ◌+◌, ◌-◌, ◌≤◌, length, map, nat_le, sum, true, sym, ◌∙◌, arith}
 use Rattle.std.proofs.lemmas.Bool.Decides.{nat_tests}
 use Rattle.hume_base.specs.declared.limits.TheConstants.{MAX_EXCEPTIONS, MAX_FUNCTIONS, MAX_NODES, MAX_WIRES, MAX_WIRE_WORDS}
 use Rattle.hume_model.specs.Limits.{wire_words}
@@ -19,7 +19,9 @@ returns c =
         exceptions = exceptions;
         nodes = nodes;
         wires = wires;
-        words = (let is : nat_le (sum (map (wire_words a) a.wires) + sum (map (wire_words b) b.wires)) MAX_WIRE_WORDS ≡ true = sym words ∙ yes in grind (arith, nat_tests));
+        words = (
+            let is : nat_le (sum (map (wire_words a) a.wires) + sum (map (wire_words b) b.wires)) MAX_WIRE_WORDS ≡ true = sym words ∙ yes in
+            grind (arith, nat_tests));
       }),
       λ room.
           let fit : BothFit a b c.requires.first c.requires.second = room_then_fits a b c.requires.first c.requires.second room in
