@@ -122,12 +122,12 @@ module _ (moves : Moves) where
   pub result_raise : (x : ℕ) (e : Option Expr) → moved_result moves (res.Raise x e) ≡ res.Raise (moved_exn moves x) (option_map (moved moves) e)
   result_raise x e = result_at (Res-F.Raise x e) _ _ (res.rolls-Raise x e) (res.rolls-Raise (moved_exn moves x) (option_map (moved moves) e))
 
-ruleset type_moves = (type_bool, type_char, type_int, type_nat, type_tuple, type_vector, type_named)
+pub ruleset type_moves = (type_bool, type_char, type_int, type_nat, type_tuple, type_vector, type_named)
 
-ruleset plain_moves = (expr_word, expr_var, expr_con, expr_tuple, expr_vect, expr_prim, expr_index, expr_update)
+pub ruleset plain_moves = (expr_word, expr_var, expr_con, expr_tuple, expr_vect, expr_prim, expr_index, expr_update)
 
-ruleset inner_moves = (expr_if, expr_case, expr_let, expr_call, expr_raise, expr_raise_with)
+pub ruleset inner_moves = (expr_if, expr_case, expr_let, expr_call, expr_raise, expr_raise_with)
 
-ruleset result_moves = (result_outs, result_if, result_case, result_let, result_raise)
+pub ruleset result_moves = (result_outs, result_if, result_case, result_let, result_raise)
 
 pub ruleset move_steps = (common_steps, type_moves, plain_moves, inner_moves, result_moves)
