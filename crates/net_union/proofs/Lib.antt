@@ -1,0 +1,4 @@
+pub mod Moves
+pub mod Unmoved
+pub mod UnionWords
+pub mod RoomTests

@@ -1,0 +1,6 @@
+use Rattle.std.proofs.Common.{◌≡◌, take, map}
+use Rattle.union_laws.specs.Moving.{moved_handler}
+use Rattle.net_union.proofs.boxes.move_handlers.Given as goal
+
+abbrev pub invariant-loop-handler : goal.invariant-loop-handler
+invariant-loop-handler l = l.higher ≡ map (moved_handler l.fn.moves) (take l.handler-index l.handlers)

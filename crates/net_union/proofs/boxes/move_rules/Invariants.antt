@@ -1,0 +1,6 @@
+use Rattle.std.proofs.Common.{◌≡◌, take, map}
+use Rattle.union_laws.specs.Moving.{moved_rule}
+use Rattle.net_union.proofs.boxes.move_rules.Given as goal
+
+abbrev pub invariant-loop-rule : goal.invariant-loop-rule
+invariant-loop-rule l = l.higher ≡ map (moved_rule l.fn.moves) (take l.rule-index l.rules)

@@ -1,0 +1,116 @@
+//! Types, data types and exceptions with their numbers moved up.
+ghost use Rattle.std.specs.Prelude.{◌≡◌, map, IfOk};
+ghost use Rattle.std.specs.Option.{option_map};
+ghost use Rattle.union_laws.specs.Moving.{moved_con, moved_data, moved_exception, moved_type};
+
+use crate::numbers::raised;
+use hume_base::{Box, ConDef, List, SumDef, Ty};
+use hume_model::ExnDef;
+use std::alloc::{AllocError, Global};
+use union_laws::Moves;
+
+#[cycle(move_type)]
+#[tactic(auto, using(crate::proofs::Moves::move_steps))]
+pub(crate) fn move_type(alloc: Global, moves: Moves, ty: &Ty) -> Result<Ty, AllocError>
+    ensures { IfOk result (λ higher. higher ≡ moved_type moves ty.now) }
+{
+    match ty {
+        Ty::Bool => Ok(Ty::Bool),
+        Ty::Char => Ok(Ty::Char),
+        Ty::Int(bits) => Ok(Ty::Int(*bits)),
+        Ty::Nat(bits) => Ok(Ty::Nat(*bits)),
+        Ty::Tuple(parts) => Ok(Ty::Tuple(move_types(alloc, moves, parts.as_slice())?)),
+        Ty::Vector(count, item) => Ok(Ty::Vector(
+            *count,
+            Box::new(alloc, move_type(alloc, moves, item)?)?,
+        )),
+        Ty::Named(number) => Ok(Ty::Named(raised(*number, moves.types)?)),
+    }
+}
+
+#[cycle(move_type)]
+#[tactic(auto, using(crate::proofs::Moves::move_steps))]
+pub(crate) fn move_types(alloc: Global, moves: Moves, tys: &[Ty]) -> Result<List<Ty>, AllocError>
+    ensures { IfOk result (λ higher. higher ≡ map (moved_type moves) tys.now) }
+{
+    let mut higher = List::new(alloc);
+    for ty in tys {
+        higher.push(move_type(alloc, moves, ty)?)?;
+    }
+    Ok(higher)
+}
+
+pub(crate) fn move_sums(
+    alloc: Global,
+    moves: Moves,
+    sums: &[SumDef],
+) -> Result<List<SumDef>, AllocError>
+    ensures { IfOk result (λ higher. higher ≡ map (moved_data moves) sums.now) }
+{
+    let mut higher = List::new(alloc);
+    for sum in sums {
+        higher.push(move_sum(alloc, moves, sum)?)?;
+    }
+    Ok(higher)
+}
+
+fn move_sum(alloc: Global, moves: Moves, sum: &SumDef) -> Result<SumDef, AllocError>
+    ensures { IfOk result (λ higher. higher ≡ moved_data moves sum.now) }
+{
+    Ok(SumDef {
+        name: sum.name.copy()?,
+        cons: move_cons(alloc, moves, sum.cons.as_slice())?,
+        words: sum.words,
+    })
+}
+
+fn move_cons(alloc: Global, moves: Moves, cons: &[ConDef]) -> Result<List<ConDef>, AllocError>
+    ensures { IfOk result (λ higher. higher ≡ map (moved_con moves) cons.now) }
+{
+    let mut higher = List::new(alloc);
+    for con in cons {
+        higher.push(move_con(alloc, moves, con)?)?;
+    }
+    Ok(higher)
+}
+
+fn move_con(alloc: Global, moves: Moves, con: &ConDef) -> Result<ConDef, AllocError>
+    ensures { IfOk result (λ higher. higher ≡ moved_con moves con.now) }
+{
+    Ok(ConDef {
+        name: con.name.copy()?,
+        fields: move_types(alloc, moves, con.fields.as_slice())?,
+    })
+}
+
+pub(crate) fn move_exceptions(
+    alloc: Global,
+    moves: Moves,
+    exns: &[ExnDef],
+) -> Result<List<ExnDef>, AllocError>
+    ensures { IfOk result (λ higher. higher ≡ map (moved_exception moves) exns.now) }
+{
+    let mut higher = List::new(alloc);
+    for exn in exns {
+        higher.push(move_exception(alloc, moves, exn)?)?;
+    }
+    Ok(higher)
+}
+
+fn move_exception(alloc: Global, moves: Moves, exn: &ExnDef) -> Result<ExnDef, AllocError>
+    ensures { IfOk result (λ higher. higher ≡ moved_exception moves exn.now) }
+{
+    Ok(ExnDef {
+        name: exn.name.copy()?,
+        carries: move_maybe(alloc, moves, &exn.carries)?,
+    })
+}
+
+fn move_maybe(alloc: Global, moves: Moves, ty: &Option<Ty>) -> Result<Option<Ty>, AllocError>
+    ensures { IfOk result (λ higher. higher ≡ option_map (moved_type moves) ty.now) }
+{
+    match ty {
+        None => Ok(None),
+        Some(ty) => Ok(Some(move_type(alloc, moves, ty)?)),
+    }
+}
