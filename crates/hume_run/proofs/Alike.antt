@@ -129,7 +129,10 @@ module _ (source : List ℕ) (olds others : List PortView) (same : HaveSameTexts
     is,
     fit,
     coming,
-    record { count = are.count; each = λ n. comes_alike accepted.core fit n (slice_get accepted.core.nodes n) refl (listed coming.good n) (coming.bad n) (are.each n) },
+    record {
+      count = are.count;
+      each = λ n. comes_alike accepted.core fit n (slice_get accepted.core.nodes n) refl (listed coming.good n) (coming.bad n) (are.each n);
+    },
     owes,
   )
 

@@ -3,7 +3,7 @@ use Rattle.std.proofs.Common.{◌≡◌, ◌≤◌, ◌<◌, ℕ, Bool, List, []
 use Rattle.std.specs.Str.{bytes_eq}
 use Rattle.hume_run.specs.declared.order.Order.{Order}
 use Rattle.hume_run.specs.declared.order.Order.TheVariants.{Check}
-use Rattle.hume_run.specs.Words.{order_of, four_of, number_of, traced_of, run_of}
+use Rattle.hume_run.specs.Words.{order_of, number_of, traced_of, run_of}
 
 -- a check, if so
 abbrev pub check_if : Bool → Option Order
@@ -29,18 +29,7 @@ module _ {A : Type 0} (bytes_of : A → List ℕ) where
   three_words (first ∷ second ∷ third ∷ []) least less = refl
   three_words (first ∷ second ∷ third ∷ fourth ∷ words) least less = absurd (omega arith)
 
-  -- four words
-  pub four_words : (words : List A) (command first second third : A) → 4 ≤ length words → length words < 5 → command ≡ slice_index_or words 0 command
-      → first ≡ slice_index_or words 1 first → second ≡ slice_index_or words 2 second → third ≡ slice_index_or words 3 third
-      → order_of (map bytes_of words) ≡ four_of (bytes_of command) (bytes_of first) (bytes_of second) (bytes_of third)
-  four_words [] command first second third least less is at by on = absurd (omega arith)
-  four_words (one ∷ []) command first second third least less is at by on = absurd (omega arith)
-  four_words (one ∷ two ∷ []) command first second third least less is at by on = absurd (omega arith)
-  four_words (one ∷ two ∷ three ∷ []) command first second third least less is at by on = absurd (omega arith)
-  four_words (one ∷ two ∷ three ∷ four ∷ []) command first second third least less is at by on = rw (is, at, by, on) refl
-  four_words (one ∷ two ∷ three ∷ four ∷ five ∷ words) command first second third least less is at by on = absurd (omega arith)
-
-  -- more words
+  -- five words or more
   pub more_words : (words : List A) (command steps workers : A) → 5 ≤ length words → command ≡ slice_index_or words 0 command
       → steps ≡ slice_index_or words 1 steps → workers ≡ slice_index_or words 2 workers
       → order_of (map bytes_of words) ≡ run_of (traced_of (bytes_of command)) (number_of (bytes_of steps)) (number_of (bytes_of workers))

@@ -53,11 +53,14 @@ module _ (steps : ℕ) (core : Core) where
           → ForNameAt out mids (λ name. Fails never [] (lines_to name (demo_lines core steps)) mids news) → Fails never [] (owed_demo steps core).acts olds news
       chains_failed news same fails =
           Fails-on never [] [] total (chains ++ finishes std_out ∷ []) olds mids news total_made
-          (Fails-stop never [] chains (finishes std_out ∷ []) mids news (fails std_out (place-kept olds mids out std_out same (meant std_out (names olds) out place))))
+          (Fails-stop never [] chains (finishes std_out ∷ []) mids news
+          (fails std_out (place-kept olds mids out std_out same (meant std_out (names olds) out place))))
 
       -- all was told
       pub demo_ends : (lates news : List PortView) (result : Result (Unit {0}) Failed) → names mids ≡ names olds
-          → ForNameAt out mids (λ name. Made (lines_to name (demo_lines core steps)) [] mids lates) → names lates ≡ names mids → ForNameAt out lates (λ name. Ends never [] (finishes name ∷ []) [] lates news result) → Ends never [] (owed_demo steps core).acts [] olds news result
+          → ForNameAt out mids (λ name. Made (lines_to name (demo_lines core steps)) [] mids lates) → names lates ≡ names mids
+          → ForNameAt out lates (λ name. Ends never [] (finishes name ∷ []) [] lates news result)
+          → Ends never [] (owed_demo steps core).acts [] olds news result
       demo_ends lates news result mid chained late ends =
           Ends-on never [] [] [] total (chains ++ finishes std_out ∷ []) olds mids news result total_made
           (Ends-on never [] [] [] chains (finishes std_out ∷ []) mids lates news result

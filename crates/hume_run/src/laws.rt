@@ -72,8 +72,8 @@ pub fn calls_with_room_are_answered()
 /// and the same bytes to each port that had told the same: however their reads cut the texts.
 pub fn equal_calls_end_alike()
     ensures { (words : List (List ℕ)) (order : Order) (old new others later : List PortView) (status other : Status) → order_of words ≡ Some order
-        → (IsSomeAnd (source_of words order) (λ source. place_of source (names old) ≡ None) → ⊥) → HaveSameTexts old others → Headline words old new status → Headline words others later other
-        → IsThrough status → IsThrough other
+        → (IsSomeAnd (source_of words order) (λ source. place_of source (names old) ≡ None) → ⊥) → HaveSameTexts old others
+        → Headline words old new status → Headline words others later other → IsThrough status → IsThrough other
         → (status ≡ other) × ((name had : List ℕ) → bytes_of name old ≡ Some had → bytes_of name others ≡ Some had → bytes_of name new ≡ bytes_of name later) }
 {
     inputs_are_unique();

@@ -4,8 +4,8 @@ use Rattle.hume_run.proofs.Forms.{check_if, two_words, three_words, more_words}
 use Rattle.hume_run.proofs.words.reading.read_words.Goals as goal
 
 pub returns-in-len2-clause-order : goal.returns-in-len2-clause-order
-returns-in-len2-clause-order c = sym (two_words _ c.args.words.now c.command-item.result _ c.eq.result (search rules) (search rules) c.command-item.is c.as_str.ensures.value
-    c.eq.ensures ∙ ap check_if c.if-eq.true)
+returns-in-len2-clause-order c = sym (two_words _ c.args.words.now c.command-item.result _ c.eq.result (search rules) (search rules) c.command-item.is
+    c.as_str.ensures.value c.eq.ensures ∙ ap check_if c.if-eq.true)
 
 pub returns-in_default-2-clause-order : goal.returns-in_default-2-clause-order
 returns-in_default-2-clause-order c = sym (two_words _ c.args.words.now c.command-item.result _ c.eq.result (search rules) (search rules) c.command-item.is
