@@ -12,8 +12,9 @@ use look_reasons::{Reason, Site, tell_counts, tell_repeated, tell_unknown};
 use look_sources::{Page, Sort};
 use std::alloc::{AllocError, Global};
 
-// How many bytes of sources are checked again at most for the first message, and for all others.
-const MAX_CHECKED_BYTES: usize = 8_000_000;
+// How many bytes of sources are checked again at most: to narrow the first message and all others, and to find the others.
+const MAX_NARROWED_BYTES: usize = 8_000_000;
+const MAX_FOUND_BYTES: usize = 32_000_000;
 
 /// Puts the messages.
 pub(crate) fn put_of_parts(
@@ -25,7 +26,7 @@ pub(crate) fn put_of_parts(
 ) -> Result<(), AllocError> {
     let mut marks = all_kept(alloc, site.tokens.len())?;
     let marks = marks.as_mut_slice();
-    let mut left = MAX_CHECKED_BYTES;
+    let mut left = MAX_NARROWED_BYTES;
     put_part(alloc, name, site, program, marks, &mut left, page)?;
     if site.refusal.rule.phase() == 4 && has_fresh_names(site) {
         return Ok(());
@@ -43,14 +44,15 @@ fn put_other_parts(
     page: &mut Page,
 ) -> Result<(), AllocError> {
     let mut at = *site;
-    let mut left = MAX_CHECKED_BYTES;
+    let mut left = MAX_NARROWED_BYTES;
+    let mut found: usize = 0;
     for _ in 0..program.decls.len() {
         blank(&at, program, marks);
-        if left == 0 {
+        if found > MAX_FOUND_BYTES {
             page.put(b"  further declarations were not looked at: that would take too long\n");
             return Ok(());
         }
-        left = left.saturating_sub(site.text.len());
+        found = found.saturating_add(site.text.len());
         let text = marked(alloc, site, marks)?;
         match next_refusal(alloc, text.as_slice(), at.refusal)? {
             None => return Ok(()),
