@@ -72,7 +72,7 @@ def exchange_alike(chance, pieces, others):
 
 
 def change_name(chance, pieces, others):
-    names = [i for i in tokens(pieces) if pieces[i][0].isalpha()]
+    names = [i for i in tokens(pieces) if kind(pieces[i]) in ("upper", "lower")]
     if names:
         place = chance.choice(names)
         alike = [it for it in (*NAMES, *(pieces[i] for i in names)) if kind(it) == kind(pieces[place])]

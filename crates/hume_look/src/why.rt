@@ -13,6 +13,7 @@ mod marks;
 mod message;
 mod narrow;
 mod parts;
+mod raising;
 mod telling;
 
 pub(crate) use telling::put_why;

@@ -258,7 +258,8 @@ fn tell_set(
     some
 }
 
-fn is_handled(handlers: &[HandC], exn: u32) -> bool {
+/// Whether one of the handlers is for the exception.
+pub(crate) fn is_handled(handlers: &[HandC], exn: u32) -> bool {
     for handler in handlers {
         if handler.exn == exn {
             return true;

@@ -19,6 +19,7 @@ mod expression_bounds;
 mod found;
 mod net;
 mod pattern_counts;
+mod raised;
 mod result_bounds;
 mod texts;
 
@@ -28,4 +29,5 @@ pub use box_bounds::node_bounds;
 pub use broken::{Culprit, tell_of_core};
 pub use found::broken_in;
 pub use net::put_net;
+pub use raised::{first_raised, may_raise};
 pub use texts::{put_type, put_value};

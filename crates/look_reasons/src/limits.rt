@@ -145,18 +145,27 @@ pub fn tell_limits(site: &Site, words: &Words, reason: &mut Reason) {
         tell_wire_words(site, words, reason);
         return;
     }
+    if !tell_excess(site, words, false, reason) {
+        let _ = tell_excess(site, words, true, reason);
+    }
+}
+
+// Tells the first part that passes the limit, or the first name of a data type that does; and whether there is one.
+fn tell_excess(site: &Site, words: &Words, names: bool, reason: &mut Reason) -> bool {
     let mut declared = Declared::nothing();
     for i in 0..site.spans.len() {
         let span = site.spans[i];
         declared.count(&span);
         if let Some(excess) = excess_of(declared, &span, words.of_part(i)) {
-            if site.is_here(&span) && excess.rule == site.refusal.rule {
+            let is_told = site.is_here(&span) && excess.rule == site.refusal.rule;
+            if is_told && names == (span.sort == Sort::TypeName) {
                 reason.here = Some(site.place(span.first));
                 put_excess(excess, reason);
-                return;
+                return true;
             }
         }
     }
+    false
 }
 
 fn put_excess(excess: Excess, reason: &mut Reason) {

@@ -11,6 +11,8 @@ pub(crate) enum Mark {
     Gone,
     /// An expression that fits everywhere.
     Raise,
+    /// The same that raises another exception.
+    RaiseRange,
     /// A type without names.
     Bool,
     /// A pattern without names.
@@ -122,6 +124,7 @@ fn put_mark(site: &Site, marks: &[Mark], token: usize, mark: Mark, page: &mut Pa
     match mark {
         Mark::Kept | Mark::Gone => page.put(b" "),
         Mark::Raise => page.put(b" (raise NoCase) "),
+        Mark::RaiseRange => page.put(b" (raise Range) "),
         Mark::Bool => page.put(b" bool "),
         Mark::Any => page.put(b" _ "),
         Mark::Fresh => put_fresh(site, token, page),

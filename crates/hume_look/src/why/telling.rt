@@ -7,6 +7,7 @@ use crate::why::expected::put_expected;
 use crate::why::large::put_of_limits;
 use crate::why::message::put_message;
 use crate::why::parts::put_of_parts;
+use crate::why::raising::raising_part;
 use hume_ast::Program;
 use hume_base::limits::MAX_SOURCE_BYTES;
 use hume_base::{Refusal, Token};
@@ -152,6 +153,13 @@ fn put_one_of_core(
     let mut reason = Reason::at(alloc, site.head());
     let culprit = tell_of_core(alloc, core, site.refusal, &mut reason.note)?;
     reason.here = place_of_culprit(site, culprit);
+    if let Some(culprit) = culprit {
+        if site.refusal.rule.phase() == 9 {
+            if let Some(span) = raising_part(alloc, site, core, culprit)? {
+                reason.here = Some(site.place(span.first));
+            }
+        }
+    }
     put_message(name, site.text, site.refusal, &reason, page);
     Ok(())
 }
