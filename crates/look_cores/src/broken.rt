@@ -196,7 +196,13 @@ fn tell_exceptions(
 }
 
 /// Tells what rules or handlers of the box raise, and which is the first that does.
-pub(crate) fn tell_box(core: &Core, raised: &Raises, b: &BoxC, rule: Rule, note: &mut Page) -> Option<Culprit>
+pub(crate) fn tell_box(
+    core: &Core,
+    raised: &Raises,
+    b: &BoxC,
+    rule: Rule,
+    note: &mut Page,
+) -> Option<Culprit>
     requires { IsRaisesOf core.now raised.now }
 {
     if rule == Rule::C60 {

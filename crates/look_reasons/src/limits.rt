@@ -71,8 +71,11 @@ fn excess_of(declared: Declared, span: &Span, words: u64) -> Option<Excess> {
     let number = span.number as u64;
     let parts = span.parts as u64;
     match span.sort {
-        Sort::FunctionName => over(b"function", declared.functions, MAX_FUNCTIONS)
-            .or(over(b"parameters", parts, MAX_PARAMETERS)),
+        Sort::FunctionName => over(b"function", declared.functions, MAX_FUNCTIONS).or(over(
+            b"parameters",
+            parts,
+            MAX_PARAMETERS,
+        )),
         Sort::ConstructorName if span.number == 0 => {
             over(b"exception", declared.exceptions, MAX_DECLARED_EXCEPTIONS)
         }

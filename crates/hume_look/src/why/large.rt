@@ -4,7 +4,6 @@ use crate::why::message::put_message;
 use check_signatures::signatures_of;
 use hume_ast::Program;
 use hume_base::limits::MAX_TOKENS;
-
 use look_reasons::{Reason, Site, Words, breaks_limits, tell_limits};
 use look_sources::Page;
 use std::alloc::{AllocError, Global};

@@ -14,6 +14,7 @@ use std::alloc::{AllocError, Global};
 
 // How many bytes of sources are checked again at most: to narrow the first message and all others, and to find the others.
 const MAX_NARROWED_BYTES: usize = 8_000_000;
+
 const MAX_FOUND_BYTES: usize = 32_000_000;
 
 /// Puts the messages.
@@ -75,8 +76,7 @@ fn next_refusal(
         Ok(_) => Ok(None),
         Err(FrontError::NoMemory) => Err(AllocError),
         Err(FrontError::Refused(refusal)) => {
-            let goes_on =
-                refusal.rule.phase() == before.rule.phase() && refusal.line > before.line;
+            let goes_on = refusal.rule.phase() == before.rule.phase() && refusal.line > before.line;
             Ok(if goes_on { Some(refusal) } else { None })
         }
     }
