@@ -2,8 +2,7 @@
 
 An example's folder has its inputs, `words` (a word of the call on each line) and maybe `stdin`. `expected/` has `status`, the `table` of
 bounds, the rest of the standard output (`stdout`) and each file that is written. `expected/taken` has the superstep in which each value
-is taken, in lines `SUPERSTEP STREAM VALUE`. `expected/hints` has what `hume hints` says of the source, if that is on purpose (`.ci/looks`
-compares it). `expected.py STREAM` works the values of a stream out in its own way.
+is taken, in lines `SUPERSTEP STREAM VALUE`. `expected.py STREAM` works the values of a stream out in its own way.
 """
 import os
 import shutil
@@ -14,7 +13,7 @@ import tempfile
 from program import TOP, Usage, built, call
 
 NOT_INPUTS = ("words", "README.md", "expected.py", "expected", "stdin")
-NOT_OUTPUTS = ("status", "table", "taken", "stdout", "hints")
+NOT_OUTPUTS = ("status", "table", "taken", "stdout")
 # which word of a call is WORKERS, and the numbers that are tried
 WORKERS_AT = {"run": 2, "trace": 2, "demo": 3}
 WORKERS = ("1", "2", "3", "16")
@@ -200,7 +199,7 @@ def bless(example):
     wanted = os.path.join(example, "expected")
     os.makedirs(wanted, exist_ok=True)
     for name in names(wanted):
-        if name not in ("taken", "hints"):
+        if name != "taken":
             os.remove(os.path.join(wanted, name))
     with Room(example) as room:
         files = room.files()

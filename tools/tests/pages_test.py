@@ -72,7 +72,7 @@ class Pages(InRoom):
         written = []
         for folder, _, names in os.walk(os.path.join(TOP, "examples")):
             if os.path.basename(folder) == "expected":
-                outputs = [it for it in names if it not in ("status", "table", "stdout", "taken", "hints")]
+                outputs = [it for it in names if it not in ("status", "table", "stdout", "taken")]
                 written += [os.path.join(os.path.dirname(folder), it) for it in outputs]
         done = subprocess.run(["git", "check-ignore", "--no-index", *written], cwd=TOP, stdout=subprocess.PIPE)
         self.assertEqual(sorted(done.stdout.decode().split()), sorted(written))

@@ -5,8 +5,15 @@
 //!
 //! Proved: nothing beyond safety.
 
+mod blank;
 mod expected;
+mod fitting;
+mod large;
+mod marks;
+mod message;
 mod narrow;
+mod parts;
+mod raising;
 mod telling;
 
 pub(crate) use telling::put_why;

@@ -73,8 +73,8 @@ fn tell_each_wire(core: &Core, refusal: Refusal, note: &mut Page) -> Option<Culp
     Some(Culprit { sort, number: 0 })
 }
 
-// Tells each input or output of the node without a wire.
-fn tell_unwired(
+/// Tells each input or output of the node without a wire.
+pub(crate) fn tell_unwired(
     core: &Core,
     this: &NodeC,
     node: usize,
@@ -124,7 +124,8 @@ fn put_unwired(note: &mut Page, what: &[u8], name: &[u8]) {
     note.put(b"`\n");
 }
 
-fn has_wire(core: &Core, node: usize, place: usize, rule: Rule) -> bool {
+/// Whether a wire has that end.
+pub(crate) fn has_wire(core: &Core, node: usize, place: usize, rule: Rule) -> bool {
     for wire in core.wires.as_slice() {
         let (end, port) = end_of(wire, rule);
         if end as usize == node && port as usize == place {
@@ -134,8 +135,8 @@ fn has_wire(core: &Core, node: usize, place: usize, rule: Rule) -> bool {
     false
 }
 
-// The end of a wire of which the rule speaks.
-fn end_of(wire: &WireC, rule: Rule) -> (u32, u32) {
+/// The end of a wire of which the rule speaks.
+pub(crate) fn end_of(wire: &WireC, rule: Rule) -> (u32, u32) {
     match rule {
         Rule::C50 | Rule::C51 => (wire.to, wire.to_port),
         _ => (wire.from, wire.from_port),
@@ -194,7 +195,14 @@ fn tell_exceptions(
     Ok(first)
 }
 
-fn tell_box(core: &Core, raised: &Raises, b: &BoxC, rule: Rule, note: &mut Page) -> Option<Culprit>
+/// Tells what rules or handlers of the box raise, and which is the first that does.
+pub(crate) fn tell_box(
+    core: &Core,
+    raised: &Raises,
+    b: &BoxC,
+    rule: Rule,
+    note: &mut Page,
+) -> Option<Culprit>
     requires { IsRaisesOf core.now raised.now }
 {
     if rule == Rule::C60 {
@@ -256,7 +264,8 @@ fn tell_set(
     some
 }
 
-fn is_handled(handlers: &[HandC], exn: u32) -> bool {
+/// Whether one of the handlers is for the exception.
+pub(crate) fn is_handled(handlers: &[HandC], exn: u32) -> bool {
     for handler in handlers {
         if handler.exn == exn {
             return true;

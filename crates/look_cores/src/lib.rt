@@ -1,6 +1,7 @@
 //! What is shown of a core: its net as Graphviz text, where the bounds of its boxes come from, and what breaks a rule.
 //!
-//! Main calls: `put_net`, `put_bounds`, and `tell_of_core`, which tells what breaks a rule on wires, exceptions or bounds.
+//! Main calls: `put_net`, `put_bounds`, and `tell_of_core`, which tells what breaks a rule on wires, exceptions or bounds;
+//! `broken_in` finds all declarations that break one.
 //!
 //! Proved: nothing beyond safety: no call fails but for memory, and each ends. That the bounds are those of `space_costs` is
 //! compared over the examples.
@@ -15,8 +16,10 @@ mod broken;
 mod building;
 mod chain;
 mod expression_bounds;
+mod found;
 mod net;
 mod pattern_counts;
+mod raised;
 mod result_bounds;
 mod texts;
 
@@ -24,5 +27,7 @@ pub use bound::Bound;
 pub use bounds::put_bounds;
 pub use box_bounds::node_bounds;
 pub use broken::{Culprit, tell_of_core};
+pub use found::broken_in;
 pub use net::put_net;
+pub use raised::{first_raised, may_raise};
 pub use texts::{put_type, put_value};

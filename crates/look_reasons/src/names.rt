@@ -28,6 +28,15 @@ pub(crate) fn is_given(name: &[u8]) -> bool {
     name == b"DivZero".as_slice() || name == b"Range".as_slice() || name == b"NoCase".as_slice()
 }
 
+/// Whether the part is a name that is declared before in its space.
+pub fn is_repeated(site: &Site, span: &Span) -> bool {
+    if space_of(span.sort) == 0 {
+        return false;
+    }
+    span.sort == Sort::ConstructorName && is_given(site.name(span.first))
+        || earlier(site, span).is_some()
+}
+
 /// Tells the first name of the line that is declared again, and where it was declared before.
 pub fn tell_repeated(site: &Site, reason: &mut Reason) {
     for span in site.spans {

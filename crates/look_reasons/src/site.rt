@@ -45,6 +45,19 @@ impl<'a> Site<'a> {
         }
     }
 
+    /// The same source with another refusal.
+    pub fn other(&self, refusal: Refusal) -> Site<'a> {
+        Site::of(self.text, self.tokens, self.spans, refusal)
+    }
+
+    /// The place of the first declaration of the line.
+    pub fn head(&self) -> Option<usize> {
+        match self.declaration() {
+            None => None,
+            Some(span) => Some(self.place(span.first)),
+        }
+    }
+
     /// Whether the part is one of a declaration that begins in the line.
     pub fn is_here(&self, span: &Span) -> bool {
         self.low <= span.declaration && span.declaration < self.high

@@ -44,7 +44,7 @@ pub struct Span {
     pub declaration: usize,
     /// Its number among its like in what holds it, from 1; or 0.
     pub number: usize,
-    /// How many arguments or parts it has.
+    /// How many arguments, parameters or parts it has.
     pub parts: usize,
 }
 

@@ -56,6 +56,13 @@ impl Walk {
         self.note(sort, first, number, 0);
     }
 
+    /// The same of a name with so many parts.
+    pub(crate) fn name_of_parts(&mut self, sort: Sort, number: usize, parts: usize) {
+        let first = self.at;
+        self.skip(1);
+        self.note(sort, first, number, parts);
+    }
+
     pub(crate) fn finish(self) -> Result<Vec<Span>, AllocError> {
         let Walk { spans, failed, .. } = self;
         if failed { Err(AllocError) } else { Ok(spans) }

@@ -37,7 +37,7 @@ fn walk_declaration(walk: &mut Walk, decl: &Decl) {
             }
         }
         Decl::Fun(_, types, equations) => {
-            walk.name(Sort::FunctionName, 0);
+            walk.name_of_parts(Sort::FunctionName, 0, types.len().saturating_sub(1));
             walk_types(walk, types.as_slice(), 1);
             walk.skip(1);
             walk_equations(walk, equations.as_slice());
@@ -72,8 +72,9 @@ fn walk_declaration(walk: &mut Walk, decl: &Decl) {
 fn walk_constructors(walk: &mut Walk, constructors: &[(Text, List<TyExp>)]) {
     for i in 0..constructors.len() {
         walk.skip(1);
-        walk.name(Sort::ConstructorName, i.saturating_add(1));
-        walk_types(walk, constructors[i].1.as_slice(), 0);
+        let fields = constructors[i].1.as_slice();
+        walk.name_of_parts(Sort::ConstructorName, i.saturating_add(1), fields.len());
+        walk_types(walk, fields, 0);
     }
 }
 

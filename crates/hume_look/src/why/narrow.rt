@@ -1,23 +1,26 @@
 //! The smallest part of a declaration that, put away, mends the rule that is broken.
+use crate::why::marks::{Mark, keep, marked, put_away};
 use hume_base::{Refusal, Rule};
 use hume_front::{FrontError, accept};
 use look_reasons::Site;
 use look_sources::{Sort, Span};
 use std::alloc::{AllocError, Global};
 
-// How many bytes of sources are checked again at most.
-const MAX_CHECKED_BYTES: usize = 8_000_000;
-
-/// The smallest part of the declarations in the line with which put away the source doesn't break the rule there, or any that is
-/// told before it. An expression is put away as a raise, a pattern as `_`, and a type as `bool`.
-pub(crate) fn narrowest(alloc: Global, site: &Site) -> Result<Option<Span>, AllocError> {
+/// The smallest part of the declarations in the line with which put away the source with these marks doesn't break the rule there, or
+/// any that is told before it. An expression is put away as a raise, a pattern as `_`, and a type as `bool`. Sources of `left` bytes
+/// are checked at most.
+pub(crate) fn narrowest(
+    alloc: Global,
+    site: &Site,
+    marks: &mut [Mark],
+    left: &mut usize,
+) -> Result<Option<Span>, AllocError> {
     let mut best: Option<Span> = None;
-    let mut left = MAX_CHECKED_BYTES;
     for i in (0..site.spans.len()).rev() {
         let span = site.spans[i];
-        if left > 0 && site.is_here(&span) && is_tried(span, best, site.refusal.rule) {
-            left = left.saturating_sub(site.text.len());
-            if is_mended(alloc, site, span)? {
+        if *left > 0 && site.is_here(&span) && is_tried(span, best, site.refusal.rule) {
+            *left = left.saturating_sub(site.text.len());
+            if is_mended_without(alloc, site, marks, span)? {
                 best = Some(span);
             }
         }
@@ -43,42 +46,32 @@ fn is_part(sort: Sort, rule: Rule) -> bool {
     }
 }
 
-fn is_mended(alloc: Global, site: &Site, span: Span) -> Result<bool, AllocError> {
-    let text = put_away(alloc, site, span)?;
-    match accept(alloc, text.as_slice()) {
+fn is_mended_without(
+    alloc: Global,
+    site: &Site,
+    marks: &mut [Mark],
+    span: Span,
+) -> Result<bool, AllocError> {
+    put_away(marks, span.first, span.after, in_its_place(span.sort));
+    let text = marked(alloc, site, marks)?;
+    keep(marks, span.first, span.after);
+    is_mended(alloc, text.as_slice(), site.refusal)
+}
+
+fn in_its_place(sort: Sort) -> Mark {
+    match sort {
+        Sort::Expression => Mark::Raise,
+        Sort::Type => Mark::Bool,
+        _ => Mark::Any,
+    }
+}
+
+/// Whether the source breaks neither that rule in that line nor one that is told before.
+pub(crate) fn is_mended(alloc: Global, text: &[u8], broken: Refusal) -> Result<bool, AllocError> {
+    match accept(alloc, text) {
         Ok(_) => Ok(true),
         Err(FrontError::NoMemory) => Err(AllocError),
-        Err(FrontError::Refused(refusal)) => Ok(comes_after(refusal, site.refusal)),
-    }
-}
-
-// The source with the part put away. The lines of all else stay.
-fn put_away(alloc: Global, site: &Site, span: Span) -> Result<Vec<u8>, AllocError> {
-    let begin = site.place(span.first);
-    let end = site.place(span.after);
-    let mut text = Vec::new(alloc);
-    if let Some(front) = site.text.get(..begin) {
-        text.extend_from_slice(front)?;
-    }
-    text.extend_from_slice(in_its_place(span.sort))?;
-    if let Some(gone) = site.text.get(begin..end) {
-        for byte in gone {
-            if *byte == b'\n' {
-                text.push(b'\n')?;
-            }
-        }
-    }
-    if let Some(rest) = site.text.get(end..) {
-        text.extend_from_slice(rest)?;
-    }
-    Ok(text)
-}
-
-fn in_its_place(sort: Sort) -> &'static [u8] {
-    match sort {
-        Sort::Expression => b" (raise NoCase) ",
-        Sort::Type => b" bool ",
-        _ => b" _ ",
+        Err(FrontError::Refused(refusal)) => Ok(comes_after(refusal, broken)),
     }
 }
 

@@ -3,15 +3,30 @@ use crate::hints::parts::Parts;
 use hume_model::{BoxC, Core, Expr, NodeC, PatC, Res};
 use look_sources::{Page, Sort};
 
-/// Puts a hint on each output of a box that no result gives a value.
+/// Puts a hint on each output that no result of its box gives a value. A box that gives no output a value is taken as meant so.
 pub fn put_outputs(parts: &Parts, core: &Core, page: &mut Page) {
     for node in core.nodes.as_slice() {
         if let NodeC::Rules(b) = node {
-            for output in 0..b.outs.len() {
-                if !is_written(b, output) {
-                    put_unwritten(parts, b, output, page);
-                }
+            if is_one_written(b) {
+                put_outputs_of(parts, b, page);
             }
+        }
+    }
+}
+
+fn is_one_written(b: &BoxC) -> bool {
+    for output in 0..b.outs.len() {
+        if is_written(b, output) {
+            return true;
+        }
+    }
+    false
+}
+
+fn put_outputs_of(parts: &Parts, b: &BoxC, page: &mut Page) {
+    for output in 0..b.outs.len() {
+        if !is_written(b, output) {
+            put_unwritten(parts, b, output, page);
         }
     }
 }
