@@ -87,5 +87,5 @@ pub const MAX_EMPTY_LINES: u32 = 65_536;
 /// Supersteps of a run.
 pub const MAX_SUPERSTEPS: u32 = 1_000_000;
 
-/// Workers of a run.
-pub const MAX_WORKERS: u32 = 1;
+/// Workers of a run or of a demo.
+pub const MAX_WORKERS: u32 = 16;

@@ -4,9 +4,8 @@ use Rattle.std.specs.Prelude.{ℕ, Bool, true, false, ◌&&◌, List, [], ◌∷
 use Rattle.std.specs.List.{slice_index_or}
 use Rattle.std.specs.Str.{bytes_eq, all_ascii_digits}
 use Rattle.std.specs.Str.Parse.{digits_value}
-use Rattle.hume_base.specs.declared.limits.TheConstants.{MAX_SUPERSTEPS}
+use Rattle.hume_base.specs.declared.limits.TheConstants.{MAX_SUPERSTEPS, MAX_WORKERS}
 use Rattle.demo_net.specs.declared.source.TheConstants.{MAX_NUMBER}
-use Rattle.hume_run.specs.declared.words.reading.TheConstants.{MAX_WORKERS}
 use Rattle.hume_run.specs.declared.order.Order.{Order}
 use Rattle.hume_run.specs.declared.order.Order.TheVariants.{Run, Check, Demo}
 

@@ -12,7 +12,7 @@ ghost use Rattle.hume_ports.specs.Ports.{names};
 ghost use Rattle.port_acts.specs.Places.{IsPlaceOf};
 ghost use Rattle.demo_net.specs.declared.source.TheConstants.{MAX_NUMBER};
 ghost use Rattle.run_rounds.specs.Streams.{std_out};
-ghost use Rattle.hume_run.specs.declared.words.reading.TheConstants.{MAX_WORKERS};
+ghost use Rattle.hume_base.specs.declared.limits.TheConstants.{MAX_WORKERS};
 ghost use Rattle.hume_run.specs.inner.Ended.{EndsDemo};
 
 use crate::demo::showing::show_accepted;

@@ -17,7 +17,7 @@ ghost use Rattle.hume_ports.specs.Ports.{names};
 ghost use Rattle.port_acts.specs.Places.{IsPlaceOf};
 ghost use Rattle.run_rounds.specs.Streams.{ArePlacesOf, ArePortsApart, std_out};
 ghost use Rattle.hume_run.specs.declared.order.Order.TheVariants.{Run};
-ghost use Rattle.hume_run.specs.declared.words.reading.TheConstants.{MAX_WORKERS};
+ghost use Rattle.hume_base.specs.declared.limits.TheConstants.{MAX_WORKERS};
 ghost use Rattle.hume_run.specs.inner.Ended.{EndsText, RunsOut, RunsCore};
 
 use crate::refuse::{end_unaccepted, refuse};

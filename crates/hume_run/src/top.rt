@@ -8,7 +8,7 @@ ghost use Rattle.hume_run.specs.Headline.{Headline, IsUsage, AnswersFrom, source
 ghost use Rattle.hume_run.specs.inner.Ended.{EndsText};
 ghost use Rattle.hume_run.specs.inner.Places.{source_place};
 ghost use Rattle.hume_run.specs.Words.{workers_of};
-ghost use Rattle.hume_run.specs.declared.words.reading.TheConstants.{MAX_WORKERS};
+ghost use Rattle.hume_base.specs.declared.limits.TheConstants.{MAX_WORKERS};
 ghost use Rattle.run_rounds.specs.Streams.{std_out};
 
 use crate::check::check_text;

@@ -6,7 +6,7 @@ ghost use Rattle.port_acts.specs.Places.{IsPlaceOf};
 ghost use Rattle.run_rounds.specs.Streams.{std_out};
 ghost use Rattle.demo_rounds.specs.Opened.{core_in};
 ghost use Rattle.hume_run.specs.Owed.{owed_demo};
-ghost use Rattle.hume_run.specs.declared.words.reading.TheConstants.{MAX_WORKERS};
+ghost use Rattle.hume_base.specs.declared.limits.TheConstants.{MAX_WORKERS};
 ghost use Rattle.hume_run.specs.inner.Ended.{EndsOwed};
 ghost use Rattle.hume_run.specs.inner.Opening.{IsOpenDemo};
 

@@ -3,7 +3,7 @@ ghost use Rattle.hume_ports.specs.Ports.{names};
 ghost use Rattle.port_acts.specs.Places.{IsPlaceOf};
 ghost use Rattle.run_rounds.specs.Streams.{ArePlacesOf, ArePortsApart, std_out};
 ghost use Rattle.run_rounds.specs.Opened.{core_in, traced_in};
-ghost use Rattle.hume_run.specs.declared.words.reading.TheConstants.{MAX_WORKERS};
+ghost use Rattle.hume_base.specs.declared.limits.TheConstants.{MAX_WORKERS};
 ghost use Rattle.hume_run.specs.inner.Ended.{RunEnds, RunsCore};
 ghost use Rattle.hume_run.specs.inner.Opening.{IsOpen};
 

@@ -7,10 +7,7 @@ ghost use Rattle.hume_run.specs.inner.Places.{source_place};
 use crate::order::Order;
 use crate::words::numbers::{is_number, value};
 use demo_net::MAX_NUMBER;
-use hume_base::limits::MAX_SUPERSTEPS;
-
-/// Workers of a run or of a demo.
-pub const MAX_WORKERS: u32 = 16;
+use hume_base::limits::{MAX_SUPERSTEPS, MAX_WORKERS};
 
 /// The place of the source's name among the words of a run.
 const RUN_SOURCE: u32 = 3;
