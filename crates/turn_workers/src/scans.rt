@@ -15,8 +15,9 @@ use step_turns::Sides;
 use turn_locker::{Locker, Seat};
 use wire_cells::WireCell;
 
-// After so many scans in a row without a half step a worker leaves.
-const IDLE_SCANS: u32 = 1024;
+// After so many scans in a row without a half step a worker leaves: some tens of milliseconds, where the longest half step of a box takes
+// less than ten.
+const IDLE_SCANS: u32 = 65_536;
 
 // What a scan found.
 #[derive(Clone, Copy)]
