@@ -163,7 +163,7 @@ fn run_all<O: Opens, R: Threads + Sync, G: Gate>(
 {
     if workers <= 1 {
         return alone(
-            alloc, core, sides, room, gate, locker, seat, nodes, steps, from,
+            alloc, core, sides, room, gate, locker, seat, nodes, steps, from, to,
         );
     }
     let half = workers / 2;
@@ -206,9 +206,10 @@ fn alone<O: Opens, G: Gate>(
     nodes: u32,
     steps: u32,
     first: u32,
+    last: u32,
 ) -> Seat<Item<O>>
     requires shared { IsShared O.opened O.nodes O.steps core.now locker.now }
-    requires nodes { (nodes ≡ O.nodes) × (steps ≡ O.steps) × (first ≤ nodes) }
+    requires nodes { (nodes ≡ O.nodes) × (steps ≡ O.steps) × (first ≤ last) × (last ≤ nodes) }
     requires sides { AreSides core.now room sides.now }
     requires idle { IsIdle locker.now seat }
     ensures idle { IsIdle locker.now result }
@@ -217,7 +218,7 @@ fn alone<O: Opens, G: Gate>(
     match Vec::with_capacity(alloc, room) {
         Err(_) => seat,
         Ok(mut bench) => work(
-            core, sides, gate, locker, seat, &mut bench, nodes, steps, first,
+            core, sides, gate, locker, seat, &mut bench, nodes, steps, first, last,
         ),
     }
 }

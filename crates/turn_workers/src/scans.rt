@@ -1,4 +1,5 @@
-//! A worker: it goes over the nodes again and again, and makes each half step that it can.
+//! A worker: it goes over its share of the nodes again and again, and makes each half step that it can; where there is none, it helps
+//! with the others.
 ghost use Rattle.std.specs.Prelude.{◌≡◌, ◌+◌, ◌*◌, ◌<◌, ◌≤◌, ℕ, length, Some, slice_get, vec_len, vec_capacity};
 ghost use Rattle.hume_model.specs.declared.core_tree.Core.{Core as AnyCore};
 ghost use Rattle.step_turns.specs.Rounds.{AreSides, IsWholeSide};
@@ -22,13 +23,14 @@ const IDLE_SCANS: u32 = 65_536;
 // What a scan found.
 #[derive(Clone, Copy)]
 struct Found {
-    // it made a half step
-    stepped: bool,
+    // how many half steps it made
+    made: u32,
     // some node was before the end
     before_end: bool,
 }
 
-/// Goes over the nodes from `first` on, again and again, until a scan finds all at the end, or too many in a row make no half step.
+/// Makes half steps of its own share of the nodes, from `first` to `last`, as long as there are any to make, and else one of another
+/// node. It leaves when a look at all nodes finds all at the end, or after too many in a row without a half step.
 pub(crate) fn work<O: Opens, G: Gate>(
     core: &Core,
     sides: &Sides,
@@ -39,9 +41,10 @@ pub(crate) fn work<O: Opens, G: Gate>(
     nodes: u32,
     steps: u32,
     first: u32,
+    last: u32,
 ) -> Seat<Item<O>>
     requires shared { IsShared O.opened O.nodes O.steps core.now locker.now }
-    requires nodes { (nodes ≡ O.nodes) × (steps ≡ O.steps) × (first ≤ nodes) }
+    requires nodes { (nodes ≡ O.nodes) × (steps ≡ O.steps) × (first ≤ last) × (last ≤ nodes) }
     requires sides { AreSides core.now (vec_capacity bench.old) sides.now }
     requires bench { vec_len bench.old ≡ 0 }
     requires idle { IsIdle locker.now seat }
@@ -50,13 +53,30 @@ pub(crate) fn work<O: Opens, G: Gate>(
 {
     let mut idle = 0;
     for _ in 0..u64::MAX {
-        let found = scan(
-            core, sides, gate, locker, &mut seat, bench, nodes, steps, first,
+        let own = scan(
+            core,
+            sides,
+            gate,
+            locker,
+            &mut seat,
+            bench,
+            nodes,
+            steps,
+            first,
+            last - first,
+            u32::MAX,
         );
-        if !found.before_end || idle >= IDLE_SCANS {
+        if own.made > 0 {
+            idle = 0;
+            continue;
+        }
+        let all = scan(
+            core, sides, gate, locker, &mut seat, bench, nodes, steps, last, nodes, 1,
+        );
+        if !all.before_end || idle >= IDLE_SCANS {
             return seat;
         }
-        if found.stepped {
+        if all.made > 0 {
             idle = 0;
         } else {
             idle += 1;
@@ -66,7 +86,7 @@ pub(crate) fn work<O: Opens, G: Gate>(
     seat
 }
 
-// Goes over all nodes once, from `first` on.
+// Goes over so many nodes, from `first` on, until it has made `most` half steps.
 fn scan<O: Opens, G: Gate>(
     core: &Core,
     sides: &Sides,
@@ -77,9 +97,11 @@ fn scan<O: Opens, G: Gate>(
     nodes: u32,
     steps: u32,
     first: u32,
+    count: u32,
+    most: u32,
 ) -> Found
     requires shared { IsShared O.opened O.nodes O.steps core.now locker.now }
-    requires nodes { (nodes ≡ O.nodes) × (steps ≡ O.steps) × (first ≤ nodes) }
+    requires nodes { (nodes ≡ O.nodes) × (steps ≡ O.steps) × (first ≤ nodes) × (count ≤ nodes) }
     requires sides { AreSides core.now (vec_capacity bench.old) sides.now }
     requires bench { vec_len bench.old ≡ 0 }
     requires idle { IsIdle locker.now seat.old }
@@ -88,10 +110,13 @@ fn scan<O: Opens, G: Gate>(
     ensures bench { (vec_len bench.new ≡ 0) × (vec_capacity bench.new ≡ vec_capacity bench.old) }
 {
     let mut found = Found {
-        stepped: false,
+        made: 0,
         before_end: false,
     };
-    for i in 0..nodes {
+    for i in 0..count {
+        if found.made >= most {
+            return found;
+        }
         let node = if i < nodes - first {
             first + i
         } else {
@@ -102,7 +127,7 @@ fn scan<O: Opens, G: Gate>(
             found.before_end = true;
             let side = side_of(sides, node as usize, time);
             if try_turn(core, gate, locker, seat, bench, nodes, node, side, time) {
-                found.stepped = true;
+                found.made = found.made.saturating_add(1);
             }
         }
     }

@@ -9,5 +9,5 @@ invariant-loop g l = record {
   share : (view_of l.seat).share ≡ (view_of l.fn.seat).share;
   clear : vec_len l.bench ≡ 0;
   capacity : vec_capacity l.bench ≡ vec_capacity l.fn.bench;
-  few : l.idle ≤ 1024;
+  few : l.idle ≤ 65536;
 }
