@@ -12,7 +12,10 @@ RINGS = (
     ("The call and its ports", ("IsUsage", "Headline")),
     (
         "What a core means, takes and prints",
-        ("Core", "Inputs", "AreInputs", "HasTooFew", "blocked_round", "writes", "space_table", "streams", "inputs", "outputs"),
+        (
+            *("Core", "Inputs", "AreInputs", "HasTooFew", "blocked_round", "writes", "space_table", "streams", "inputs", "outputs"),
+            *("demo_text", "demo_lines", "total_line_of"),
+        ),
     ),
     ("Which text has which core", ("IsAccepted", "IsProgramOf", "IsCoreOf", "IsWiringOf", "AreCosts", "StandsFor", "IsRead")),
     ("Which rule is told", ("Breaks", "BreaksProgram", "BreaksCore", "BreaksCheck", "BreaksWires", "BreaksHandlers", "BreaksCosts")),
@@ -22,7 +25,11 @@ RINGS = (
 PROMISED_LAWS = "runs_keep_bounds", "one_program", "one_answer"
 
 # What can be believed without the rest: a title and where it begins.
-COROLLARIES = (("What a check of an accepted core prints", "space_table"), ("What a run of an accepted core writes", "writes"))
+COROLLARIES = (
+    ("What a check of an accepted core prints", "space_table"),
+    ("What a run of an accepted core writes", "writes"),
+    ("What a demo of an accepted core tells", "demo_lines"),
+)
 
 INTRO = """# What the promise rests on
 
@@ -118,7 +125,7 @@ def print_promised_laws(public, order, known):
 
 
 def print_corollaries(order, known):
-    print("## Two parts of the promise by themselves\n")
+    print("## Three parts of the promise by themselves\n")
     for title, name in COROLLARIES:
         rests, _ = reached([it for it in order if it.name == name], known)
         print(f"{title} (`{name}`) rests on {len(rests)} definitions alone, {lines_of(rests)} lines:\n")

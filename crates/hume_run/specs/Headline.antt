@@ -60,6 +60,6 @@ Answers order None old new status = AnswersAlone order old new status
 Answers order (Some source) old new status =
     EndsEarly (source_few source) (source_reads source) NoMemory Fault old new status ⊎ AnswersFrom order source old new status
 
--- So are words with a form, over ports that are there.
+-- Words with a form, over ports that are there, are answered by what they ask for.
 abbrev pub Headline : List (List ℕ) → List PortView → List PortView → Status → Type 0
 Headline words old new status = IfSome (order_of words) (λ order. (status ≡ Usage → ⊥) → Answers order (source_of words order) old new status)

@@ -73,7 +73,7 @@ owed_run traced steps core coming = record {
 abbrev pub demo_writes : ℕ → Core → Pairs
 demo_writes steps core = map (λ line. (std_out, line)) (total_line_of core ∷ demo_lines core steps)
 
--- it finishes `std_out`
+-- a demo finishes `std_out` alone
 abbrev pub owed_demo : ℕ → Core → Owed Status
 owed_demo steps core = record { acts = write_each (demo_writes steps core) ++ finishes std_out ∷ []; answer = Done }
 
