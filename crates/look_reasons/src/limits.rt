@@ -66,22 +66,30 @@ fn over(what: &'static [u8], figure: u64, limit: usize) -> Option<Excess> {
     })
 }
 
+// That something is the first one too many, if it is.
+fn one_over(what: &'static [u8], figure: u64, limit: usize) -> Option<Excess> {
+    if figure != (limit as u64).saturating_add(1) {
+        return None;
+    }
+    over(what, figure, limit)
+}
+
 // What of the part passes a limit, if it is counted among those declared.
 fn excess_of(declared: Declared, span: &Span, words: u64) -> Option<Excess> {
     let number = span.number as u64;
     let parts = span.parts as u64;
     match span.sort {
-        Sort::FunctionName => over(b"function", declared.functions, MAX_FUNCTIONS).or(over(
+        Sort::FunctionName => one_over(b"function", declared.functions, MAX_FUNCTIONS).or(over(
             b"parameters",
             parts,
             MAX_PARAMETERS,
         )),
         Sort::ConstructorName if span.number == 0 => {
-            over(b"exception", declared.exceptions, MAX_DECLARED_EXCEPTIONS)
+            one_over(b"exception", declared.exceptions, MAX_DECLARED_EXCEPTIONS)
         }
         Sort::ConstructorName => over(b"parts", parts, MAX_FIELDS),
-        Sort::NodeName => over(b"box or stream", declared.nodes, MAX_NODES),
-        Sort::WireFrom => over(b"wire", declared.wires, MAX_WIRES),
+        Sort::NodeName => one_over(b"box or stream", declared.nodes, MAX_NODES),
+        Sort::WireFrom => one_over(b"wire", declared.wires, MAX_WIRES),
         Sort::Input => over(b"input", number, MAX_INPUTS),
         Sort::Output => over(b"output", number, MAX_OUTPUTS),
         Sort::Rule => over(b"rule", number, MAX_RULES),
