@@ -14,7 +14,7 @@ while not os.path.exists("/work/c/stop_watch"):
             spent = sum(int(i) for i in f[11:13]) / TICK
             name = words[words.index("--crate-name") + 1]
             if folder.startswith("/tmp/rt-edit"): kind = "edits"
-            elif folder.startswith("/tmp/rt-copy") or folder.startswith("/work/c/gate2") or folder.startswith("/work/c/final"): kind = "tests" if "--test" in words else "proofs"
+            elif folder.startswith("/tmp/rt-copy") or folder.startswith("/work/c/gate/") or folder.startswith("/work/c/final"): kind = "tests" if "--test" in words else "proofs"
             else: continue
             seen[f"{pid}.{start}"] = (kind, name, folder.split("/crates/")[0], spent)
         except (OSError, ValueError): continue
