@@ -1,1 +1,2 @@
 pub mod cells
+pub mod locker_tests

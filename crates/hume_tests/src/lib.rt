@@ -1,5 +1,5 @@
-//! Tests of what no contract says and no program shows: places of tokens, the calls of ports, in pieces and where one fails, and that
-//! workers are at work at once.
+//! Tests of what no contract says and no program shows: places of tokens, the calls of ports, in pieces and where one fails, when a
+//! claim finds an item, and that workers are at work at once.
 //!
 //! They stand above all crates that they use, so that no crate is proved a second time for its tests.
 //!
@@ -15,6 +15,8 @@ mod front;
 mod held_gate_tests;
 #[cfg(test)]
 mod lexing_tests;
+#[cfg(test)]
+mod locker_tests;
 #[cfg(test)]
 mod port_tests;
 #[cfg(test)]
