@@ -28,10 +28,6 @@ pub enum Form<'a> {
     Compare {
         rounds: u32,
     },
-    /// So many supersteps of the plain net, to whose streams nothing comes.
-    Net {
-        steps: u32,
-    },
 }
 
 /// The order that the words give, if they have a form.
@@ -62,9 +58,6 @@ fn read_form<'a>(form: &str, words: &'a [String]) -> Option<Form<'a>> {
         }),
         [rounds] if form == "compare" => Some(Form::Compare {
             rounds: number(rounds)?,
-        }),
-        [steps] if form == "net" => Some(Form::Net {
-            steps: number(steps)?,
         }),
         _ => None,
     }

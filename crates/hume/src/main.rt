@@ -12,6 +12,7 @@ use std::alloc::{AllocError, Global};
 use std::env;
 use std::io::ErrorKind;
 use std::process::ExitCode;
+use std::thread::Threads;
 use turn_workers::OpenGate;
 
 const STD_IN: &str = "std_in";
@@ -19,19 +20,15 @@ const STD_IN: &str = "std_in";
 const STD_OUT: &str = "std_out";
 
 fn main(rt: HostRuntime) -> ExitCode {
-    let alloc = rt.alloc();
-    let status = match words_and_ports(&rt, alloc) {
-        Ok((words, mut ports)) => hume(&rt, alloc, &words, &mut ports, &OpenGate),
-        Err(AllocError) => Status::NoMemory,
-    };
-    ExitCode::from(status.number())
+    match run(&rt, &rt) {
+        Ok(status) => ExitCode::from(status.number()),
+        Err(AllocError) => ExitCode::from(Status::NoMemory.number()),
+    }
 }
 
-// The words of the command, and the ports that they name.
-fn words_and_ports(
-    rt: &HostRuntime,
-    alloc: Global,
-) -> Result<(Vec<String>, Vec<Box<dyn Port>>), AllocError> {
+// Makes the ports that the words name, and the call over them. The threads are those of the runtime, which only `main` can hand on.
+fn run<R: Threads + Sync>(rt: &HostRuntime, threads: &R) -> Result<Status, AllocError> {
+    let alloc = rt.alloc();
     let words = words_of_command(rt, alloc)?;
     let mut ports: Vec<Box<dyn Port>> = Vec::new(alloc);
     if let Some(place) = read_words(&words).and_then(|order| order.source()) {
@@ -43,7 +40,7 @@ fn words_and_ports(
     }
     ports.push(Box::new(alloc, StdIn::make(rt, alloc, STD_IN)?)?)?;
     ports.push(Box::new(alloc, StdOut::make(rt, alloc, STD_OUT)?)?)?;
-    Ok((words, ports))
+    Ok(hume(threads, alloc, &words, &mut ports, &OpenGate))
 }
 
 // Whether the port of that name is no file.

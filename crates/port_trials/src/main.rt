@@ -47,19 +47,19 @@ fn main(rt: HostRuntime) -> ExitCode {
 fn run<R: Threads + Sync>(rt: &HostRuntime, threads: &R) -> Result<(), TrialError> {
     let alloc = rt.alloc();
     let words = words_of_command(rt, alloc)?;
-    let Some(order) = read_order(&words) else {
-        return Err(TrialError::Usage);
-    };
-    let mut ports = make_ports(rt, alloc, &order)?;
-    let status = hume(threads, alloc, order.words, &mut ports, &OpenGate);
-    tell(rt, status, &ports)
+    match read_order(&words) {
+        Some(order) => make_call(rt, threads, alloc, &order)?,
+        None => Err(TrialError::Usage),
+    }
 }
 
-fn make_ports(
+// Makes the ports and the call. Whether what came of it could be told is the inner answer.
+fn make_call<R: Threads + Sync>(
     rt: &HostRuntime,
+    threads: &R,
     alloc: Global,
     order: &Order,
-) -> Result<Vec<Box<dyn Port>>, AllocError>
+) -> Result<Result<(), TrialError>, AllocError>
     requires { 0 < order.now.piece }
 {
     let mut ports: Vec<Box<dyn Port>> = Vec::new(alloc);
@@ -68,7 +68,8 @@ fn make_ports(
         let port = TellingPort::make(rt, alloc, name, &bytes, order)?;
         ports.push(Box::new(alloc, port)?)?;
     }
-    Ok(ports)
+    let status = hume(threads, alloc, order.words, &mut ports, &OpenGate);
+    Ok(tell(rt, status, &ports))
 }
 
 // How the call ended, and what each port was given.
