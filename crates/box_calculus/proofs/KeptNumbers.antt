@@ -1,9 +1,11 @@
 -- An expression whose variables keep their numbers is the same.
-use Rattle.std.proofs.Common.{◌≡◌, ℕ, ◌+◌, List, [], ◌∷◌, map, Some, None, refl, ap, sym, ◌∙◌, subst, arith}
+use Rattle.std.proofs.Common.{◌≡◌, ℕ, ◌+◌, cond, List, [], ◌∷◌, map, Some, None, refl, ap, ◌∙◌, subst, arith}
+use Rattle.std.proofs.lemmas.Bool.{le-ltb}
 use Rattle.hume_model.specs.declared.core_tree.PatC.{PatC}
 use Rattle.hume_model.specs.declared.core_tree.Expr.{Expr, roll-Expr, map-Expr, fold-roll-Expr, ind-Expr}
 use Rattle.hume_model.specs.declared.core_tree.Expr.TheOpen.{Expr-F}
 use Rattle.calculus_laws.specs.Unfolding.{renumber_layer, renumbered}
+use Rattle.box_calculus.specs.declared.renumbering.Numbers.{Numbers}
 use Rattle.box_calculus.specs.inner.Numbers.{kept, new_number}
 
 abbrev same : Expr → Expr
@@ -22,13 +24,18 @@ parts_same : (ps : List Part) → map same (map of_part ps) ≡ map of_part ps
 parts_same [] = refl
 parts_same (p ∷ ps) = λ i. p.1 i ∷ parts_same ps i
 
-arms_same : (arms : List (PatC × Part)) → map (λ (arm : PatC × Expr). (arm.0, same arm.1)) (map (λ (arm : PatC × Part). (arm.0, of_part arm.1)) arms)
-    ≡ map (λ (arm : PatC × Part). (arm.0, of_part arm.1)) arms
+abbrev arm_of_parts : PatC × Part → PatC × Expr
+arm_of_parts arm = (arm.0, of_part arm.1)
+
+abbrev same_arm : PatC × Expr → PatC × Expr
+same_arm arm = (arm.0, same arm.1)
+
+arms_same : (arms : List (PatC × Part)) → map same_arm (map arm_of_parts arms) ≡ map arm_of_parts arms
 arms_same [] = refl
 arms_same (arm ∷ arms) = λ i. (arm.0, arm.1.1 i) ∷ arms_same arms i
 
 number_same : (n : ℕ) → new_number kept n ≡ n
-number_same n = (let e : n + 0 ≡ n = omega arith in e)
+number_same n = ap (λ b. cond b n (n + 0)) (le-ltb n 0 (omega arith)) ∙ (let e : n + 0 ≡ n = omega arith in e)
 
 abbrev layer : Expr-F Part → Expr-F Expr
 layer y = map-Expr Part Expr of_part y
@@ -54,3 +61,6 @@ whole_same y = fold-roll-Expr Expr (λ x. roll-Expr (renumber_layer (new_number 
 
 pub renumbered_kept : (e : Expr) → renumbered (new_number kept) e ≡ e
 renumbered_kept = ind-Expr IsSame (λ x y is. subst (λ z. IsSame (roll-Expr z)) is (whole_same y))
+
+pub kept_same : (numbers : Numbers) → numbers ≡ kept → (e : Expr) → renumbered (new_number numbers) e ≡ e
+kept_same numbers is e = ap (λ k. renumbered (new_number k) e) is ∙ renumbered_kept e
