@@ -96,5 +96,7 @@ ways_within e ty arms n some =
     ∙ both_within (expression_depth e) (deepest_arm inside) (n - 1)
 
 pub ruleset depth_steps = (common_steps, both_within, one_deeper, none_deeper, two_deeper, three_deeper)
+
 pub ruleset expression_steps = (depth_steps, con_within, tuple_within, vect_within, prim_within, call_within, case_within)
+
 pub ruleset result_steps = (depth_steps, outs_within, ways_within)

@@ -48,7 +48,8 @@ module _ (core : Core) where
   part_at n (e ∷ es) scope place new found = by (λ same. part_at (n + 1) es scope place new same) ((looked core e).unfolded scope) refl found
     where
       by : (first_part (n + 1) (map (looked core) es) scope ≡ Some (place, new) → IsPlaced (n + 1) place es (unfolded_parts es scope) (λ k. new))
-          → (o : Option Expr) → (looked core e).unfolded scope ≡ o → option_or (option_map (λ d. (n, d)) o) (first_part (n + 1) (map (looked core) es) scope) ≡ Some (place, new)
+          → (o : Option Expr) → (looked core e).unfolded scope ≡ o
+          → option_or (option_map (λ d. (n, d)) o) (first_part (n + 1) (map (looked core) es) scope) ≡ Some (place, new)
           → IsPlaced n place (e ∷ es) (unfolded_parts (e ∷ es) scope) (λ k. new)
       by later_one (Some d) is same =
           let at : n ≡ place = ap place_in same in
@@ -80,7 +81,8 @@ module _ (core : Core) where
   no_part n (e ∷ es) scope none = by (λ same. no_part (n + 1) es scope same) ((looked core e).unfolded scope) refl none
     where
       by : (first_part (n + 1) (map (looked core) es) scope ≡ None → unfolded_parts es scope ≡ None)
-          → (o : Option Expr) → (looked core e).unfolded scope ≡ o → option_or (option_map (λ d. (n, d)) o) (first_part (n + 1) (map (looked core) es) scope) ≡ None
+          → (o : Option Expr) → (looked core e).unfolded scope ≡ o
+          → option_or (option_map (λ d. (n, d)) o) (first_part (n + 1) (map (looked core) es) scope) ≡ None
           → unfolded_parts (e ∷ es) scope ≡ None
       by later_one (Some d) is same = cc
       by later_one None is same =
@@ -119,9 +121,11 @@ module _ {X : Type 0} (look : X → Looked X) (tree_is : (x : X) → (look x).tr
   arm_at : (other : PatC × X) (n : ℕ) (arms : List (PatC × X)) (scope place : ℕ) (new : X) → first_branch n (map look_arm arms) scope ≡ Some (place, new)
       → IsPlaced n place arms (unfolded_arms arms scope) (with_branch other arms new)
   arm_at other n [] scope place new found = cc
-  arm_at other n (arm ∷ arms) scope place new found = by (λ same. arm_at other (n + 1) arms scope place new same) ((look arm.1).unfolded (scope + variables_in arm.0)) refl found
+  arm_at other n (arm ∷ arms) scope place new found =
+      by (λ same. arm_at other (n + 1) arms scope place new same) ((look arm.1).unfolded (scope + variables_in arm.0)) refl found
     where
-      by : (first_branch (n + 1) (map look_arm arms) scope ≡ Some (place, new) → IsPlaced (n + 1) place arms (unfolded_arms arms scope) (with_branch other arms new))
+      by : (first_branch (n + 1) (map look_arm arms) scope ≡ Some (place, new)
+          → IsPlaced (n + 1) place arms (unfolded_arms arms scope) (with_branch other arms new))
           → (o : Option X) → (look arm.1).unfolded (scope + variables_in arm.0) ≡ o
           → option_or (option_map (λ d. (n, d)) o) (first_branch (n + 1) (map look_arm arms) scope) ≡ Some (place, new)
           → IsPlaced n place (arm ∷ arms) (unfolded_arms (arm ∷ arms) scope) (with_branch other (arm ∷ arms) new)
@@ -173,7 +177,8 @@ module _ {X : Type 0} (look : X → Looked X) (tree_is : (x : X) → (look x).tr
   branch_becomes arm arms scope place new found =
       (from_start place arms (unfolded_arms arms scope) (with_branch arm arms new) (arm_at arm 0 arms scope place new (sym found))).1
 
-  pub no_branch_becomes : (arms : List (PatC × X)) (scope : ℕ) → None ≡ first_branch 0 (map look_arm arms) scope → arms_unfolded (map look_arm arms) scope ≡ None
+  pub no_branch_becomes : (arms : List (PatC × X)) (scope : ℕ) → None ≡ first_branch 0 (map look_arm arms) scope
+      → arms_unfolded (map look_arm arms) scope ≡ None
   no_branch_becomes arms scope none = no_arm 0 arms scope (sym none)
 
 -- an element that is there is the same whatever stands for none
@@ -202,6 +207,9 @@ module _ (core : Core) where
   looked_arms arms = arm_trees (looked core) (looked_tree core) arms
 
 pub ruleset find_steps = common_steps
+
 pub ruleset slice_steps = (common_steps, take_rest, get_or_same)
-pub ruleset place_steps = (common_steps, part_within, part_becomes, no_part_becomes, arm_within, arm_becomes, no_arm_becomes)
+
+pub ruleset place_steps = (common_steps, part_within, part_becomes, no_part_becomes)
+
 pub ruleset unfold_steps = (common_steps, looked_tree, trees, looked_arms)

@@ -36,7 +36,8 @@ module _ (core : Core) where
   out_at n (Some e ∷ outs) scope place new found = by (λ same. out_at (n + 1) outs scope place new same) ((looked core e).unfolded scope) refl found
     where
       by : (first_out (looked core) (n + 1) outs scope ≡ Some (place, new) → IsPlaced (n + 1) place outs (unfolded_outs outs scope) (λ k. Some new))
-          → (o : Option Expr) → (looked core e).unfolded scope ≡ o → option_or (option_map (λ d. (n, d)) o) (first_out (looked core) (n + 1) outs scope) ≡ Some (place, new)
+          → (o : Option Expr) → (looked core e).unfolded scope ≡ o
+          → option_or (option_map (λ d. (n, d)) o) (first_out (looked core) (n + 1) outs scope) ≡ Some (place, new)
           → IsPlaced n place (Some e ∷ outs) (unfolded_outs (Some e ∷ outs) scope) (λ k. Some new)
       by later_one (Some d) is same =
           let at : n ≡ place = ap place_in same in
@@ -98,5 +99,7 @@ module _ (core : Core) where
   looked_ways arms = arm_trees (looked_result core) (looked_result_tree core) arms
 
 pub ruleset find_steps = common_steps
-pub ruleset place_steps = (common_steps, out_within, out_becomes, no_out_becomes, way_within, way_becomes, no_way_becomes)
+
+pub ruleset place_steps = (common_steps, out_within, out_becomes, no_out_becomes)
+
 pub ruleset unfold_steps = (common_steps, looked_result_tree, looked_tree, looked_ways)

@@ -15,7 +15,9 @@ use Rattle.box_calculus.proofs.Parts.{looked_arms, trees, unfold_steps}
 module _ (core : Core) where
   form : (e : Expr) (x : Expr-F Expr) (scope : ℕ) → roll-Expr x ≡ e
       → (looked core e).unfolded scope ≡ unfold_step core (map-Expr Expr (Looked Expr) (looked core) x) scope
-  form e x scope is = ap (λ d. (looked core d).unfolded scope) (sym is) ∙ ap (λ (l : Looked Expr). l.unfolded scope) (fold-roll-Expr (Looked Expr) (look_step core) x)
+  form e x scope is =
+      ap (λ d. (looked core d).unfolded scope) (sym is)
+      ∙ ap (λ (l : Looked Expr). l.unfolded scope) (fold-roll-Expr (Looked Expr) (look_step core) x)
 
   pub con_unfolded : (c : ℕ) (es : List Expr) (scope : ℕ)
       → (looked core (expr.Con c es)).unfolded scope ≡ option_map (expr.Con c) (parts_unfolded (map (looked core) es) scope)
@@ -68,7 +70,8 @@ module _ (core : Core) where
   pub update_unfolded : (n : ℕ) (v k item : Expr) (scope : ℕ)
       → (looked core (expr.Update n v k item)).unfolded scope
       ≡ option_or (option_map (λ d. expr.Update n d k item) ((looked core v).unfolded scope))
-      (option_or (option_map (λ d. expr.Update n v d item) ((looked core k).unfolded scope)) (option_map (expr.Update n v k) ((looked core item).unfolded scope)))
+      (option_or (option_map (λ d. expr.Update n v d item) ((looked core k).unfolded scope))
+      (option_map (expr.Update n v k) ((looked core item).unfolded scope)))
   update_unfolded n v k item scope =
       form _ (Expr-F.Update n v k item) scope (expr.rolls-Update n v k item)
       ∙ (λ i. option_or (option_map (λ d. expr.Update n d (looked_tree core k i) (looked_tree core item i)) ((looked core v).unfolded scope))
@@ -86,4 +89,5 @@ module _ (core : Core) where
       (option_map (expr.If (looked_tree core t i) (looked_tree core a i)) ((looked core b).unfolded scope))))
 
 pub ruleset list_forms = (con_unfolded, tuple_unfolded, vect_unfolded, prim_unfolded, call_becomes, case_unfolded)
+
 pub ruleset form_steps = (unfold_steps, list_forms, let_unfolded, index_unfolded, update_unfolded, if_unfolded)

@@ -30,14 +30,12 @@ fn copy_patterns(alloc: Global, patterns: &[PatC]) -> Result<List<PatC>, AllocEr
     Ok(copies)
 }
 
-#[tactic(auto, using(crate::proofs::KeptNumbers::renumbered_kept))]
 pub(crate) fn copy_expression(alloc: Global, e: &Expr) -> Result<Expr, AllocError>
     ensures { IfOk result (λ copy. copy ≡ e.now) }
 {
     renumber(alloc, &Numbers::kept(), e)
 }
 
-#[tactic(auto, using(crate::proofs::KeptNumbers::renumbered_kept))]
 pub(crate) fn copy_part(alloc: Global, e: &Expr) -> Result<Box<Expr>, AllocError>
     ensures { IfOk result (λ copy. copy ≡ e.now) }
 {
@@ -54,7 +52,10 @@ pub(crate) fn copy_parts(alloc: Global, parts: &[Expr]) -> Result<List<Expr>, Al
     Ok(copies)
 }
 
-pub(crate) fn copy_arms(alloc: Global, arms: &[(PatC, Expr)]) -> Result<List<(PatC, Expr)>, AllocError>
+pub(crate) fn copy_arms(
+    alloc: Global,
+    arms: &[(PatC, Expr)],
+) -> Result<List<(PatC, Expr)>, AllocError>
     ensures { IfOk result (λ copies. copies ≡ arms.now) }
 {
     let mut copies = List::new(alloc);
@@ -74,7 +75,10 @@ pub(crate) fn copy_out(alloc: Global, out: &Option<Expr>) -> Result<Option<Expr>
     }
 }
 
-pub(crate) fn copy_outs(alloc: Global, outs: &[Option<Expr>]) -> Result<List<Option<Expr>>, AllocError>
+pub(crate) fn copy_outs(
+    alloc: Global,
+    outs: &[Option<Expr>],
+) -> Result<List<Option<Expr>>, AllocError>
     ensures { IfOk result (λ copies. copies ≡ outs.now) }
 {
     let mut copies = List::new(alloc);
@@ -116,7 +120,10 @@ pub(crate) fn copy_branch(alloc: Global, given: &Res) -> Result<Box<Res>, AllocE
 }
 
 #[cycle(copy_result)]
-pub(crate) fn copy_ways(alloc: Global, arms: &[(PatC, Res)]) -> Result<List<(PatC, Res)>, AllocError>
+pub(crate) fn copy_ways(
+    alloc: Global,
+    arms: &[(PatC, Res)],
+) -> Result<List<(PatC, Res)>, AllocError>
     ensures { IfOk result (λ copies. copies ≡ arms.now) }
 {
     let mut copies = List::new(alloc);

@@ -33,7 +33,8 @@ pub(crate) fn is_within(e: &Expr, depth: u32) -> bool
         Expr::If(test, when_true, when_false) => {
             is_within(test, left) && is_within(when_true, left) && is_within(when_false, left)
         }
-        Expr::Case(part, _, arms) => is_within(part, left) && arms_are_within(arms.as_slice(), left),
+        Expr::Case(part, _, arms) => is_within(part, left)
+            && arms_are_within(arms.as_slice(), left),
         Expr::Let(part, body) => is_within(part, left) && is_within(body, left),
         Expr::Call(_, parts) => are_within(parts.as_slice(), left),
         Expr::Raise(_, part) => is_within_if_there(part, left),

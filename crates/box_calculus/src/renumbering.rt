@@ -61,7 +61,10 @@ pub(crate) fn renumber(alloc: Global, numbers: &Numbers, e: &Expr) -> Result<Exp
     match e {
         Expr::Word(word) => Ok(Expr::Word(*word)),
         Expr::Var(number) => Ok(Expr::Var(numbers.of(*number)?)),
-        Expr::Con(place, parts) => Ok(Expr::Con(*place, renumber_parts(alloc, numbers, parts.as_slice())?)),
+        Expr::Con(place, parts) => Ok(Expr::Con(
+            *place,
+            renumber_parts(alloc, numbers, parts.as_slice())?,
+        )),
         Expr::Tuple(parts) => Ok(Expr::Tuple(renumber_parts(alloc, numbers, parts.as_slice())?)),
         Expr::Vect(parts) => Ok(Expr::Vect(renumber_parts(alloc, numbers, parts.as_slice())?)),
         Expr::Prim(op, ty, parts) => {
@@ -99,7 +102,11 @@ pub(crate) fn renumber(alloc: Global, numbers: &Numbers, e: &Expr) -> Result<Exp
 }
 
 #[cycle(renumber)]
-pub(crate) fn renumber_part(alloc: Global, numbers: &Numbers, e: &Expr) -> Result<Box<Expr>, AllocError>
+pub(crate) fn renumber_part(
+    alloc: Global,
+    numbers: &Numbers,
+    e: &Expr,
+) -> Result<Box<Expr>, AllocError>
     ensures { IfOk result (λ new. new ≡ renumbered (new_number numbers.now) e.now) }
 {
     Box::new(alloc, renumber(alloc, numbers, e)?)
@@ -120,7 +127,11 @@ fn renumber_if_there(
 }
 
 #[cycle(renumber)]
-fn renumber_parts(alloc: Global, numbers: &Numbers, parts: &[Expr]) -> Result<List<Expr>, AllocError>
+fn renumber_parts(
+    alloc: Global,
+    numbers: &Numbers,
+    parts: &[Expr],
+) -> Result<List<Expr>, AllocError>
     ensures { IfOk result (λ news. news ≡ map (renumbered (new_number numbers.now)) parts.now) }
 {
     let mut news = List::new(alloc);

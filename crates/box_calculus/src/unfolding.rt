@@ -2,7 +2,8 @@
 ghost use Rattle.std.specs.Prelude.{◌≡◌, ◌<◌, ◌+◌, ◌++◌, ◌∷◌, IfOk, length, map, get_or, take, drop};
 ghost use Rattle.std.specs.Option.{option_and_then};
 ghost use Rattle.hume_model.specs.declared.core_tree.Expr.{Expr as Expression};
-ghost use Rattle.hume_model.specs.declared.core_tree.Expr.TheVariants.{Call as CallExpr, Case as CaseExpr, If as IfExpr, Index as IndexExpr, Let as LetExpr, Update as UpdateExpr};
+ghost use Rattle.hume_model.specs.declared.core_tree.Expr.TheVariants.{Call as CallExpr, Case as CaseExpr, If as IfExpr};
+ghost use Rattle.hume_model.specs.declared.core_tree.Expr.TheVariants.{Index as IndexExpr, Let as LetExpr, Update as UpdateExpr};
 ghost use Rattle.hume_model.specs.declared.core_tree.PatC.{PatC as Pattern};
 ghost use Rattle.hume_model.specs.declared.core_tree.PatC.TheVariants.{Any as AnyPattern};
 ghost use Rattle.calculus_laws.specs.Unfolding.{arms_unfolded, looked, parts_unfolded};
@@ -18,7 +19,12 @@ use std::alloc::{AllocError, Global};
 /// The expression with the first call unfolded that can be, where `scope` variables are in scope; none if there is no such call.
 #[cycle(unfold)]
 #[tactic(auto, using(crate::proofs::UnfoldForms::form_steps))]
-pub(crate) fn unfold(alloc: Global, core: &Core, e: &Expr, scope: u32) -> Result<Option<Expr>, AllocError>
+pub(crate) fn unfold(
+    alloc: Global,
+    core: &Core,
+    e: &Expr,
+    scope: u32,
+) -> Result<Option<Expr>, AllocError>
     ensures { IfOk result (λ new. new ≡ (looked core.now e.now).unfolded scope) }
 {
     match e {
@@ -48,9 +54,7 @@ pub(crate) fn unfold(alloc: Global, core: &Core, e: &Expr, scope: u32) -> Result
         Expr::If(test, when_true, when_false) => {
             unfold_choice(alloc, core, test, when_true, when_false, scope)
         }
-        Expr::Case(part, ty, arms) => {
-            unfold_case(alloc, core, part, ty, arms.as_slice(), scope)
-        }
+        Expr::Case(part, ty, arms) => { unfold_case(alloc, core, part, ty, arms.as_slice(), scope) }
         Expr::Let(part, body) => unfold_binding(alloc, core, part, body, scope),
         Expr::Call(function, parts) => {
             unfold_in_call(alloc, core, *function, parts.as_slice(), scope)
@@ -281,7 +285,6 @@ fn unfold_case(
 }
 
 #[cycle(unfold)]
-#[tactic(auto, using(crate::proofs::Parts::place_steps))]
 fn unfold_arms(
     alloc: Global,
     core: &Core,

@@ -7,9 +7,7 @@ ghost use Rattle.hume_model.specs.declared.core_tree.Res.TheVariants.{Case as Ca
 ghost use Rattle.calculus_laws.specs.Unfolding.{arms_unfolded, looked, looked_result, outs_unfolded};
 ghost use Rattle.box_calculus.specs.inner.Parts.{first_branch, first_out, out_unfolded};
 
-use crate::copies::{
-    copy_branch, copy_expression, copy_outs, copy_pattern, copy_ways,
-};
+use crate::copies::{copy_branch, copy_expression, copy_outs, copy_pattern, copy_ways};
 use crate::counts::{count_variables, plus};
 use crate::unfolding::unfold;
 use hume_base::{Box, List, Ty, copy_ty};
@@ -19,7 +17,12 @@ use std::alloc::{AllocError, Global};
 /// The result with the first call unfolded that can be, where `scope` variables are in scope; none if there is no such call.
 #[cycle(unfold_result)]
 #[tactic(auto, using(crate::proofs::ResultForms::form_steps))]
-pub(crate) fn unfold_result(alloc: Global, core: &Core, given: &Res, scope: u32) -> Result<Option<Res>, AllocError>
+pub(crate) fn unfold_result(
+    alloc: Global,
+    core: &Core,
+    given: &Res,
+    scope: u32,
+) -> Result<Option<Res>, AllocError>
     ensures { IfOk result (λ new. new ≡ (looked_result core.now given.now).unfolded scope) }
 {
     match given {
@@ -30,9 +33,7 @@ pub(crate) fn unfold_result(alloc: Global, core: &Core, given: &Res, scope: u32)
         Res::If(test, when_true, when_false) => {
             unfold_choice(alloc, core, test, when_true, when_false, scope)
         }
-        Res::Case(part, ty, arms) => {
-            unfold_case(alloc, core, part, ty, arms.as_slice(), scope)
-        }
+        Res::Case(part, ty, arms) => { unfold_case(alloc, core, part, ty, arms.as_slice(), scope) }
         Res::Let(part, body) => unfold_binding(alloc, core, part, body, scope),
         Res::Raise(exn, part) => match unfold_out(alloc, core, part, scope)? {
             None => Ok(None),
@@ -126,7 +127,6 @@ fn unfold_case(
 }
 
 #[cycle(unfold_result)]
-#[tactic(auto, using(crate::proofs::ResultParts::place_steps))]
 fn unfold_ways(
     alloc: Global,
     core: &Core,
