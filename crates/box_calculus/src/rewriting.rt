@@ -16,7 +16,7 @@ use hume_base::{List, Text};
 use hume_model::{Core, NodeC, Res};
 use std::alloc::Global;
 
-/// The core after the step, which moves its trees and copies none of what stays.
+/// The core after the step, which moves its trees. Of what stays, only the result is copied in which a call is unfolded.
 pub fn rewrite(alloc: Global, core: Core, step: &Step) -> Result<Core, CalcError>
     requires { IsOnRule core step.now }
     ensures new { IfOk result (λ new. new ≡ rewritten core step.now) }
