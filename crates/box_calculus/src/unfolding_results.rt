@@ -174,8 +174,22 @@ fn with_way(
         news ≡ take place arms.now ++ ((get_or arms.now place (AnyPattern, new)).0, new) ∷ drop (place + 1) arms.now) }
 {
     let pattern = copy_pattern(alloc, &arms[place].0)?;
+    put_way(alloc, arms, place, (pattern, new))
+}
+
+// The arms with another arm in a place.
+#[tactic(auto, using(crate::proofs::Parts::slice_steps))]
+fn put_way(
+    alloc: Global,
+    arms: &[(PatC, Res)],
+    place: usize,
+    way: (PatC, Res),
+) -> Result<List<(PatC, Res)>, AllocError>
+    requires { place < length arms.now }
+    ensures { IfOk result (λ news. news ≡ take place arms.now ++ way ∷ drop (place + 1) arms.now) }
+{
     let mut news = copy_ways(alloc, &arms[..place])?;
-    news.push((pattern, new))?;
+    news.push(way)?;
     news.append(copy_ways(alloc, &arms[place + 1..])?)?;
     Ok(news)
 }
