@@ -33,8 +33,8 @@ module _ (core : Core) where
       (option_map (res.Case e ty) (arms_unfolded (map (λ (arm : PatC × Res). (arm.0, looked_result core arm.1)) arms) scope))
   case_becomes e ty arms scope =
       form _ (Res-F.Case e ty arms) scope (res.rolls-Case e ty arms)
-      ∙ ap (λ ways. option_or (option_map (λ d. res.Case d ty ways) ((looked core e).unfolded scope))
-      (option_map (res.Case e ty) (arms_unfolded (map (λ (arm : PatC × Res). (arm.0, looked_result core arm.1)) arms) scope))) (looked_ways core arms)
+      ∙ (λ i. option_or (option_map (λ d. res.Case d ty (looked_ways core arms i)) ((looked core e).unfolded scope))
+      (option_map (res.Case e ty) (arms_unfolded (map (λ (arm : PatC × Res). (arm.0, looked_result core arm.1)) arms) scope)))
 
   pub let_becomes : (e : Expr) (body : Res) (scope : ℕ)
       → (looked_result core (res.Let e body)).unfolded scope
