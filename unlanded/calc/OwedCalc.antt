@@ -52,8 +52,8 @@ pub data IsCalcRefusal (text lines : List ℕ) (names : List (List ℕ)) (source
   of_bounds : (accepted : Accepted) → IsAcceptedButForCosts text accepted → (new : Core) → scripted accepted.core lines ≡ Ok new
       → (finding : Finding) → IsLeast (BreaksCosts new) (Some finding) → (n : ℕ) (b : BoxC) → slice_get new.nodes n ≡ Some (Rules b)
       → b.declaration ≡ finding.declaration → IsCalcRefusal text lines names source script (record { rule = finding.rule; line = b.line })
-  unfit : (accepted : Accepted) → IsAcceptedButForCosts text accepted → (new : Core) → scripted accepted.core lines ≡ Ok new → IsLeast (BreaksCosts new) None
-      → (line : ℕ) → unfit_line names source (script ∷ []) (streams new) ≡ Some line → IsCalcRefusal text lines names source script (record { rule = C55; line = line })
+  unfit : (accepted : Accepted) → IsAcceptedButForCosts text accepted → (new : Core) → scripted accepted.core lines ≡ Ok new
+      → IsLeast (BreaksCosts new) None → (line : ℕ) → unfit_line names source (script ∷ []) (streams new) ≡ Some line → IsCalcRefusal text lines names source script (record { rule = C55; line = line })
 
 -- What `calc` owes: one refusal, or the run of the rewritten core.
 abbrev pub IsOwedCalc : ℕ → List ℕ → List ℕ → List ℕ → List ℕ → List (List ℕ) → (List ℕ → List ℕ) → Owed Status → Type 0

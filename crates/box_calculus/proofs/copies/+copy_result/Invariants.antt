@@ -1,5 +1,5 @@
 use Rattle.std.proofs.Common.{◌≡◌, take}
-use Rattle.std.specs.Prelude.{◌+◌, ◌*◌, max}
+use Rattle.std.specs.Prelude.{◌+◌, ◌*◌}
 use Rattle.hume_model.specs.declared.core_tree.Res.{size-Res}
 use Rattle.box_calculus.proofs.Measures.{ways_size}
 use Rattle.box_calculus.proofs.copies.+copy_result.Given as goal

@@ -3,7 +3,7 @@ use Rattle.hume_base.specs.Sizes.{greatest}
 use Rattle.hume_model.specs.declared.core_tree.Expr.{Expr}
 use Rattle.hume_model.specs.declared.core_tree.PatC.{PatC}
 use Rattle.calculus_laws.specs.Depth.{deepest_arm, expression_depth}
-use Rattle.std.specs.Prelude.{◌+◌, ◌*◌, max}
+use Rattle.std.specs.Prelude.{◌+◌, ◌*◌}
 use denote.Param.Weighed.{most}
 use Rattle.hume_model.specs.declared.core_tree.Expr.{size-Expr}
 use Rattle.hume_model.proofs.Ranks.{arms_size}
