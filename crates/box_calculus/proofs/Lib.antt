@@ -1,5 +1,14 @@
 pub mod Counted
 pub mod Cuts
+pub mod DepthSteps
 pub mod Digits
+pub mod KeptNumbers
+pub mod Measures
+pub mod NumberForms
+pub mod Parts
+pub mod ResultForms
+pub mod ResultParts
 pub mod Short
 pub mod ShortTypes
+pub mod Sums
+pub mod UnfoldForms

@@ -1,4 +1,4 @@
--- Which step the line of a script asks for: `swap BOX RULE` or `name BOX RULE FUNCTION`, with single spaces.
+-- Which step the line of a script asks for: `swap BOX RULE`, `unfold BOX RULE` or `name BOX RULE FUNCTION`, with single spaces.
 use Rattle.std.specs.Prelude.{ℕ, ◌-◌, ◌==◌, nat_le, ◌&&◌, Bool, false, List, [], ◌∷◌, length, Option, Some, None, if◌then◌else◌, true, codes, bytes_eq}
 use Rattle.std.specs.List.{position, slice_split}
 use Rattle.std.specs.Option.{option_and_then, option_map}
@@ -9,7 +9,7 @@ use Rattle.hume_model.specs.declared.core_tree.NodeC.{NodeC}
 use Rattle.hume_model.specs.declared.core_tree.NodeC.TheVariants.{Rules, From, To}
 use Rattle.hume_model.specs.declared.core_tree.Core.{Core}
 use Rattle.calculus_laws.specs.declared.step.Step.{Step}
-use Rattle.calculus_laws.specs.declared.step.Step.TheVariants.{Name, Swap}
+use Rattle.calculus_laws.specs.declared.step.Step.TheVariants.{Name, Swap, Unfold}
 use Rattle.calculus_laws.specs.Boxes.{box_at}
 use Rattle.box_calculus.specs.declared.lines.RulePlace.{RulePlace}
 
@@ -57,10 +57,16 @@ rule_in core word node = option_map (λ rule. record { node = node; rule = rule 
 abbrev pub rule_place : Core → List ℕ → List ℕ → Option RulePlace
 rule_place core name word = option_and_then (rule_in core word) (box_number core name)
 
+-- the step of a verb on a rule
+abbrev pub step_on_rule : List ℕ → RulePlace → Option Step
+step_on_rule verb at =
+    if bytes_eq verb (codes "swap") then Some (Swap at.node at.rule)
+    else if bytes_eq verb (codes "unfold") then Some (Unfold at.node at.rule)
+    else None
+
 -- the step that a line of three words asks for
-abbrev pub swap_of : Core → List ℕ → List ℕ → List ℕ → Option Step
-swap_of core verb name word =
-    if bytes_eq verb (codes "swap") then option_map (λ (at : RulePlace). Swap at.node at.rule) (rule_place core name word) else None
+abbrev pub on_rule_of : Core → List ℕ → List ℕ → List ℕ → Option Step
+on_rule_of core verb name word = option_and_then (step_on_rule verb) (rule_place core name word)
 
 -- the word has a byte
 abbrev pub has_bytes : List ℕ → Bool
@@ -76,7 +82,7 @@ name_of core verb name word function =
 
 -- the step that the words ask for, if they have a form
 abbrev pub step_of_words : Core → List (List ℕ) → Option Step
-step_of_words core (verb ∷ name ∷ word ∷ []) = swap_of core verb name word
+step_of_words core (verb ∷ name ∷ word ∷ []) = on_rule_of core verb name word
 step_of_words core (verb ∷ name ∷ word ∷ function ∷ []) = name_of core verb name word function
 step_of_words core _ = None
 

@@ -12,13 +12,21 @@
 #![tactic(auto)]
 
 mod apart;
+mod calls;
+mod copies;
+mod counts;
+mod depths;
 mod lines;
 mod names;
 mod naming;
 mod numbers;
 mod output;
+mod renumbering;
 mod rewriting;
 mod swap;
+mod unfold;
+mod unfolding;
+mod unfolding_results;
 mod variables;
 
 pub use lines::{RulePlace, StepError, read_step};

@@ -3,7 +3,7 @@ ghost use Rattle.std.specs.Prelude.{◌≡◌, ◌⊎◌, ◌≤◌, ◌<◌, []
 ghost use Rattle.std.specs.List.{position};
 ghost use Rattle.calculus_laws.specs.Boxes.{box_at};
 ghost use Rattle.box_calculus.specs.declared.lines.StepError.TheVariants.{Bad, NoMemory as OutOfMemory};
-ghost use Rattle.box_calculus.specs.Lines.{box_number, is_box_named, is_space, name_of, number_of, rule_in, rule_place, rule_within, rules_of, step_of, swap_of, words_of};
+ghost use Rattle.box_calculus.specs.Lines.{box_number, is_box_named, is_space, name_of, number_of, rule_in, rule_place, on_rule_of, rule_within, rules_of, step_of, words_of};
 
 use crate::numbers::{is_number, value};
 use calculus_laws::Step;
@@ -39,7 +39,7 @@ pub struct RulePlace {
     pub rule: u32,
 }
 
-/// The step that a line asks for: `swap BOX RULE` or `name BOX RULE FUNCTION`, where RULE counts from 1.
+/// The step that a line asks for: `swap BOX RULE`, `unfold BOX RULE` or `name BOX RULE FUNCTION`, where RULE counts from 1.
 #[tactic(auto, using(crate::proofs::Cuts::too_many_words))]
 pub fn read_step(alloc: Global, core: &Core, line: &[u8]) -> Result<Step, StepError>
     requires { length core.now.nodes ≤ MAX_NODES }
@@ -53,7 +53,7 @@ pub fn read_step(alloc: Global, core: &Core, line: &[u8]) -> Result<Step, StepEr
         return Err(StepError::Bad);
     };
     match cut(later) {
-        None => read_swap(core, verb, name, later),
+        None => read_on_rule(core, verb, name, later),
         Some((rule, function)) => match cut(function) {
             None => read_name(alloc, core, verb, name, rule, function),
             Some(_) => Err(StepError::Bad),
@@ -61,21 +61,27 @@ pub fn read_step(alloc: Global, core: &Core, line: &[u8]) -> Result<Step, StepEr
     }
 }
 
-fn read_swap(core: &Core, verb: &[u8], name: &[u8], rule: &[u8]) -> Result<Step, StepError>
+fn read_on_rule(core: &Core, verb: &[u8], name: &[u8], rule: &[u8]) -> Result<Step, StepError>
     requires { length core.now.nodes ≤ MAX_NODES }
-    ensures step { IfOk result (λ step. swap_of core.now verb.now name.now rule.now ≡ Some step) }
-    ensures bad { IfErr result (λ error. (error ≡ Bad) × (swap_of core.now verb.now name.now rule.now ≡ None)) }
+    ensures step { IfOk result (λ step. on_rule_of core.now verb.now name.now rule.now ≡ Some step) }
+    ensures bad { IfErr result (λ error. (error ≡ Bad) × (on_rule_of core.now verb.now name.now rule.now ≡ None)) }
 {
-    if verb != b"swap".as_slice() {
+    let Some(at) = find_rule(core, name, rule) else {
         return Err(StepError::Bad);
-    }
-    match find_rule(core, name, rule) {
-        Some(at) => Ok(Step::Swap {
+    };
+    if verb == b"swap".as_slice() {
+        return Ok(Step::Swap {
             node: at.node,
             rule: at.rule,
-        }),
-        None => Err(StepError::Bad),
+        });
     }
+    if verb == b"unfold".as_slice() {
+        return Ok(Step::Unfold {
+            node: at.node,
+            rule: at.rule,
+        });
+    }
+    Err(StepError::Bad)
 }
 
 fn read_name(

@@ -4,15 +4,17 @@ use Rattle.hume_model.specs.declared.core_tree.PortC.{PortC}
 use Rattle.hume_model.specs.declared.core_tree.BoxC.{BoxC}
 use Rattle.hume_model.specs.declared.core_tree.FunC.{FunC}
 use Rattle.hume_model.specs.declared.core_tree.NodeC.{NodeC}
+use Rattle.hume_model.specs.declared.core_tree.RuleC.{RuleC}
 use Rattle.hume_model.specs.declared.core_tree.NodeC.TheVariants.{Rules, From, To}
 use Rattle.hume_model.specs.declared.core_tree.WireC.{WireC}
 use Rattle.hume_model.specs.declared.core_tree.Core.{Core}
 use Rattle.hume_model.specs.Wiring.{IsWired, WiresAgree, inputs_of, outputs_of}
 use Rattle.calculus_laws.specs.declared.step.Step.{Step}
-use Rattle.calculus_laws.specs.declared.step.Step.TheVariants.{Name, Swap}
+use Rattle.calculus_laws.specs.declared.step.Step.TheVariants.{Name, Swap, Unfold}
 use Rattle.calculus_laws.specs.Boxes.{box_at}
 use Rattle.calculus_laws.specs.Naming.{OnlyOutput, named_output, output_at}
 use Rattle.calculus_laws.specs.Steps.{IsOnRule, node_of, refusal, rewritten, rewritten_at, rewritten_box}
+use Rattle.calculus_laws.specs.Unfolding.{unfolded_at, unfolded_core}
 use Rattle.calculus_laws.proofs.ChangedBox.{BothAt, box_there, related_at, self_at}
 
 -- two boxes with the same inputs and outputs, or the same stream
@@ -113,7 +115,12 @@ module _ (P : Core → Type 0) (core : Core) (each : (funs : List FunC) (nodes :
   named n rule name b there None = unchanged
   named n rule name b there (Some output) = changed _ n b _ there refl refl
 
+  unfolded : (n rule : ℕ) (b : BoxC) → box_at core n ≡ Some b → (o : Option RuleC) → P (unfolded_core core n rule b o)
+  unfolded n rule b there None = unchanged
+  unfolded n rule b there (Some new) = changed core.funs n b _ there refl refl
+
   box_step : (step : Step) (b : BoxC) → box_at core (node_of step) ≡ Some b → P (rewritten_box core step b)
+  box_step (Unfold node rule) b there = unfolded node rule b there (unfolded_at core b rule)
   box_step (Swap node rule) b there = changed core.funs node b _ there refl refl
   box_step (Name node rule name) b there = named node rule name b there (output_at b rule)
 

@@ -24,15 +24,18 @@ use Rattle.box_costs.specs.declared.cost.Cost.{Cost}
 use Rattle.box_costs.specs.Costs.{above, any_of, both, nothing, objects, with_variables}
 use Rattle.box_costs.specs.PatternTests.{variables_of_all}
 use Rattle.box_costs.specs.Bounds.{bound_below, bound_with, box_bound, built_patterns, expression_bound, function_bound, handler_bound, handler_if_raised, inputs_build, result_bound, result_bound_with, rule_bound}
-use Rattle.calculus_laws.specs.Boxes.{box_at, with_box}
+use Rattle.calculus_laws.specs.declared.step.Step.TheVariants.{Unfold}
+use Rattle.calculus_laws.specs.Boxes.{as_box, box_at, with_box}
 use Rattle.calculus_laws.specs.Naming.{variables}
+use Rattle.calculus_laws.specs.Steps.{IsOnRule, refusal, rewritten}
 use Rattle.calculus_laws.specs.UnfoldedBounds.{IsUnfoldedBound}
-use Rattle.calculus_laws.specs.Unfolding.{result_unfolded, with_rule}
+use Rattle.calculus_laws.specs.Unfolding.{result_unfolded, unfolded_at, with_rule}
 use Rattle.calculus_laws.proofs.ChangedBox.{BothAt, box_there, related_at}
 use Rattle.calculus_laws.proofs.KeptRaising.{raising_kept}
+use Rattle.calculus_laws.proofs.Runs.{at_box, box_allowed, by_rule}
 use Rattle.calculus_laws.proofs.UnfoldedBounds.{bound_self, either_left, either_right, unfolded_bound}
 use Rattle.calculus_laws.proofs.UnfoldedRaising.{unfolded_raises}
-use Rattle.calculus_laws.proofs.UnfoldedRuns.{IsUnfolded, becomes_some}
+use Rattle.calculus_laws.proofs.UnfoldedRuns.{IsUnfolded, becomes_some, is_unfolded}
 use Rattle.calculus_laws.proofs.UnfoldedTypes.{patterns_length}
 
 -- the same bounds in a core with the same functions
@@ -158,3 +161,13 @@ module _ (core : Core) (formed : IsWellFormed core) where
         let after = box_there (with_box core n other) m new is_now in
         subst (λ c. IsUnfoldedBound c (box_bound core old)) (sym (box_kept core (slice_set core.nodes n (Rules other)) new))
         (subst (λ o. BothAt NodesLess (Some (Rules old)) o) after (subst (λ o. BothAt NodesLess o (slice_get (slice_set core.nodes n (Rules other)) m)) before at))
+
+-- no unfold raises a bound of heap or stack
+pub unfolds_less : (core : Core) → IsWellFormed core → (node rule : ℕ) → IsOnRule core (Unfold node rule) → refusal core (Unfold node rule) ≡ None
+    → (n : ℕ) (old new : BoxC) → box_at core n ≡ Some old → box_at (rewritten core (Unfold node rule)) n ≡ Some new
+    → IsUnfoldedBound (box_bound (rewritten core (Unfold node rule)) new) (box_bound core old)
+unfolds_less core formed node rule on allowed n old new was =
+    at_box (λ other. box_at other n ≡ Some new → IsUnfoldedBound (box_bound other new) (box_bound core old)) core (Unfold node rule) on
+    (by_rule (λ other. box_at other n ≡ Some new → IsUnfoldedBound (box_bound other new) (box_bound core old)) core node rule on.b
+    (λ new_rule is. boxes_less core formed node rule on.b on.there new_rule (is_unfolded core on.b rule new_rule is) n old new was)
+    (unfolded_at core on.b rule) refl (box_allowed core (Unfold node rule) on allowed))

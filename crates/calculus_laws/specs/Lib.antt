@@ -1,5 +1,6 @@
 pub mod Apart
 pub mod Boxes
+pub mod Depth
 pub mod NamedAgain
 pub mod Names
 pub mod Naming

@@ -1,6 +1,6 @@
 -- Unfold: the first call in a rule's result to a function whose one equation takes its arguments as they are becomes a `let`
 -- for each argument, in order, around the body of that equation.
-use Rattle.std.specs.Prelude.{ℕ, ◌+◌, ◌-◌, ◌==◌, nat_lt, ◌&&◌, Bool, true, false, List, [], ◌∷◌, length, map, sum, Option, Some, None, if◌then◌else◌, slice_get, slice_set}
+use Rattle.std.specs.Prelude.{ℕ, ◌+◌, ◌-◌, ◌==◌, nat_le, nat_lt, ◌&&◌, Bool, true, false, List, [], ◌∷◌, length, map, sum, Option, Some, None, if◌then◌else◌, slice_get, slice_set}
 use Rattle.std.specs.List.{list_all, slice_index_or}
 use Rattle.std.specs.Option.{option_and_then, option_map, option_or}
 use Rattle.hume_model.specs.declared.core_tree.PatC.{PatC, fold-PatC, out-PatC}
@@ -16,6 +16,11 @@ use Rattle.hume_model.specs.declared.core_tree.FunC.{FunC}
 use Rattle.hume_model.specs.declared.core_tree.RuleC.{RuleC}
 use Rattle.hume_model.specs.declared.core_tree.BoxC.{BoxC}
 use Rattle.hume_model.specs.declared.core_tree.Core.{Core}
+use Rattle.calculus_laws.specs.declared.step.TheConstants.{MAX_RESULT_DEPTH}
+use Rattle.calculus_laws.specs.declared.step.CalcError.{CalcError}
+use Rattle.calculus_laws.specs.declared.step.CalcError.TheVariants.{CannotUnfold}
+use Rattle.calculus_laws.specs.Boxes.{with_box}
+use Rattle.calculus_laws.specs.Depth.{result_depth}
 use Rattle.calculus_laws.specs.Naming.{variables}
 
 -- one level of an expression whose variables get other numbers
@@ -195,3 +200,13 @@ unfolded_at core b number = option_and_then (unfolded_rule core b) (slice_get b.
 -- the box with another rule in a place
 abbrev pub with_rule : ℕ → RuleC → BoxC → BoxC
 with_rule number rule b = record b { rules = slice_set b.rules number rule }
+
+-- the core in which the rule is the unfolded one, if there is one
+abbrev pub unfolded_core : Core → ℕ → ℕ → BoxC → Option RuleC → Core
+unfolded_core core node number b None = core
+unfolded_core core node number b (Some new) = with_box core node (with_rule number new b)
+
+-- a rule may not be unfolded where there is no such call in it, or where its result would be too deep
+abbrev pub unfold_refusal : Option RuleC → Option CalcError
+unfold_refusal None = Some CannotUnfold
+unfold_refusal (Some new) = if nat_le (result_depth new.result) MAX_RESULT_DEPTH then None else Some CannotUnfold

@@ -7,7 +7,6 @@ ghost use Rattle.hume_base.specs.declared.finding.Finding.{Finding};
 ghost use Rattle.hume_base.specs.declared.types.Value.{Value};
 ghost use Rattle.hume_model.specs.declared.core_tree.BoxC.{BoxC};
 ghost use Rattle.hume_model.specs.declared.core_tree.Core.{Core};
-ghost use Rattle.hume_model.specs.declared.core_tree.RuleC.{RuleC};
 ghost use Rattle.hume_model.specs.HandlerRules.{BreaksHandlers};
 ghost use Rattle.hume_model.specs.WellFormed.{IsWellFormed};
 ghost use Rattle.hume_model.specs.WireRules.{BreaksWires};
@@ -17,14 +16,15 @@ ghost use Rattle.hume_net.specs.declared.state.State.{State};
 ghost use Rattle.hume_net.specs.Lockstep.{lockstep};
 ghost use Rattle.hume_net.specs.Start.{start};
 ghost use Rattle.calculus_laws.specs.declared.step.Step.{Step};
-ghost use Rattle.calculus_laws.specs.Boxes.{box_at, with_box};
+ghost use Rattle.calculus_laws.specs.declared.step.Step.TheVariants.{Unfold};
+ghost use Rattle.calculus_laws.specs.Boxes.{box_at};
 ghost use Rattle.calculus_laws.specs.NamedAgain.{rule_again};
 ghost use Rattle.calculus_laws.specs.Names.{is_function_name};
 ghost use Rattle.calculus_laws.specs.Naming.{OnlyOutput, calling_box, named_output, output_at};
 ghost use Rattle.calculus_laws.specs.Orders.{HasWrittenOrders};
 ghost use Rattle.calculus_laws.specs.Steps.{IsOnRule, refusal, rewritten};
 ghost use Rattle.calculus_laws.specs.UnfoldedBounds.{IsUnfoldedBound};
-ghost use Rattle.calculus_laws.specs.Unfolding.{unfolded_at, with_rule};
+ghost use Rattle.calculus_laws.specs.Unfolding.{unfolded_at};
 
 /// A step that isn't refused changes no run: after any number of supersteps the whole state is the same, from each state
 /// whose unfair boxes have the written order.
@@ -52,29 +52,11 @@ pub fn unfair_boxes_keep_the_written_order()
     ensures supersteps { (core : Core) (state : State) → HasWrittenOrders core state → (k : ℕ) → HasWrittenOrders core (lockstep core state k) }
 {}
 
-/// A rule in which a call is unfolded changes no run. The new core is well formed, and its wires and handlers break no
-/// rule that those of the old one keep.
-pub fn unfolded_rules_keep_runs()
-    ensures runs { (core : Core) → IsWellFormed core → (n rule : ℕ) (b : BoxC) (new : RuleC) → box_at core n ≡ Some b
-        → unfolded_at core b rule ≡ Some new
-        → (state : State) → HasWrittenOrders core state → (k : ℕ) → lockstep (with_box core n (with_rule rule new b)) state k ≡ lockstep core state k }
-    ensures formed { (core : Core) → IsWellFormed core → (n rule : ℕ) (b : BoxC) (new : RuleC) → box_at core n ≡ Some b
-        → unfolded_at core b rule ≡ Some new → IsWellFormed (with_box core n (with_rule rule new b)) }
-    ensures wires { (core : Core) → IsWellFormed core → (n rule : ℕ) (b : BoxC) (new : RuleC) → box_at core n ≡ Some b
-        → unfolded_at core b rule ≡ Some new
-        → (finding : Finding) → BreaksWires (with_box core n (with_rule rule new b)) finding → BreaksWires core finding }
-    ensures handlers { (core : Core) → IsWellFormed core → (n rule : ℕ) (b : BoxC) (new : RuleC) → box_at core n ≡ Some b
-        → unfolded_at core b rule ≡ Some new
-        → (finding : Finding) → BreaksHandlers (with_box core n (with_rule rule new b)) finding → BreaksHandlers core finding }
-{}
-
-/// A rule in which a call is unfolded raises neither the heap nor the stack of any box, and the work of its own by at most 16
-/// instructions.
-pub fn unfolded_rules_raise_no_heap_or_stack()
-    ensures { (core : Core) → IsWellFormed core → (n rule : ℕ) (b : BoxC) (new : RuleC) → box_at core n ≡ Some b
-        → unfolded_at core b rule ≡ Some new
-        → (m : ℕ) (before after : BoxC) → box_at core m ≡ Some before → box_at (with_box core n (with_rule rule new b)) m ≡ Some after
-        → IsUnfoldedBound (box_bound (with_box core n (with_rule rule new b)) after) (box_bound core before) }
+/// Unfolding a call raises neither the heap nor the stack of any box, and the work of its box by at most 16 instructions.
+pub fn unfolds_raise_no_heap_or_stack()
+    ensures { (core : Core) → IsWellFormed core → (node rule : ℕ) → IsOnRule core (Unfold node rule) → refusal core (Unfold node rule) ≡ None
+        → (n : ℕ) (old new : BoxC) → box_at core n ≡ Some old → box_at (rewritten core (Unfold node rule)) n ≡ Some new
+        → IsUnfoldedBound (box_bound (rewritten core (Unfold node rule)) new) (box_bound core old) }
 {}
 
 /// A step changes no data type, no exception and no wire, and there are as many nodes as before.

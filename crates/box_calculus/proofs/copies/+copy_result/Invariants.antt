@@ -1,0 +1,17 @@
+use Rattle.std.proofs.Common.{◌≡◌, take}
+use Rattle.std.specs.Prelude.{◌+◌, ◌*◌}
+use Rattle.hume_model.specs.declared.core_tree.Res.{size-Res}
+use Rattle.box_calculus.proofs.Measures.{ways_size}
+use Rattle.box_calculus.proofs.copies.+copy_result.Given as goal
+
+abbrev pub decreases-copy_result : goal.decreases-copy_result
+decreases-copy_result l = 3 * size-Res l.given.now
+
+abbrev pub decreases-copy_branch : goal.decreases-copy_branch
+decreases-copy_branch l = 3 * size-Res l.given.now + 1
+
+abbrev pub decreases-copy_ways : goal.decreases-copy_ways
+decreases-copy_ways l = 3 * ways_size l.arms.now + 1
+
+abbrev pub invariant-copy_ways-loop-arm : goal.invariant-copy_ways-loop-arm
+invariant-copy_ways-loop-arm l = l.copies ≡ take l.arm-index l.arms
