@@ -40,8 +40,8 @@ seconds_of() {
 
 # least WORD..: the least time of so many calls, in microseconds
 least() {
-    local least= took begun _
-    for ((_ = 0; _ < calls; _++)); do
+    local least= took begun call
+    for ((call = 0; call < calls; call++)); do
         begun=$EPOCHREALTIME
         "$@" >/dev/null || { echo "$* ended with $?" >&2 && return 1; }
         took=$((${EPOCHREALTIME/./} - ${begun/./}))
@@ -71,7 +71,7 @@ echo '| boxes | half step | workers | hume, us a superstep | gain | lost | barri
 echo '|---|---|---|---|---|---|---|---|---|'
 for boxes in 8 50 200; do
     # doublings of the source, rounds of the C program, and supersteps that are timed
-    for row in '0 30 200000' '3 400 60000' '7 4000 6000' '10 40000 600'; do
+    for row in '2 190 200000' '5 1450 60000' '9 22500 5000' '12 180000 600'; do
         read -r doublings rounds supersteps <<<"$row"
         supersteps=$((supersteps * 8 / boxes))
         source_of "$boxes" "$doublings" >p
