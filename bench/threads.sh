@@ -71,7 +71,7 @@ echo '| boxes | half step | workers | hume, us a superstep | gain | lost | barri
 echo '|---|---|---|---|---|---|---|---|---|'
 for boxes in 8 50 200; do
     # doublings of the source, rounds of the C program, and supersteps that are timed
-    for row in '2 190 200000' '5 1450 60000' '9 22500 5000' '12 180000 600'; do
+    for row in '2 190 40000' '5 1450 20000' '9 22500 3000' '12 180000 400'; do
         read -r doublings rounds supersteps <<<"$row"
         supersteps=$((supersteps * 8 / boxes))
         source_of "$boxes" "$doublings" >p
