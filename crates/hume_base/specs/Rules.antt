@@ -1,7 +1,7 @@
 -- The codes of the rules that a program may break, and the phases in which they are asked.
 use Rattle.std.specs.Prelude.{ℕ}
 use Rattle.hume_base.specs.declared.rule.Rule.{Rule}
-use Rattle.hume_base.specs.declared.rule.Rule.TheVariants.{C10, C11, C12, C20, C30, C31, C32, C33, C40, C41, C42, C43, C44, C45, C50, C51, C52, C53, C54, C55, C60, C61, C70, C71, C72, C73, C74, C75, C76, C77, C78, C79}
+use Rattle.hume_base.specs.declared.rule.Rule.TheVariants.{C10, C11, C12, C20, C30, C31, C32, C33, C40, C41, C42, C43, C44, C45, C50, C51, C52, C53, C54, C55, C56, C57, C60, C61, C70, C71, C72, C73, C74, C75, C76, C77, C78, C79, C90, C91, C92, C93, C94}
 
 -- the code of a rule, which never changes
 abbrev pub code_of : Rule → ℕ
@@ -25,6 +25,8 @@ code_of C52 = 52
 code_of C53 = 53
 code_of C54 = 54
 code_of C55 = 55
+code_of C56 = 56
+code_of C57 = 57
 code_of C60 = 60
 code_of C61 = 61
 code_of C70 = 70
@@ -37,9 +39,14 @@ code_of C76 = 76
 code_of C77 = 77
 code_of C78 = 78
 code_of C79 = 79
+code_of C90 = 90
+code_of C91 = 91
+code_of C92 = 92
+code_of C93 = 93
+code_of C94 = 94
 
 -- Of the source's length 1, its tokens 2, its tree 3, its names 4, its counts 5, its types 6, its limits 7, its wires 8, its
--- exceptions 9, its space and work 10, and of a run's ports 11.
+-- exceptions 9, its space and work 10, and of the ports, the other programs and the script of a call 11.
 abbrev pub phase_of : Rule → ℕ
 phase_of C10 = 2
 phase_of C11 = 2
@@ -61,6 +68,8 @@ phase_of C52 = 8
 phase_of C53 = 8
 phase_of C54 = 8
 phase_of C55 = 11
+phase_of C56 = 11
+phase_of C57 = 11
 phase_of C60 = 9
 phase_of C61 = 9
 phase_of C70 = 1
@@ -73,3 +82,8 @@ phase_of C76 = 10
 phase_of C77 = 3
 phase_of C78 = 10
 phase_of C79 = 10
+phase_of C90 = 11
+phase_of C91 = 11
+phase_of C92 = 11
+phase_of C93 = 11
+phase_of C94 = 11

@@ -44,6 +44,10 @@ pub enum Rule {
     C54,
     /// A stream's port isn't handed in, is the source's, or is an earlier stream's.
     C55,
+    /// The united programs pass a limit, or their boxes may take too much together.
+    C56,
+    /// A stream's port is the source of another program, or a stream's of an earlier one.
+    C57,
     /// A rule of the box may raise what the box doesn't handle.
     C60,
     /// A handler may raise.
@@ -68,6 +72,16 @@ pub enum Rule {
     C78,
     /// A box may take more than 1,000,000 instructions for a step.
     C79,
+    /// A line of the script asks for no step of the program.
+    C90,
+    /// The rule calls no function that can be unfolded, or the result would be more than 1,024 deep.
+    C91,
+    /// The output of the rule can't be named so.
+    C92,
+    /// The box is fair, or no rule comes after this one.
+    C93,
+    /// Some values fit both rules.
+    C94,
 }
 
 impl Rule {
@@ -95,6 +109,8 @@ impl Rule {
             Rule::C53 => 53,
             Rule::C54 => 54,
             Rule::C55 => 55,
+            Rule::C56 => 56,
+            Rule::C57 => 57,
             Rule::C60 => 60,
             Rule::C61 => 61,
             Rule::C70 => 70,
@@ -107,6 +123,11 @@ impl Rule {
             Rule::C77 => 77,
             Rule::C78 => 78,
             Rule::C79 => 79,
+            Rule::C90 => 90,
+            Rule::C91 => 91,
+            Rule::C92 => 92,
+            Rule::C93 => 93,
+            Rule::C94 => 94,
         }
     }
 
@@ -135,6 +156,8 @@ impl Rule {
             Rule::C53 => 8,
             Rule::C54 => 8,
             Rule::C55 => 11,
+            Rule::C56 => 11,
+            Rule::C57 => 11,
             Rule::C60 => 9,
             Rule::C61 => 9,
             Rule::C70 => 1,
@@ -147,6 +170,11 @@ impl Rule {
             Rule::C77 => 3,
             Rule::C78 => 10,
             Rule::C79 => 10,
+            Rule::C90 => 11,
+            Rule::C91 => 11,
+            Rule::C92 => 11,
+            Rule::C93 => 11,
+            Rule::C94 => 11,
         }
     }
 }

@@ -24,6 +24,9 @@ pub fn sentence(rule: Rule) -> &'static [u8] {
         Rule::C53 => b"an earlier wire starts from the same output or stream",
         Rule::C54 => b"the ends of the wire have different types, or both are streams",
         Rule::C55 => b"the port of the stream is not handed in, or is taken",
+        Rule::C56 => b"the programs together pass a limit, or take too much",
+        Rule::C57 =>
+            b"the port of the stream is the source of another program, or a stream of an earlier program has it",
         Rule::C60 => b"a rule of the box may raise an exception that it doesn't handle",
         Rule::C61 => b"a handler of the box may raise an exception",
         Rule::C70 => b"the source has more than 262144 bytes",
@@ -36,6 +39,12 @@ pub fn sentence(rule: Rule) -> &'static [u8] {
         Rule::C77 => b"this is more than 64 deep",
         Rule::C78 => b"with this box, all boxes take more than 4194304 words",
         Rule::C79 => b"a step of the box may run more than 1000000 instructions",
+        Rule::C90 => b"the line of the script is no step of the program",
+        Rule::C91 =>
+            b"the rule calls nothing that can be unfolded, or its result would be more than 1024 deep",
+        Rule::C92 => b"the output of the rule is not one that can be named so",
+        Rule::C93 => b"the box is fair, or the rule is its last one",
+        Rule::C94 => b"some values fit both rules",
     }
 }
 
@@ -68,6 +77,8 @@ pub fn remedy(rule: Rule) -> &'static [u8] {
         Rule::C54 =>
             b"convert in a box between them; put a box with the rule `(x) -> x` between two streams",
         Rule::C55 => b"hand in a port of that name for each stream",
+        Rule::C56 => b"run some of the programs by a call of their own",
+        Rule::C57 => b"name ports apart in the programs",
         Rule::C60 =>
             b"add a handler; divide by a literal; end a `case` or a function with a pattern for all the rest",
         Rule::C61 => b"let the handler give a value or `*`",
@@ -82,5 +93,12 @@ pub fn remedy(rule: Rule) -> &'static [u8] {
         Rule::C78 => b"use fewer or smaller boxes",
         Rule::C79 =>
             b"name a value that is needed twice by `let`; go around a wire, a part of the work in each step",
+        Rule::C90 =>
+            b"write `unfold BOX RULE`, `name BOX RULE FUNCTION` or `swap BOX RULE`, with rules counted from 1",
+        Rule::C91 =>
+            b"unfold a call to a function of one equation whose patterns are variables or `_`",
+        Rule::C92 => b"name the one output of a rule with 1 to 16 variables, by a new name",
+        Rule::C93 => b"take another rule of a box that is not fair",
+        Rule::C94 => b"swap rules of which no value fits both",
     }
 }
