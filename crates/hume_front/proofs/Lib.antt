@@ -4,6 +4,7 @@ pub mod Lines
 pub mod OneProgram
 pub mod ProgramRules
 pub mod Sources
+pub mod SoundSources
 pub mod OneRefusal
 pub mod LeastCoreRules
 pub mod SomeAnswer

@@ -25,11 +25,11 @@ module _ (text : List ℕ) where
   same_tokens tokens others a b = one_reading text tokens others a.0 b.0
 
   -- tokens that are read have no bad place
-  unbroken : (tokens : List Token) (rule : Rule) (place : ℕ) → IsRead text tokens → BreaksTokens text rule place → ⊥
+  pub unbroken : (tokens : List Token) (rule : Rule) (place : ℕ) → IsRead text tokens → BreaksTokens text rule place → ⊥
   unbroken tokens rule place read breaks = let e = reported_by_lexer text rule place breaks in read_no_bad_place text tokens e.0 read e.1
 
   -- tokens that stand for a program have no wrong place
-  apart : (tokens : List Token) (rule : Rule) (place : ℕ) (program : Program) → IsRead text tokens → BreaksGrammar tokens (length text) rule place
+  pub apart : (tokens : List Token) (rule : Rule) (place : ℕ) (program : Program) → IsRead text tokens → BreaksGrammar tokens (length text) rule place
       → IsProgramOf text program → ⊥
   apart tokens rule place program read breaks is =
       let e = reported_by_parser tokens (length text) rule place breaks in

@@ -38,7 +38,7 @@ module _ (text : List ℕ) (program : Program) where
   to_program : (f : Finding) → BreaksCheck program.decls f ⊎ InCore f → BreaksProgram text program f
   to_program f h = elim h [ inl x ↦ itself (in_table program.decls f x) | inr x ↦ by_core x.0 x.1 (in_core_table x.0 f x.2) ]
 
-  from_program : (f : Finding) → BreaksProgram text program f → BreaksCheck program.decls f ⊎ InCore f
+  pub from_program : (f : Finding) → BreaksProgram text program f → BreaksCheck program.decls f ⊎ InCore f
   from_program f (itself x) = inl (from_table program.decls f x)
   from_program f (by_core c is x) = inr (c, is, from_core_table c f x)
 

@@ -1,8 +1,9 @@
 //! The acceptance of a source.
 ghost use Rattle.std.specs.Prelude.{◌≡◌, ◌≤◌, length, IfOk, IfErr, OnOk};
 ghost use Rattle.hume_base.specs.declared.limits.TheConstants.{MAX_SOURCE_BYTES as MOST_BYTES};
+ghost use Rattle.hume_exceptions.specs.Sets.{IsRaisesOf};
 ghost use Rattle.hume_lex.specs.BadPlaces.{IsRead};
-ghost use Rattle.hume_front.specs.Accepted.{IsAccepted, IsProgramOf, IsUnaccepted};
+ghost use Rattle.hume_front.specs.Accepted.{IsAccepted, IsProgramOf, IsSound, IsUnaccepted, IsUnsound};
 
 use crate::error::FrontError;
 use crate::refused::{bad_token, no_program, refused};
@@ -10,7 +11,7 @@ use hume_ast::Program;
 use hume_base::limits::MAX_SOURCE_BYTES;
 use hume_base::{Rule, Token};
 use hume_check::check;
-use hume_exceptions::{check_handlers, raises};
+use hume_exceptions::{Raises, check_handlers, raises};
 use hume_lex::lex;
 use hume_model::Core;
 use hume_parse::parse;
@@ -29,20 +30,31 @@ pub struct Accepted {
     pub costs: Costs,
 }
 
-/// The program that the source stands for with its core, if the source breaks no rule. The phases ask their rules one after the
-/// other: on tokens, on the grammar, on the program by itself, and on the core's wires, exceptions and costs.
+/// A source that breaks no rule but perhaps some on what its boxes may take.
+#[derive(Drop)]
+pub struct Sound {
+    pub program: Program,
+    pub core: Core,
+    /// The wires of the core's inputs and outputs.
+    pub wiring: Wiring,
+    /// The exceptions that the core's functions may raise.
+    pub raised: Raises,
+}
+
+/// The program that the source stands for with its core, if the source breaks no rule. The rules on what boxes may take are asked
+/// last.
 pub fn accept(alloc: Global, text: &[u8]) -> Result<Accepted, FrontError>
     ensures accepted { IfOk result (IsAccepted text.now) }
     ensures error { IfErr result (IsUnaccepted text.now) }
 {
-    in_length(text)?;
-    let tokens = tokens_of(alloc, text)?;
-    let program = program_of(alloc, text, &tokens)?;
-    let core = check(alloc, &program, text)?;
-    let wiring = check_wires(alloc, &core)?;
-    let raised = raises(alloc, &core)?;
-    check_handlers(&core, &raised)?;
-    let costs = costs(alloc, &core, &raised)?;
+    let sound = check_source(alloc, text)?;
+    let costs = costs(alloc, &sound.core, &sound.raised)?;
+    let Sound {
+        program,
+        core,
+        wiring,
+        ..
+    } = sound;
     Ok(Accepted {
         program,
         core,
@@ -51,9 +63,31 @@ pub fn accept(alloc: Global, text: &[u8]) -> Result<Accepted, FrontError>
     })
 }
 
+/// The same for a source whose boxes may take too much. The phases ask their rules one after the other: on tokens, on the grammar, on
+/// the program by itself, and on the core's wires and exceptions.
+pub fn check_source(alloc: Global, text: &[u8]) -> Result<Sound, FrontError>
+    ensures sound { IfOk result (IsSound text.now) }
+    ensures raised { IfOk result (λ sound. IsRaisesOf sound.core sound.raised) }
+    ensures error { IfErr result (IsUnsound text.now) }
+{
+    in_length(text)?;
+    let tokens = tokens_of(alloc, text)?;
+    let program = program_of(alloc, text, &tokens)?;
+    let core = check(alloc, &program, text)?;
+    let wiring = check_wires(alloc, &core)?;
+    let raised = raises(alloc, &core)?;
+    check_handlers(&core, &raised)?;
+    Ok(Sound {
+        program,
+        core,
+        wiring,
+        raised,
+    })
+}
+
 fn in_length(text: &[u8]) -> Result<(), FrontError>
     ensures short { OnOk result (length text.now ≤ MOST_BYTES) }
-    ensures error { IfErr result (IsUnaccepted text.now) }
+    ensures error { IfErr result (IsUnsound text.now) }
 {
     if text.len() > MAX_SOURCE_BYTES {
         return Err(refused(Rule::C70, 1));
@@ -64,7 +98,7 @@ fn in_length(text: &[u8]) -> Result<(), FrontError>
 fn tokens_of(alloc: Global, text: &[u8]) -> Result<Vec<Token>, FrontError>
     requires { length text.now ≤ MOST_BYTES }
     ensures read { IfOk result (λ tokens. IsRead text.now tokens.items) }
-    ensures error { IfErr result (IsUnaccepted text.now) }
+    ensures error { IfErr result (IsUnsound text.now) }
 {
     match lex(alloc, text) {
         Ok(tokens) => Ok(tokens),
@@ -76,7 +110,7 @@ fn program_of(alloc: Global, text: &[u8], tokens: &[Token]) -> Result<Program, F
     requires short { length text.now ≤ MOST_BYTES }
     requires read { IsRead text.now tokens.now }
     ensures program { IfOk result (IsProgramOf text.now) }
-    ensures error { IfErr result (IsUnaccepted text.now) }
+    ensures error { IfErr result (IsUnsound text.now) }
 {
     match parse(alloc, tokens, text.len() as u32) {
         Ok(program) => Ok(program),

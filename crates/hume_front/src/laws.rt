@@ -10,7 +10,8 @@ ghost use Rattle.hume_model.specs.WellFormed.{IsWellFormed};
 ghost use Rattle.hume_model.specs.Wiring.{IsWired, WiresAgree};
 ghost use Rattle.box_costs.specs.CostRules.{BreaksCosts};
 ghost use Rattle.hume_front.specs.declared.acceptance.Accepted.{Accepted};
-ghost use Rattle.hume_front.specs.Accepted.{IsProgramOf, IsAccepted, Breaks};
+ghost use Rattle.hume_front.specs.declared.acceptance.Sound.{Sound};
+ghost use Rattle.hume_front.specs.Accepted.{IsProgramOf, IsAccepted, IsSound, Breaks, BreaksSoundness};
 
 /// A source stands for one program at most, and one that is accepted has one core.
 pub fn one_program()
@@ -33,4 +34,22 @@ pub fn accepted_cores_are_sound()
     ensures handled { (text : List ℕ) (accepted : Accepted) → IsAccepted text accepted
         → (n : ℕ) (b : BoxC) → slice_get accepted.core.nodes n ≡ Some (Rules b) → HandlesAll accepted.core b }
     ensures within { (text : List ℕ) (accepted : Accepted) → IsAccepted text accepted → IsLeast (BreaksCosts accepted.core) None }
+{}
+
+/// Each source is sound or breaks a rule for which it isn't, and never both. A sound source has one core, and so has the same source
+/// where it is accepted.
+pub fn one_sound_answer()
+    ensures some { (text : List ℕ) → ((sound : Sound) × IsSound text sound) ⊎ ((refusal : Refusal) × BreaksSoundness text refusal) }
+    ensures apart { (text : List ℕ) (sound : Sound) (refusal : Refusal) → IsSound text sound → BreaksSoundness text refusal → ⊥ }
+    ensures core { (text : List ℕ) (first second : Sound) → IsSound text first → IsSound text second → first.core ≡ second.core }
+    ensures accepted { (text : List ℕ) (sound : Sound) (accepted : Accepted) → IsSound text sound → IsAccepted text accepted → sound.core ≡ accepted.core }
+{}
+
+/// The core of a sound source is well-formed, each of its inputs and outputs has one wire between equal types, and its boxes handle all
+/// that they raise.
+pub fn sound_cores_are_wired()
+    ensures formed { (text : List ℕ) (sound : Sound) → IsSound text sound → IsWellFormed sound.core }
+    ensures wired { (text : List ℕ) (sound : Sound) → IsSound text sound → IsWired sound.core × WiresAgree sound.core }
+    ensures handled { (text : List ℕ) (sound : Sound) → IsSound text sound
+        → (n : ℕ) (b : BoxC) → slice_get sound.core.nodes n ≡ Some (Rules b) → HandlesAll sound.core b }
 {}

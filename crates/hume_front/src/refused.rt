@@ -3,7 +3,7 @@ ghost use Rattle.std.specs.Prelude.{◌≡◌, ◌≤◌, ◌⊎◌, length};
 ghost use Rattle.hume_base.specs.declared.limits.TheConstants.{MAX_SOURCE_BYTES as MOST_BYTES};
 ghost use Rattle.hume_lex.specs.BadPlaces.{IsRead, IsBadPlace};
 ghost use Rattle.parse_errors.specs.WrongTokens.{IsWrongPlace};
-ghost use Rattle.hume_front.specs.Accepted.{IsUnaccepted};
+ghost use Rattle.hume_front.specs.Accepted.{IsUnsound};
 
 use crate::error::FrontError;
 use hume_base::{Refusal, Rule, Token, line_of};
@@ -20,7 +20,7 @@ pub(crate) fn refused(rule: Rule, line: u32) -> FrontError
 pub(crate) fn bad_token(text: &[u8], error: LexError) -> FrontError
     requires short { length text.now ≤ MOST_BYTES }
     requires error { (error ≡ LexError.NoMemory) ⊎ IsBadPlace text.now error }
-    ensures { IsUnaccepted text.now result }
+    ensures { IsUnsound text.now result }
 {
     match error {
         LexError::BadChar(place) => refused(Rule::C10, line_of(text, place)),
@@ -36,7 +36,7 @@ pub(crate) fn no_program(text: &[u8], tokens: &[Token], error: ParseError) -> Fr
     requires short { length text.now ≤ MOST_BYTES }
     requires read { IsRead text.now tokens.now }
     requires error { (error ≡ ParseError.NoMemory) ⊎ IsWrongPlace tokens.now (length text.now) error }
-    ensures { IsUnaccepted text.now result }
+    ensures { IsUnsound text.now result }
 {
     match error {
         ParseError::Syntax(place) => refused(Rule::C20, line_of(text, place)),
