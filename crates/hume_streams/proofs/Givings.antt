@@ -1,5 +1,6 @@
 -- A queue before the first byte, and one that gives its first value away.
 use Rattle.std.proofs.Common.{◌≡◌, ℕ, ◌<◌, Bool, true, false, List, [], ◌∷◌, ◌++◌, map, length, drop, Option, Some, None, Result, refl, ap, sym, ◌∙◌, subst, arith, append_assoc}
+use Rattle.std.proofs.lemmas.List.{map-append}
 use Rattle.std.specs.List.{AllZip}
 use Rattle.std.specs.Io.KnownBytes.{Consumes, IsAtEnd}
 use Rattle.hume_base.specs.declared.types.Ty.{Ty}
@@ -10,13 +11,14 @@ use Rattle.hume_base.specs.Values.{is_value}
 use Rattle.hume_ports.specs.Port.{PortView}
 use Rattle.hume_streams.specs.declared.queue.FillError.{FillError}
 use Rattle.hume_streams.specs.Good.{HoldsValue, HoldValues}
-use Rattle.hume_streams.specs.Queues.{QueueView, first_view, IsQueueOf, GivesFirst}
+use Rattle.hume_streams.specs.Queues.{QueueView, first_view, IsQueueOf, GivesFirst, without_values}
 use Rattle.hume_streams.specs.Fills.{Fills}
+use Rattle.hume_streams.proofs.WithoutValues.{hold_values, leave_values}
 
 none_some : {X : Type 0} (x : X) → ◌≡◌ {A = Option X} None (Some x) → ⊥
 none_some x e = cc
 
-first_right : (types : Types) (ty : Ty) (width span : ℕ) (text : List ℕ) → IsQueueOf types ty (first_view width span) text [] text
+pub first_right : (types : Types) (ty : Ty) (width span : ℕ) (text : List ℕ) → IsQueueOf types ty (first_view width span) text [] text
 first_right types ty width span text = record {
   read = [];
   held = [];
@@ -73,7 +75,14 @@ pub fill_follows : (types : Types) (ty : Ty) (want : ℕ) (old new : QueueView) 
     → Fills types ty want old new before after result → before.left ≡ Some left → after.left ≡ Some rest → IsQueueOf types ty old text given left → IsQueueOf types ty new text given rest
 fill_follows types ty want old new before after result text left rest given f b a q =
     let split : left ≡ f.bytes ++ rest = none_left before.left after.left left rest f.bytes f.drawn.left b a in
-    f.goes_on text given rest (λ e. by_old split old.ended refl e) (subst (λ bs. IsQueueOf types ty old text given bs) split q)
+    let was = leave_values types ty old text given left q in
+    let held : List Value = was.0 in
+    let words : new.values ≡ map (flat types ty) (held ++ f.gained) =
+    f.words ∙ ap (λ rows. rows ++ map (flat types ty) f.gained) was.1 ∙ sym (map-append (flat types ty) held f.gained) in
+    hold_values types ty new text given (held ++ f.gained) rest words
+    (subst (λ vs. IsQueueOf types ty (without_values new) text vs rest) (append_assoc given held f.gained)
+    (f.goes_on text (given ++ held) rest (λ e. by_old split old.ended refl e)
+    (subst (λ bs. IsQueueOf types ty (without_values old) text (given ++ held) bs) split was.2)))
   where
     by_old : left ≡ f.bytes ++ rest → (was : Bool) → old.ended ≡ was → new.ended ≡ true → rest ≡ []
     by_old split true w e = ap (λ bs. bs ++ rest) (sym (f.end.before w).0) ∙ (sym split ∙ q.ended w)

@@ -5,6 +5,7 @@ pub mod WholeLines
 pub mod NextLines
 pub mod Drawing
 pub mod Judging
+pub mod WithoutValues
 pub mod Filling
 pub mod Draining
 pub mod Givings

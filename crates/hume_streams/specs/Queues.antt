@@ -41,6 +41,14 @@ queue_view queue = record {
 abbrev pub first_view : ℕ → ℕ → QueueView
 first_view width span = record { values = []; width = width; span = span; unread = []; ended = false; lines = 0; empty = 0 }
 
+-- the same queue without the values that it holds: what it is at in its port
+abbrev pub without_values : QueueView → QueueView
+without_values queue = record queue { values = [] }
+
+-- a queue before the first byte of another port, which keeps the values that it holds
+abbrev pub rebound : QueueView → QueueView
+rebound queue = record (first_view queue.width queue.span) { values = queue.values }
+
 -- The queue is right for this text, of which the port has the rest left: the lines that were read are not bad and hold the
 -- values that were given away and then those that the queue holds, and the lines that follow are those of the unread bytes
 -- and the rest.

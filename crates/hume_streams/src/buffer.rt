@@ -111,6 +111,16 @@ impl LineBuffer {
         self.bytes.extend_from_slice(bytes).unwrap();
     }
 
+    /// Forgets the bytes that are there, and that no more come.
+    pub fn forget(&mut self)
+        ensures unread { unread_in self.new ≡ [] }
+        ensures ended { self.new.ended ≡ false }
+    {
+        self.bytes.clear();
+        self.start = 0;
+        self.ended = false;
+    }
+
     /// Takes a line of so many bytes and its newline from the front.
     pub fn take_line(&mut self, count: usize)
         requires { count ≤ length (unread_in self.old) }

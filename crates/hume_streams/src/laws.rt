@@ -1,5 +1,5 @@
 //! Laws of the definitions, as contracts of functions that do nothing.
-ghost use Rattle.std.specs.Prelude.{◌≡◌, ◌≤◌, ◌+◌, ◌*◌, ℕ, List, length, ◌++◌, map, Option, None, Some, true, Result, slice_get};
+ghost use Rattle.std.specs.Prelude.{◌≡◌, ◌≤◌, ◌+◌, ◌*◌, ℕ, List, [], length, ◌++◌, map, Option, None, Some, true, Result, slice_get};
 ghost use Rattle.std.specs.List.{list_all};
 ghost use Rattle.hume_base.specs.declared.limits.TheConstants.{MAX_EMPTY_LINES};
 ghost use Rattle.hume_base.specs.declared.types.Ty.{Ty};
@@ -18,7 +18,7 @@ ghost use Rattle.hume_streams.specs.declared.queue.InQueue.{InQueue};
 ghost use Rattle.hume_streams.specs.Lines.{whole_lines};
 ghost use Rattle.hume_streams.specs.Good.{IsGoodUntil};
 ghost use Rattle.hume_streams.specs.Logs.{log_view};
-ghost use Rattle.hume_streams.specs.Queues.{QueueView, IsQueueOf, queue_view};
+ghost use Rattle.hume_streams.specs.Queues.{QueueView, IsQueueOf, queue_view, rebound, without_values};
 ghost use Rattle.hume_streams.specs.Fills.{Fills, HasReadWholeLines};
 
 /// Each text has good values and a first bad line, or none.
@@ -37,6 +37,19 @@ pub fn good_values_are_unique()
 pub fn bad_lines_have_small_numbers()
     ensures { (types : Types) (ty : Ty) (text : List ℕ) (good : List Value) (number : ℕ) → IsGoodUntil types ty text good (Some number)
         → number ≤ (length good + 1) * (MAX_EMPTY_LINES + 1) }
+{}
+
+/// A queue is right for a text with the values that it holds exactly where it is right without them, when they count as given.
+pub fn queues_are_right_without_what_they_hold()
+    ensures without { (types : Types) (ty : Ty) (queue : QueueView) (text rest : List ℕ) (given : List Value) → IsQueueOf types ty queue text given rest
+        → (held : List Value) × (queue.values ≡ map (flat types ty) held) × IsQueueOf types ty (without_values queue) text (given ++ held) rest }
+    ensures with { (types : Types) (ty : Ty) (queue : QueueView) (text rest : List ℕ) (given held : List Value) → queue.values ≡ map (flat types ty) held
+        → IsQueueOf types ty (without_values queue) text (given ++ held) rest → IsQueueOf types ty queue text given rest }
+{}
+
+/// A queue that goes on with another port is right for every text of that port, of which it has read nothing.
+pub fn rebound_queues_are_right_for_each_text()
+    ensures { (types : Types) (ty : Ty) (queue : QueueView) (text : List ℕ) → IsQueueOf types ty (without_values (rebound queue)) text [] text }
 {}
 
 /// What a queue gave and holds is the first of the good values of each text for which it is right.

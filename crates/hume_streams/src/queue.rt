@@ -40,7 +40,7 @@ impl InQueue {
     ghost use Rattle.hume_base.specs.Sizes.{size_of, HaveTheirSizes};
     ghost use Rattle.hume_text.specs.Bounds.{IsPrintable};
     ghost use Rattle.hume_text.specs.Names.{HaveNames};
-    ghost use Rattle.hume_streams.specs.Queues.{queue_view, first_view, IsQueueOf, GivesFirst};
+    ghost use Rattle.hume_streams.specs.Queues.{queue_view, first_view, rebound, IsQueueOf, GivesFirst};
     ghost use Rattle.hume_streams.specs.Fills.{Fills};
     ghost use Rattle.hume_streams.specs.inner.Steps.{IsStep, IsRefused};
     ghost use Rattle.hume_ports.specs.Port.{next_count};
@@ -117,6 +117,16 @@ impl InQueue {
             }
         }
         Ok(())
+    }
+
+    /// Goes on with another port, whose lines count from 1: it forgets all that it read of the old port but the values that it holds.
+    /// It takes no memory.
+    pub fn rebind(&mut self)
+        ensures { queue_view self.new ≡ rebound (queue_view self.old) }
+    {
+        self.buffer.forget();
+        self.lines = 0;
+        self.empty_lines = 0;
     }
 
     // Reads the line of so many bytes at the front, unless it is bad.

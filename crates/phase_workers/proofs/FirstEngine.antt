@@ -1,23 +1,20 @@
 -- An engine before its first superstep.
-use Rattle.std.proofs.Common.{◌≡◌, ◌≤◌, ◌<◌, ◌+◌, ℕ, max, min, true, List, [], ◌∷◌, ◌++◌, length, map, Option, None, Some, slice_get, slice_index_or, refl, ap, sym, ◌∙◌, subst, arith, inl, inr, ◌⊎◌}
+use Rattle.std.proofs.Common.{◌≡◌, ◌<◌, ℕ, List, [], length, Option, Some, slice_get, slice_index_or, refl, ap, sym, ◌∙◌, subst, arith, inl, inr}
 use Rattle.std.specs.List.{list_all}
 use Rattle.std.specs.Option.{option_to_list, unwrap_or}
 use Rattle.std.proofs.lemmas.Bool.{cases_lt}
 use Rattle.std.proofs.lemmas.Option.{slice_get_within}
-use Rattle.hume_base.specs.declared.types.Ty.{Ty}
-use Rattle.hume_base.specs.declared.types.Types.{Types}
 use Rattle.hume_base.specs.declared.types.Value.{Value}
 use Rattle.hume_base.specs.Sizes.{size_of}
 use Rattle.hume_base.specs.Values.{is_value}
 use Rattle.hume_model.specs.declared.core_tree.NodeC.TheVariants.{From, To}
 use Rattle.hume_model.specs.declared.core_tree.WireC.{WireC}
 use Rattle.hume_model.specs.declared.core_tree.Core.{Core}
-use Rattle.hume_net.specs.declared.state.Part.{Part}
 use Rattle.hume_net.specs.declared.state.State.{State}
-use Rattle.hume_net.specs.Lockstep.{lockstep, at_time}
+use Rattle.hume_net.specs.Lockstep.{lockstep}
 use Rattle.hume_net.specs.Nodes.{IsInput, IsInputStream, IsOutput, IsOutputStream}
 use Rattle.hume_net.specs.Parts.{IsStateOf}
-use Rattle.hume_net.specs.Sides.{on_wire, part_of}
+use Rattle.hume_net.specs.Sides.{on_wire}
 use Rattle.hume_net.specs.Start.{start, no_values}
 use Rattle.hume_net.specs.StatePlaces.{BoxesHandleAll}
 use Rattle.hume_net.specs.StateTyping.{ComingAreTyped}
@@ -28,9 +25,9 @@ use Rattle.hume_net.proofs.StatePlaces.{lockstep_places}
 use Rattle.hume_net.proofs.WellFormedNets.{typed_net}
 use Rattle.model_bare.specs.Bare.{bare_of}
 use Rattle.model_bare.proofs.SameCores.{same_count}
-use Rattle.hume_streams.specs.Good.{HoldValues}
-use Rattle.hume_streams.specs.Queues.{IsQueueOf, QueueView, first_view, queue_view}
+use Rattle.hume_streams.specs.Queues.{IsQueueOf, first_view, without_values}
 use Rattle.hume_streams.specs.Logs.{LogView}
+use Rattle.hume_streams.proofs.Givings.{first_right_as}
 use Rattle.wire_cells.specs.Cells.{CellView, Holds, first_cell}
 use Rattle.wire_cells.proofs.Holding.{first_holds}
 use Rattle.box_step.specs.declared.nodes.cell.Kind.{Kind}
@@ -45,28 +42,13 @@ use Rattle.step_turns.specs.declared.sides.Sides.{Sides}
 use Rattle.step_turns.specs.Homes.{IsHome}
 use Rattle.step_turns.specs.Rounds.{AreSides}
 use Rattle.phase_workers.specs.Runnable.{IsRunnable}
-use Rattle.phase_workers.specs.RightQueues.{IsRightBehind}
 use Rattle.phase_workers.specs.StreamTypes.{type_at}
 use Rattle.phase_workers.specs.inner.Making.{AreFirstNodes, AreFirstWires, first_opening}
-use Rattle.phase_workers.specs.inner.Whole.{IsQueueFor, IsWhole, heaps_of, log_without, logs_of, opening_at, queue_without, queues_of, stacks_of}
+use Rattle.phase_workers.specs.inner.Whole.{IsQueueFor, IsWhole, heaps_of, log_without, opening_at, queue_without, queues_of, stacks_of}
 use Rattle.phase_workers.proofs.AtRest.{at_rest, brought_is, zero_times}
 use Rattle.phase_workers.proofs.CellsSeen.{right_as_seen, seen_at}
 use Rattle.phase_workers.proofs.Indexes.{index_past, some_at}
 use Rattle.phase_workers.proofs.Rounding.{node_of_input}
-use Rattle.phase_workers.proofs.Joined.{quiet}
-
--- a queue before the first byte is right for each text
-pub first_is_right : (types : Types) (ty : Ty) (width span : ℕ) (text : List ℕ) → IsQueueOf types ty (first_view width span) text [] text
-first_is_right types ty width span text = record {
-  read = [];
-  held = [];
-  split = refl;
-  values = record { none_bad = λ place line at bad. cc; texts = tt };
-  words = refl;
-  lines = omega arith;
-  empty = refl;
-  ended = λ over. cc;
-}
 
 no_values_come : (core : Core) (n : ℕ) → n < length core.nodes → unwrap_or (slice_get (no_values core) n) [] ≡ []
 no_values_come core n less = ap (λ o. unwrap_or o []) (numbered_get {X = List Value} (length core.nodes) (λ m. []) n less)
@@ -134,19 +116,8 @@ module _ (core bare : Core) (sides : Sides) (span : ℕ) (nodes : List BoxCell) 
       (seen_at nodes n cell.0 cell.1).2 ∙ queue_first core span n cell.0.kind input (cells.each n cell.0 cell.1).right
       ∙ ap (λ ty. first_view (size_of core.types ty) span) (brought_is core run n input)
 
-  first_coming : (n : ℕ) → IsInputStream core n → (part_of first n).coming ≡ []
-  first_coming n input = (let node = node_of_input core n input in no_values_come core n (slice_get_within core.nodes n (From node.0) node.1))
-
-  queue_is_for : (n : ℕ) → IsInputStream core n → IsQueueFor core span n (part_of first n).coming (slice_index_or (queues_of nodes) n (first_view 0 0))
-  queue_is_for n input =
-      subst (λ vs. IsQueueFor core span n vs (slice_index_or (queues_of nodes) n (first_view 0 0))) (sym (first_coming n input))
-      (subst (IsQueueFor core span n []) (sym (queue_begun n input)) (record {
-        width = refl;
-        span_is = refl;
-        read = [];
-        gone = [];
-        right = record { right = λ rest over. first_is_right core.types (type_at core n) (size_of core.types (type_at core n)) span rest };
-      }))
+  queue_is_for : (n : ℕ) → IsInputStream core n → IsQueueFor core span n (slice_index_or (queues_of nodes) n (first_view 0 0))
+  queue_is_for n input = subst (IsQueueFor core span n) (sym (queue_begun n input)) (record { width = refl; span_is = refl })
 
   first_number : (n : ℕ) (cell : BoxCell) → slice_get nodes n ≡ Some cell → cell.number ≡ n
   first_number n cell at = (cells.each n cell at).number
@@ -211,11 +182,9 @@ module _ (core bare : Core) (sides : Sides) (span : ℕ) (nodes : List BoxCell) 
 
   -- without its values, of which there are none
   pub begun_quiet : (n : ℕ) → IsInputStream core n
-      → quiet (slice_index_or (queues_of nodes) n (first_view 0 0)) ≡ first_view (size_of core.types (type_at core n)) span
-  begun_quiet n input = ap quiet (queue_begun n input)
+      → without_values (slice_index_or (queues_of nodes) n (first_view 0 0)) ≡ first_view (size_of core.types (type_at core n)) span
+  begun_quiet n input = ap without_values (queue_begun n input)
 
   pub first_right : (n : ℕ) → IsInputStream core n → (text : List ℕ)
-      → IsQueueOf core.types (type_at core n) (quiet (slice_index_or (queues_of nodes) n (first_view 0 0))) text [] text
-  first_right n input text =
-      subst (λ q. IsQueueOf core.types (type_at core n) q text [] text) (sym (begun_quiet n input))
-      (first_is_right core.types (type_at core n) (size_of core.types (type_at core n)) span text)
+      → IsQueueOf core.types (type_at core n) (without_values (slice_index_or (queues_of nodes) n (first_view 0 0))) text [] text
+  first_right n input text = first_right_as core.types (type_at core n) _ (size_of core.types (type_at core n)) span text (begun_quiet n input)

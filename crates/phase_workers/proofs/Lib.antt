@@ -1,15 +1,17 @@
 mod Walks
 pub mod Wires
 pub mod Filled
-mod Joined
+mod ValuesRead
 mod Indexes
 mod MappedSoFar
 mod CellsSeen
 mod Rounding
 mod AtRest
+mod Halving
 mod OneCell
 mod LogCells
 mod QueueCells
+mod FilledCells
 mod NodeFilled
 mod MadeCells
 mod FirstEngine

@@ -1,20 +1,20 @@
 -- An engine of which one cell of a stream has changed.
-use Rattle.std.proofs.Common.{◌≡◌, ◌≤◌, ◌<◌, ◌+◌, ◌*◌, ◌/◌, ℕ, List, [], map, length, Option, None, Some, slice_get, slice_set, slice_index_or, refl, ap, sym, ◌∙◌, subst, arith, inl, inr, ◌⊎◌}
+use Rattle.std.proofs.Common.{◌≡◌, ℕ, List, [], map, Option, None, Some, slice_get, slice_set, slice_index_or, ap, sym, ◌∙◌, subst, inl, inr}
 use Rattle.std.specs.Option.{option_map, unwrap_or}
 use Rattle.std.proofs.lemmas.Bool.{cases_eq}
 use Rattle.std.proofs.lemmas.Option.{slice_get_within, slice_get-map}
 use Rattle.hume_base.specs.Flat.{flat}
 use Rattle.hume_model.specs.declared.core_tree.StreamC.{StreamC}
-use Rattle.hume_model.specs.declared.core_tree.NodeC.TheVariants.{Rules, From, To}
+use Rattle.hume_model.specs.declared.core_tree.NodeC.TheVariants.{To}
 use Rattle.hume_model.specs.declared.core_tree.Core.{Core}
 use Rattle.hume_net.specs.declared.state.Part.{Part}
 use Rattle.hume_net.specs.declared.state.State.{State}
-use Rattle.hume_net.specs.Lockstep.{at_time, node_at}
+use Rattle.hume_net.specs.Lockstep.{at_time}
 use Rattle.hume_net.specs.Nodes.{IsInputStream}
 use Rattle.hume_net.specs.Parts.{IsStateOf}
 use Rattle.hume_net.specs.Sides.{on_wire, part_of}
 use Rattle.hume_net.specs.StateTyping.{IsTypedState}
-use Rattle.hume_streams.specs.Queues.{QueueView, first_view}
+use Rattle.hume_streams.specs.Queues.{first_view}
 use Rattle.hume_streams.specs.Logs.{LogView}
 use Rattle.wire_cells.specs.Cells.{CellView, Holds}
 use Rattle.box_step.specs.Boxes.{IsBoxAt}
@@ -27,8 +27,7 @@ use Rattle.box_step.specs.nodes.Right.{IsRightNode, IsRightWire}
 use Rattle.box_step.specs.nodes.Sides.{brought_type, taken_type}
 use Rattle.box_step.proofs.nodes_lemmas.Begun.{first_state}
 use Rattle.step_turns.specs.declared.sides.Sides.{Sides}
-use Rattle.step_turns.specs.Rounds.{node_time}
-use Rattle.phase_workers.specs.inner.Whole.{IsWhole, IsQueueFor, queue_without, log_without, queues_of, logs_of, heaps_of, stacks_of, opening_at}
+use Rattle.phase_workers.specs.inner.Whole.{IsWhole, IsQueueFor, queue_without, log_without, queues_of, logs_of, opening_at}
 use Rattle.phase_workers.proofs.AtRest.{at_rest, home_at, part_at_first, wire_time_is, zero_times}
 use Rattle.phase_workers.proofs.CellsSeen.{seen_at, right_as_seen}
 use Rattle.phase_workers.proofs.Indexes.{get_set, get_other, index_found, length_set}
@@ -134,7 +133,7 @@ module _ (core bare : Core) (sides : Sides) (span : ℕ) (state : State) (nodes 
       }
 
   module _ (right : IsRightNode seen node 0 new.kind) (typed : IsTypedState core next) (fits : IsStateOf core next)
-      (queue_here : IsInputStream core node → IsQueueFor core span node (part_of next node).coming (queue_without (queue_in new.kind)))
+      (queue_here : IsInputStream core node → IsQueueFor core span node (queue_without (queue_in new.kind)))
       (log_here : (stream : StreamC) → slice_get core.nodes node ≡ Some (To stream) → (log_without (log_in new.kind)).span ≡ span) where
     next_right : (m : ℕ) (c : BoxCell) → slice_get cells m ≡ Some c → IsRightNode seen m 0 c.kind
     next_right m c there = elim (cases_eq m node) [
@@ -146,15 +145,12 @@ module _ (core bare : Core) (sides : Sides) (span : ℕ) (state : State) (nodes 
           (right_cell core bare sides span state nodes home count room whole m c (elsewhere m apart c there)))
     ]
 
-    next_queue : (m : ℕ) → IsInputStream core m
-        → IsQueueFor core span m (part_of next m).coming (slice_index_or (queues_of cells) m (first_view 0 0))
+    next_queue : (m : ℕ) → IsInputStream core m → IsQueueFor core span m (slice_index_or (queues_of cells) m (first_view 0 0))
     next_queue m is = elim (cases_eq m node) [
       | inl same ↦
-          subst (λ k. IsQueueFor core span k (part_of next k).coming (slice_index_or (queues_of cells) k (first_view 0 0))) (sym same)
-          (subst (IsQueueFor core span node (part_of next node).coming) (sym queue_here_is) (queue_here (subst (IsInputStream core) same is)))
-      | inr apart ↦
-          subst (λ (p : Part). IsQueueFor core span m p.coming (slice_index_or (queues_of cells) m (first_view 0 0))) (sym (parts m apart))
-          (subst (IsQueueFor core span m (part_of state m).coming) (sym (queue_elsewhere m apart)) (whole.queues m is))
+          subst (λ k. IsQueueFor core span k (slice_index_or (queues_of cells) k (first_view 0 0))) (sym same)
+          (subst (IsQueueFor core span node) (sym queue_here_is) (queue_here (subst (IsInputStream core) same is)))
+      | inr apart ↦ subst (IsQueueFor core span m) (sym (queue_elsewhere m apart)) (whole.queues m is)
     ]
 
     next_log : (m : ℕ) (stream : StreamC) → slice_get core.nodes m ≡ Some (To stream)

@@ -1,5 +1,5 @@
 -- What a round does to an engine.
-use Rattle.std.proofs.Common.{◌≡◌, ◌≤◌, ◌<◌, ◌+◌, ◌*◌, ◌/◌, ◌%◌, ◌^◌, ℕ, max, List, [], ◌++◌, map, length, Option, None, Some, slice_get, slice_index_or, refl, ap, sym, ◌∙◌, subst, arith, inl, inr, append_assoc}
+use Rattle.std.proofs.Common.{◌≡◌, ◌≤◌, ◌<◌, ◌*◌, ◌/◌, ◌%◌, ◌^◌, ℕ, max, List, [], map, length, Option, None, Some, slice_get, slice_index_or, refl, ap, sym, ◌∙◌, subst, arith, inl, inr}
 use Rattle.std.proofs.lemmas.List.{length-map}
 use Rattle.std.specs.Option.{option_map}
 use Rattle.std.proofs.lemmas.Bool.{cases_lt}
@@ -14,12 +14,10 @@ use Rattle.hume_net.specs.Lockstep.{lockstep, at_time}
 use Rattle.hume_net.specs.Nodes.{IsInput, IsInputStream, IsOutput, IsOutputStream}
 use Rattle.hume_net.specs.Plan.{IsPlan, plan_of, wires_of, producer_of, consumer_of}
 use Rattle.hume_net.specs.Sides.{on_wire, part_of}
-use Rattle.hume_net.specs.StreamSteps.{HasShrunk}
 use Rattle.hume_net.specs.Times.{wire_time}
 use Rattle.hume_net.proofs.AtTimes.{types_after}
 use Rattle.hume_net.proofs.Plans.{plan_joins, wires_counted}
 use Rattle.hume_net.proofs.StatePlaces.{lockstep_state}
-use Rattle.hume_net.proofs.StreamSteps.{coming_after}
 use Rattle.hume_net.proofs.Times.{even_state}
 use Rattle.hume_net.proofs.WellFormedNets.{typed_net}
 use Rattle.model_bare.proofs.Frames.{bare_frame, there, was_there}
@@ -39,8 +37,6 @@ use Rattle.step_turns.specs.declared.sides.Sides.{Sides}
 use Rattle.step_turns.specs.Homes.{AreRightHome, IsHome}
 use Rattle.step_turns.specs.Rounds.{AllRight, AreFrom, AreInPlace, AreUntil, HaveSpan, node_time, time_there}
 use Rattle.turn_locker.specs.Held.{items_of}
-use Rattle.phase_workers.specs.StreamTypes.{type_at}
-use Rattle.phase_workers.specs.RightQueues.{IsRightBehind}
 use Rattle.phase_workers.specs.inner.Begun.{begun_cell, begun_wire}
 use Rattle.phase_workers.specs.inner.Whole.{IsWhole, IsQueueFor, queue_without, log_without, queues_of, logs_of, heaps_of, stacks_of, opening_at}
 use Rattle.phase_workers.proofs.Indexes.{index_past, some_at}
@@ -49,10 +45,6 @@ use Rattle.phase_workers.proofs.CellsSeen.{IsNoBox, seen_at, right_as_seen, same
 -- a node that is no node has no box
 past_no_box : (core : Core) (n : ℕ) → length core.nodes ≤ n → IsNoBox (slice_get core.nodes n)
 past_no_box core n past = subst IsNoBox (sym (slice_get_past core.nodes n past)) tt
-
-same_none : (core : Core) (state : State) → lockstep core state 0 ≡ state
-unfolding lockstep
-same_none core state = refl
 
 output_of : (core : Core) (n : ℕ) (stream : StreamC) → slice_get core.nodes n ≡ Some (To stream) → IsOutputStream core n
 output_of core n stream at = subst IsOutput (sym at) tt
@@ -331,27 +323,8 @@ module _ (core bare : Core) (sides : Sides) (span : ℕ) (state : State) (nodes 
           omega (arith, after, before, none)
     ]
 
-    -- the queue of an input stream, of which some values were asserted
-    next_queue : (n : ℕ) → IsInputStream core n
-        → IsQueueFor core span n (part_of next n).coming (slice_index_or (queues_of cells) n (first_view 0 0))
-    next_queue n is =
-        let had = whole.queues n is in
-        let node = node_of_input core n is in
-        let types = core.types in
-        let sum : 0 + steps ≡ steps = omega arith in
-        let shrunk : HasShrunk steps (part_of state n).coming (part_of next n).coming =
-        subst (λ s. HasShrunk steps (part_of s n).coming (part_of next n).coming) (same_none core state)
-        (subst (λ k. HasShrunk steps (part_of (lockstep core state 0) n).coming (part_of (lockstep core state k) n).coming) sum
-        (coming_after core state n (From node.0) node.1 0 steps)) in
-        let all : had.gone ++ (part_of state n).coming ≡ (had.gone ++ shrunk.gone) ++ (part_of next n).coming =
-        ap (λ vs. had.gone ++ vs) shrunk.is ∙ sym (append_assoc had.gone shrunk.gone (part_of next n).coming) in
-        subst (IsQueueFor core span n (part_of next n).coming) (sym (queue_same n)) (record {
-          width = had.width;
-          span_is = had.span_is;
-          read = had.read;
-          gone = had.gone ++ shrunk.gone;
-          right = subst (IsRightBehind types (type_at core n) (slice_index_or (queues_of nodes) n (first_view 0 0)) had.read) all had.right;
-        })
+    next_queue : (n : ℕ) → IsInputStream core n → IsQueueFor core span n (slice_index_or (queues_of cells) n (first_view 0 0))
+    next_queue n is = subst (IsQueueFor core span n) (sym (queue_same n)) (whole.queues n is)
 
     pub next_whole : IsWhole core bare sides span next cells wires count room
     next_whole = record {

@@ -1,10 +1,10 @@
 -- What an engine is at.
-use Rattle.std.specs.Prelude.{◌≡◌, ℕ, List, [], slice_index_or}
+use Rattle.std.specs.Prelude.{◌≡◌, ℕ, List, slice_index_or}
 use Rattle.hume_base.specs.declared.types.Value.{Value}
 use Rattle.hume_model.specs.declared.core_tree.Core.{Core}
 use Rattle.hume_net.specs.declared.state.State.{State}
 use Rattle.hume_net.specs.Sides.{part_of}
-use Rattle.hume_streams.specs.Queues.{QueueView, first_view}
+use Rattle.hume_streams.specs.Queues.{QueueView, first_view, without_values}
 use Rattle.phase_workers.specs.RightQueues.{IsRightBehind}
 use Rattle.phase_workers.specs.StreamTypes.{type_at}
 
@@ -30,9 +30,9 @@ span_of engine = engine.span
 abbrev pub state_of : EngineView → State
 state_of engine = engine.state
 
--- what was read for an input stream, without the values, which come to the node
+-- what was read of the present port of an input stream, without the values, which come to the node
 abbrev pub queue_at : EngineView → ℕ → QueueView
-queue_at engine node = record (slice_index_or engine.queues node (first_view 0 0)) { values = [] }
+queue_at engine node = without_values (slice_index_or engine.queues node (first_view 0 0))
 
 -- the values that have yet to come from an input stream
 abbrev pub coming_at : EngineView → ℕ → List Value
@@ -51,7 +51,6 @@ pub record ArePeaksKept (old new : EngineView) : Type 0 where
   pub heap : (node : ℕ) → heap_peak_at new node ≡ heap_peak_at old node
   pub stack : (node : ℕ) → stack_peak_at new node ≡ stack_peak_at old node
 
--- The queue of an input stream is right behind the bytes that were read for it: these values are those that it asserted and those
--- that have yet to come.
+-- The queue of an input stream is right behind the bytes that were read of its present port, which held these values.
 abbrev pub IsRight : EngineView → ℕ → List ℕ → List Value → Type 0
 IsRight engine node read given = IsRightBehind (core_of engine).types (type_at (core_of engine) node) (queue_at engine node) read given

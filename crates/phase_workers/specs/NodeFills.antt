@@ -22,21 +22,20 @@ fed_at node values state = record state { coming = slice_set state.coming node (
 abbrev pub HasEnough : ℕ → EngineView → ℕ → Type 0
 HasEnough want engine node = want ≤ length (coming_at engine node)
 
--- Nothing is left to read. Of each text for which the queue is right, the values that were asserted and those to come are all, and
--- no line is bad.
+-- Nothing is left to read. Of each text for which the queue is right, the values that were read are all, and no line is bad.
 pub record HasReadAll (engine : EngineView) (node : ℕ) : Type 0 where
   pub ended : (queue_at engine node).ended ≡ true
-  pub all : (text : List ℕ) (gone : List Value)
-      → IsQueueOf (core_of engine).types (type_at (core_of engine) node) (queue_at engine node) text (gone ++ coming_at engine node) []
-      → IsGoodUntil (core_of engine).types (type_at (core_of engine) node) text (gone ++ coming_at engine node) None
+  pub all : (text : List ℕ) (read : List Value)
+      → IsQueueOf (core_of engine).types (type_at (core_of engine) node) (queue_at engine node) text read []
+      → IsGoodUntil (core_of engine).types (type_at (core_of engine) node) text read None
 
--- The next line is bad. Of each text for which the queue is right, the values that were asserted and those to come are the ones
--- before the first bad line, whose number is told, up to the last one that 64 bits can tell.
+-- The next line is bad. Of each text for which the queue is right, the values that were read are those before the first bad line,
+-- whose number is told, up to the last one that 64 bits can tell.
 abbrev pub StandsBefore : EngineView → ℕ → ℕ → Type 0
-StandsBefore engine node line = (text : List ℕ) (gone : List Value) (rest : List ℕ)
-    → IsQueueOf (core_of engine).types (type_at (core_of engine) node) (queue_at engine node) text (gone ++ coming_at engine node) rest
+StandsBefore engine node line = (text : List ℕ) (read : List Value) (rest : List ℕ)
+    → IsQueueOf (core_of engine).types (type_at (core_of engine) node) (queue_at engine node) text read rest
     → (number : ℕ) × (line ≡ min number last_count)
-    × IsGoodUntil (core_of engine).types (type_at (core_of engine) node) text (gone ++ coming_at engine node) (Some number)
+    × IsGoodUntil (core_of engine).types (type_at (core_of engine) node) text read (Some number)
 
 -- Too few values come, and no whole line is unread.
 pub record HasReadTooFew (want : ℕ) (engine : EngineView) (node : ℕ) : Type 0 where
@@ -50,7 +49,7 @@ EndsFill want engine node (Err (BadValue line)) = (HasEnough want engine node �
 EndsFill want engine node (Err Failed) = HasReadTooFew want engine node
 
 -- A fill read some bytes of the first port with that name, and the values of their lines come to the node. For every text for
--- which the queue was right, with these bytes next, it is right again behind them.
+-- which the queue was right, with these bytes next, it is right again behind them, with these values behind those that it had read.
 pub record FillsNode (want : ℕ) (old new : EngineView) (node : ℕ) (name : List ℕ) (olds news : List PortView) (result : Result (Unit {0}) FillError) : Type 0 where
   pub bytes : List ℕ
   pub values : List Value
@@ -60,7 +59,7 @@ pub record FillsNode (want : ℕ) (old new : EngineView) (node : ℕ) (name : Li
   -- it never reads on once a read gave nothing, and where the port tells what it has left there is then nothing
   pub stays : (queue_at old node).ended ≡ true → (bytes ≡ []) × ((queue_at new node).ended ≡ true)
   pub ended : (queue_at old node).ended ≡ false → (queue_at new node).ended ≡ true → IsAtEnd (left_of name news)
-  pub goes_on : (text : List ℕ) (gone : List Value) (rest : List ℕ) → ((queue_at new node).ended ≡ true → rest ≡ [])
-      → IsQueueOf (core_of old).types (type_at (core_of old) node) (queue_at old node) text (gone ++ coming_at old node) (bytes ++ rest)
-      → IsQueueOf (core_of old).types (type_at (core_of old) node) (queue_at new node) text ((gone ++ coming_at old node) ++ values) rest
+  pub goes_on : (text : List ℕ) (read : List Value) (rest : List ℕ) → ((queue_at new node).ended ≡ true → rest ≡ [])
+      → IsQueueOf (core_of old).types (type_at (core_of old) node) (queue_at old node) text read (bytes ++ rest)
+      → IsQueueOf (core_of old).types (type_at (core_of old) node) (queue_at new node) text (read ++ values) rest
   pub ends : EndsFill want new node result

@@ -29,7 +29,7 @@ use crate::begin::{begin_nodes, begin_wires};
 use crate::making::{make_home, make_nodes};
 use crate::seen::{Deed, Seen};
 use crate::stepping::step_all;
-use crate::streams::{clear_cell, drain_cell, fill_cell};
+use crate::streams::{clear_cell, drain_cell, fill_cell, rebind_cell};
 use box_code::BoxProgram;
 use box_step::nodes::BoxCell;
 use hume_base::List;
@@ -51,15 +51,15 @@ use wiring_check::Wiring;
 /// run needs is taken when it is made.
 #[derive(Drop)]
 pub struct Engine {
-    core: Core,
-    bare: Core,
-    sides: Sides,
-    nodes: Vec<BoxCell>,
+    pub(crate) core: Core,
+    pub(crate) bare: Core,
+    pub(crate) sides: Sides,
+    pub(crate) nodes: Vec<BoxCell>,
     // at the number of each wire its cell
-    home: Vec<Option<WireCell>>,
-    bench: Vec<WireCell>,
-    span: u32,
-    seen: Seen,
+    pub(crate) home: Vec<Option<WireCell>>,
+    pub(crate) bench: Vec<WireCell>,
+    pub(crate) span: u32,
+    pub(crate) seen: Seen,
 }
 
 impl Model for Engine {
@@ -156,6 +156,22 @@ impl Engine {
     {
         let cell = &mut self.nodes[node as usize];
         fill_cell(cell, &mut self.seen, &self.core, node, ports, at, want)
+    }
+
+    /// The input stream goes on with another port, whose lines count from 1: what was read of its old port is forgotten but for the
+    /// values to come. It takes no memory.
+    pub fn rebind(&mut self, node: u32)
+        requires { IsInputStream (core_of self.old) node }
+        ensures core { core_of self.new ≡ core_of self.old }
+        ensures span { span_of self.new ≡ span_of self.old }
+        ensures state { state_of self.new ≡ state_of self.old }
+        ensures peaks { ArePeaksKept self.old self.new }
+        ensures begun { queue_at self.new node ≡ first_view (size_of (core_of self.old).types (type_at (core_of self.old) node)) (span_of self.old) }
+        ensures right { (text : List ℕ)
+            → IsQueueOf (core_of self.old).types (type_at (core_of self.old) node) (queue_at self.new node) text [] text }
+        ensures others { (other : ℕ) → (other ≡ node → ⊥) → queue_at self.new other ≡ queue_at self.old other }
+    {
+        rebind_cell(&mut self.nodes[node as usize]);
     }
 
     /// Makes `steps` supersteps by at most `workers` threads, this one included. Several threads share a table, for which it asks for

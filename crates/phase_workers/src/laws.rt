@@ -9,7 +9,7 @@ ghost use Rattle.hume_net.specs.Nodes.{IsInputStream, IsOutputStream};
 ghost use Rattle.hume_ports.specs.Port.{PortView};
 ghost use Rattle.hume_streams.specs.declared.queue.FillError.{FillError};
 ghost use Rattle.hume_text.specs.Bounds.{IsPrintable};
-ghost use Rattle.phase_workers.specs.Engines.{EngineView, coming_at, core_of, IsRight};
+ghost use Rattle.phase_workers.specs.Engines.{EngineView, core_of, IsRight};
 ghost use Rattle.phase_workers.specs.NodeFills.{FillsNode};
 ghost use Rattle.phase_workers.specs.Runnable.{IsRunnable};
 ghost use Rattle.phase_workers.specs.StreamTypes.{type_at};
@@ -34,6 +34,5 @@ pub fn stream_types_have_texts()
 pub fn engines_stay_right()
     ensures { (want : ℕ) (old new : EngineView) (node : ℕ) (name : List ℕ) (olds news : List PortView) (result : Result (Unit {0}) FillError)
         → (fill : FillsNode want old new node name olds news result) → core_of new ≡ core_of old
-        → (read : List ℕ) (gone : List Value) → IsRight old node read (gone ++ coming_at old node)
-        → IsRight new node (read ++ fill.bytes) ((gone ++ coming_at old node) ++ fill.values) }
+        → (bytes : List ℕ) (read : List Value) → IsRight old node bytes read → IsRight new node (bytes ++ fill.bytes) (read ++ fill.values) }
 {}

@@ -1,8 +1,8 @@
-//! All half steps of a round: those that workers made, and those that are left.
-ghost use Rattle.std.specs.Prelude.{◌≡◌, ◌*◌, ◌<◌, ◌≤◌, ◌^◌, length, vec_len, vec_capacity};
+//! All half steps of a round: those that workers made, and those that are left. And those of one time.
+ghost use Rattle.std.specs.Prelude.{◌≡◌, ◌+◌, ◌*◌, ◌%◌, ◌<◌, ◌≤◌, ◌^◌, ℕ, length, vec_len, vec_capacity};
 ghost use Rattle.hume_net.specs.Plan.{IsPlan, plan_of};
 ghost use Rattle.box_step.specs.nodes.Openings.{Opening, IsOpeningOf};
-ghost use Rattle.step_turns.specs.Rounds.{AllRight, AreFrom, AreInPlace, AreSides, AreUntil, HaveSpan};
+ghost use Rattle.step_turns.specs.Rounds.{AllRight, AreFrom, AreInPlace, AreSides, AreUntil, HasSpan, HaveSpan};
 ghost use Rattle.turn_locker.specs.Held.{items_of};
 
 use box_step::nodes::BoxCell;
@@ -48,4 +48,32 @@ pub(crate) fn step_all<R: Threads + Sync, G: Gate>(
         rt, alloc, core, sides, room, steps, workers, gate, nodes, home,
     );
     step_turns::round(core, sides, steps, nodes, home, bench);
+}
+
+/// Makes the half step of each node that is at the time. No node is before it.
+pub(crate) fn sweep_all(
+    core: &Core,
+    sides: &Sides,
+    time: u64,
+    nodes: &mut Vec<BoxCell>,
+    home: &mut Vec<Option<WireCell>>,
+    bench: &mut Vec<WireCell>,
+)
+    requires time { time < 2 ^ 40 }
+    requires plan { IsPlan (plan_of core.now) }
+    requires place { AreInPlace core.now nodes.old.items home.old.items }
+    requires wires { length home.old.items ≡ length core.now.wires }
+    requires from { AreFrom time nodes.old.items }
+    requires sides { AreSides core.now (vec_capacity bench.old) sides.now }
+    requires bench { vec_len bench.old ≡ 0 }
+    requires right { (opening : Opening) × IsOpeningOf core.now opening × AllRight opening nodes.old.items home.old.items × (time % 2 ≡ 0 → HasSpan opening time) }
+    ensures place { AreInPlace core.now nodes.new.items home.new.items }
+    ensures wires { length home.new.items ≡ length core.now.wires }
+    ensures from { AreFrom (time + 1) nodes.new.items }
+    ensures until { (most : ℕ) → time < most → AreUntil most nodes.old.items → AreUntil most nodes.new.items }
+    ensures bench { (vec_len bench.new ≡ 0) × (vec_capacity bench.new ≡ vec_capacity bench.old) }
+    ensures right { (opening : Opening) → IsOpeningOf core.now opening → AllRight opening nodes.old.items home.old.items
+        → AllRight opening nodes.new.items home.new.items }
+{
+    step_turns::sweep(core, sides, time, nodes, home, bench);
 }

@@ -9,7 +9,7 @@ ghost use Rattle.hume_ports.specs.Delivery.{Roomy};
 ghost use Rattle.hume_streams.specs.declared.queue.InQueue.{InQueue as AnyQueue};
 ghost use Rattle.hume_streams.specs.declared.log.OutLog.{OutLog as AnyLog};
 ghost use Rattle.hume_streams.specs.Logs.{LogView, log_view};
-ghost use Rattle.hume_streams.specs.Queues.{queue_view};
+ghost use Rattle.hume_streams.specs.Queues.{queue_view, rebound};
 ghost use Rattle.hume_streams.specs.places.FillsOfPorts.{NoReadFails};
 ghost use Rattle.hume_streams.specs.places.LineWrites.{line_writes};
 ghost use Rattle.hume_text.specs.Chunks.{bytes_in, room_of};
@@ -19,7 +19,7 @@ ghost use Rattle.port_acts.specs.Ends.{Ends, never};
 ghost use Rattle.box_step.specs.nodes.Lends.{log_in, queue_in};
 ghost use Rattle.phase_workers.specs.Runnable.{IsRunnable};
 ghost use Rattle.phase_workers.specs.StreamTypes.{type_at};
-ghost use Rattle.phase_workers.specs.inner.Filling.{HasLog, IsFilled};
+ghost use Rattle.phase_workers.specs.inner.Filling.{HasLog, HasQueue, IsFilled};
 
 use crate::seen::{Deed, Seen};
 use crate::stream_types::stream_type;
@@ -61,6 +61,17 @@ pub(crate) fn fill_cell(
             *seen = seen.then(&Deed::Filled(node, types, ty, queue));
             filled
         }
+    }
+}
+
+/// The queue of an input stream then goes on with another port.
+pub(crate) fn rebind_cell(cell: &mut BoxCell)
+    requires { (queue : AnyQueue) × (queue_in cell.old.kind ≡ Some queue) }
+    ensures { HasQueue cell.old cell.new rebound }
+{
+    match cell.queue() {
+        None => unreachable!(),
+        Some(queue) => queue.rebind(),
     }
 }
 

@@ -27,8 +27,8 @@ use Rattle.box_step.specs.nodes.Right.{HasRoom, IsRightNode}
 use Rattle.box_step.specs.nodes.Sides.{taken_type}
 use Rattle.box_step.proofs.nodes_lemmas.Begun.{first_state}
 use Rattle.step_turns.specs.Homes.{AreRightThere, IsHome, IsOutside, IsSideOf}
-use Rattle.step_turns.specs.Rounds.{AllRight, AreInPlace, AreUntil, HaveSpan, IsWholeSide, node_time, time_there}
-use Rattle.step_turns.specs.inner.Sweeps.{AreSwept, HasSpan}
+use Rattle.step_turns.specs.Rounds.{AllRight, AreInPlace, AreUntil, HasSpan, HaveSpan, IsWholeSide, node_time, time_there}
+use Rattle.step_turns.specs.inner.Sweeps.{AreSwept}
 use Rattle.step_turns.proofs.Lifting.{set_here, set_elsewhere}
 
 -- what stands at a place of a list doesn't depend on what is given where there is no such place

@@ -3,8 +3,8 @@ ghost use Rattle.std.specs.Prelude.{◌≡◌, ◌+◌, ◌*◌, ◌<◌, ◌≤
 ghost use Rattle.hume_model.specs.declared.core_tree.Core.{Core as AnyCore};
 ghost use Rattle.hume_net.specs.Plan.{IsPlan, plan_of};
 ghost use Rattle.box_step.specs.nodes.Openings.{Opening, IsOpeningOf};
-ghost use Rattle.step_turns.specs.Rounds.{AllRight, AreFrom, AreInPlace, AreSides, AreUntil, HaveSpan, IsWholeSide};
-ghost use Rattle.step_turns.specs.inner.Sweeps.{AreSwept, HasSpan};
+ghost use Rattle.step_turns.specs.Rounds.{AllRight, AreFrom, AreInPlace, AreSides, AreUntil, HasSpan, HaveSpan, IsWholeSide};
+ghost use Rattle.step_turns.specs.inner.Sweeps.{AreSwept};
 
 use crate::sides::Sides;
 use crate::turns::turn;
@@ -40,8 +40,8 @@ pub fn round(
     }
 }
 
-// Each node that is at the time makes its half step. No node is before the time.
-fn sweep(
+/// Each node that is at the time makes its half step. No node is before the time. It takes no memory.
+pub fn sweep(
     core: &Core,
     sides: &Sides,
     time: u64,

@@ -9,7 +9,7 @@ use Rattle.hume_ports.specs.Ports.{ForNameAt, StepAt}
 use Rattle.hume_streams.specs.declared.queue.FillError.{FillError}
 use Rattle.hume_streams.specs.declared.queue.InQueue.{InQueue}
 use Rattle.hume_streams.specs.declared.log.OutLog.{OutLog}
-use Rattle.hume_streams.specs.Queues.{queue_view}
+use Rattle.hume_streams.specs.Queues.{QueueView, queue_view}
 use Rattle.hume_streams.specs.Logs.{LogView, log_view}
 use Rattle.hume_streams.specs.Fills.{Fills}
 use Rattle.hume_streams.specs.places.FillsOfPorts.{FillsFrom}
@@ -26,6 +26,14 @@ pub record IsFilled (types : Types) (ty : Ty) (want node at : ℕ) (old new : Bo
   pub state : after ≡ record before { coming = slice_set before.coming node (map (value_from types ty) (queue_view later).values) }
   pub step : StepAt olds news at (λ before_port after_port. Fills types ty want (queue_view queue) (queue_view later) before_port after_port result)
   pub fills : ForNameAt at olds (λ name. FillsFrom types ty want (queue_view queue) (queue_view later) name olds news result)
+
+-- The cell has another queue, which is this one.
+pub record HasQueue (old new : BoxCell) (is : QueueView → QueueView) : Type 0 where
+  pub queue : InQueue
+  pub later : InQueue
+  pub had : queue_in old.kind ≡ Some queue
+  pub cell : new ≡ record old { kind = with_queue old.kind later }
+  pub changed : queue_view later ≡ is (queue_view queue)
 
 -- The cell has another log, which is this one.
 pub record HasLog (old new : BoxCell) (is : LogView → LogView) : Type 0 where

@@ -1,17 +1,15 @@
 -- What an engine keeps between two calls.
-use Rattle.std.specs.Prelude.{◌≡◌, ℕ, List, [], ◌++◌, map, length, Option, None, Some, slice_get, slice_index_or}
+use Rattle.std.specs.Prelude.{◌≡◌, ℕ, List, [], map, length, Option, None, Some, slice_get, slice_index_or}
 use Rattle.hume_base.specs.Sizes.{size_of}
-use Rattle.hume_base.specs.declared.types.Value.{Value}
 use Rattle.hume_model.specs.declared.core_tree.StreamC.{StreamC}
 use Rattle.hume_model.specs.declared.core_tree.NodeC.TheVariants.{To}
 use Rattle.hume_model.specs.declared.core_tree.Core.{Core}
 use Rattle.hume_net.specs.declared.state.State.{State}
 use Rattle.hume_net.specs.Nodes.{IsInputStream}
 use Rattle.hume_net.specs.Parts.{IsStateOf}
-use Rattle.hume_net.specs.Sides.{part_of}
 use Rattle.hume_streams.specs.declared.queue.InQueue.{InQueue}
 use Rattle.hume_streams.specs.declared.log.OutLog.{OutLog}
-use Rattle.hume_streams.specs.Queues.{QueueView, queue_view, first_view}
+use Rattle.hume_streams.specs.Queues.{QueueView, queue_view, first_view, without_values}
 use Rattle.hume_streams.specs.Logs.{LogView, log_view}
 use Rattle.wire_cells.specs.Cells.{CellView}
 use Rattle.box_step.specs.declared.nodes.cell.BoxCell.{BoxCell}
@@ -21,14 +19,13 @@ use Rattle.box_step.specs.nodes.Right.{heap_peak_of, stack_peak_of}
 use Rattle.step_turns.specs.declared.sides.Sides.{Sides}
 use Rattle.step_turns.specs.Rounds.{AllRight, AreInPlace, AreSides}
 use Rattle.phase_workers.specs.Engines.{EngineView}
-use Rattle.phase_workers.specs.RightQueues.{IsRightBehind}
 use Rattle.phase_workers.specs.Runnable.{IsRunnable}
 use Rattle.phase_workers.specs.StreamTypes.{type_at}
 
 -- a queue that may be missing, without its values
 abbrev pub queue_without : Option InQueue → QueueView
 queue_without None = first_view 0 0
-queue_without (Some queue) = record (queue_view queue) { values = [] }
+queue_without (Some queue) = without_values (queue_view queue)
 
 -- a log that may be missing, without its values
 abbrev pub log_without : Option OutLog → LogView
@@ -69,14 +66,10 @@ opening_at core state nodes = record {
   logs = λ n. slice_index_or (logs_of nodes) n (log_without None);
 }
 
--- The queue is for values of an input stream, with room for so many, and right behind some bytes for the values that the stream has
--- asserted and those that have yet to come.
-pub record IsQueueFor (core : Core) (span n : ℕ) (coming : List Value) (queue : QueueView) : Type 0 where
+-- The queue is for values of an input stream, with room for so many.
+pub record IsQueueFor (core : Core) (span n : ℕ) (queue : QueueView) : Type 0 where
   pub width : queue.width ≡ size_of core.types (type_at core n)
   pub span_is : queue.span ≡ span
-  pub read : List ℕ
-  pub gone : List Value
-  pub right : IsRightBehind core.types (type_at core n) queue read (gone ++ coming)
 
 -- The cells are those of the core's net at the state, each at time 0 and at its place, with room for so many values in each queue
 -- and log. No cell is on the bench.
@@ -90,7 +83,6 @@ pub record IsWhole (core bare : Core) (sides : Sides) (span : ℕ) (state : Stat
   pub begun : (n : ℕ) (cell : BoxCell) → slice_get nodes n ≡ Some cell → cell.time ≡ 0
   pub sides_are : AreSides bare room sides
   pub clear : count ≡ 0
-  pub queues : (n : ℕ) → IsInputStream core n
-      → IsQueueFor core span n (part_of state n).coming (slice_index_or (queues_of nodes) n (first_view 0 0))
+  pub queues : (n : ℕ) → IsInputStream core n → IsQueueFor core span n (slice_index_or (queues_of nodes) n (first_view 0 0))
   pub logs : (n : ℕ) (stream : StreamC) → slice_get core.nodes n ≡ Some (To stream) → (slice_index_or (logs_of nodes) n (log_without None)).span ≡ span
   pub fits : IsStateOf core state

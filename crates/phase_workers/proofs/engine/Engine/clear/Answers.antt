@@ -3,7 +3,7 @@ use Rattle.std.proofs.lemmas.Option.{slice_get_within}
 use Rattle.hume_base.specs.Flat.{flat}
 use Rattle.hume_net.specs.Nodes.{IsOutputStream}
 use Rattle.hume_streams.specs.Logs.{LogView}
-use Rattle.hume_streams.specs.Queues.{first_view}
+use Rattle.hume_streams.specs.Queues.{first_view, without_values}
 use Rattle.box_step.specs.declared.nodes.cell.BoxCell.{BoxCell}
 use Rattle.box_step.specs.nodes.Lends.{log_in}
 use Rattle.phase_workers.specs.Engines.{EngineView, core_of, heap_peak_at, queue_at, stack_peak_at}
@@ -14,7 +14,6 @@ use Rattle.phase_workers.proofs.AtRest.{log_there}
 use Rattle.phase_workers.proofs.Indexes.{index_at}
 use Rattle.phase_workers.proofs.LogCells.{log_whole, queues_kept, heaps_kept, stacks_kept, cleared, cleared_fits, cleared_here, cleared_other, cleared_typed}
 use Rattle.phase_workers.proofs.Rounding.{node_of_output}
-use Rattle.phase_workers.proofs.Joined.{quiet}
 use Rattle.phase_workers.proofs.engine.Engine.clear.Goals as goal
 
 pub clear_cell-requires : goal.clear_cell-requires
@@ -54,7 +53,7 @@ returns-clause-queues c = λ m.
     let its = log_there _ _ _ _ _ _ _ _ _ whole n is in
     let cell = index_at inside.nodes.items n its.0 c.index_mut.result.now its.1 c.index_mut.ensures.value in
     let done = subst (λ k. HasLog k c.clear_cell.new.cell (λ (log : LogView). record log { values = [] })) cell c.clear_cell.ensures in
-    ap (λ qs. quiet (slice_index_or qs m (first_view 0 0))) (queues_kept _ _ _ _ _ _ _ _ _ whole n is its.0 c.clear_cell.new.cell its.1 done.log done.later done.had
+    ap (λ qs. without_values (slice_index_or qs m (first_view 0 0))) (queues_kept _ _ _ _ _ _ _ _ _ whole n is its.0 c.clear_cell.new.cell its.1 done.log done.later done.had
     done.cell)
     ∙ ap (λ (v : EngineView). queue_at v m) c.self.view_is
 

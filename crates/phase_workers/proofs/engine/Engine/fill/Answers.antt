@@ -8,7 +8,8 @@ use Rattle.phase_workers.specs.inner.Whole.{IsWhole}
 use Rattle.phase_workers.proofs.AtRest.{queue_there}
 use Rattle.phase_workers.proofs.Indexes.{index_at}
 use Rattle.phase_workers.proofs.NodeFilled.{fills_node, not_failed}
-use Rattle.phase_workers.proofs.QueueCells.{heaps_kept, queue_whole, stacks_kept}
+use Rattle.phase_workers.proofs.FilledCells.{filled_whole}
+use Rattle.phase_workers.proofs.QueueCells.{heaps_kept, stacks_kept}
 use Rattle.phase_workers.proofs.engine.Engine.fill.Goals as goal
 
 pub fill_cell-requires-clause-queue : goal.fill_cell-requires-clause-queue
@@ -35,7 +36,7 @@ invariant_of-self g c =
     let ends = ends_of _ _ _ _ done.step in
     subst (λ s. IsWhole inside.core inside.bare inside.sides inside.span s (slice_set inside.nodes.items n c.fill_cell.new.cell) inside.home.items
     (vec_len inside.bench) (vec_capacity inside.bench)) (sym done.state)
-    (queue_whole _ _ _ _ _ _ _ _ _ whole n is its.0 c.fill_cell.new.cell its.1 done.queue done.later had new_is c.args.want ends.before ends.after
+    (filled_whole _ _ _ _ _ _ _ _ _ whole n is its.0 c.fill_cell.new.cell its.1 done.queue done.later had new_is c.args.want ends.before ends.after
     c.fill_cell.result ends.steps)
 
 pub returns-clause-peaks : goal.returns-clause-peaks

@@ -1,12 +1,11 @@
 use Rattle.std.proofs.Common.{slice_get, slice_index_or, length, map, max, sym, ap, ◌∙◌, vec_len, vec_capacity}
-use Rattle.hume_streams.specs.Queues.{first_view}
+use Rattle.hume_streams.specs.Queues.{first_view, without_values}
 use Rattle.net_costs.specs.Steps.{peaks}
 use Rattle.phase_workers.specs.Engines.{EngineView, core_of, heap_peak_at, queue_at, stack_peak_at, state_of}
 use Rattle.phase_workers.specs.inner.Begun.{begun_cell, begun_wire}
 use Rattle.phase_workers.specs.inner.Whole.{heaps_of, opening_at, queues_of, stacks_of}
 use Rattle.phase_workers.proofs.Indexes.{all_items}
 use Rattle.phase_workers.proofs.Rounding.{plan_is, few_items, even_times, queue_same, heap_more, stack_more, whole_after}
-use Rattle.phase_workers.proofs.Joined.{quiet}
 use Rattle.phase_workers.proofs.engine.Engine.round.Goals as goal
 
 pub step_all-requires-clause-plan : goal.step_all-requires-clause-plan
@@ -43,8 +42,8 @@ returns-clause-queues g c = λ n.
     let right = c.step_all.ensures.right (opening_at inside.core inside.seen.state inside.nodes.items) whole.opens whole.right in
     let cells = all_items c.step_all.new.nodes.len c.begin_nodes.new.nodes c.step_all.new.nodes.items c.step_all.new.nodes.ok.0
     (c.begin_nodes.auto.nodes ∙ ap length c.deref_mut.ensures.value) ∙ c.begin_nodes.ensures ∙ ap (map begun_cell) c.deref_mut.ensures.value in
-    ap (λ ns. quiet (slice_index_or (queues_of ns) n (first_view 0 0))) cells
-    ∙ ap quiet (queue_same inside.core inside.bare inside.sides inside.span inside.seen.state inside.nodes.items inside.home.items (vec_len inside.bench)
+    ap (λ ns. without_values (slice_index_or (queues_of ns) n (first_view 0 0))) cells
+    ∙ ap without_values (queue_same inside.core inside.bare inside.sides inside.span inside.seen.state inside.nodes.items inside.home.items (vec_len inside.bench)
     (vec_capacity inside.bench) whole c.args.steps c.step_all.new.nodes.items c.step_all.new.home.items c.step_all.ensures.place c.step_all.ensures.until
     c.step_all.ensures.from right c.step_all.ensures.wires n)
     ∙ ap (λ (v : EngineView). queue_at v n) c.self.view_is
