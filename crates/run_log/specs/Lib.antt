@@ -1,0 +1,6 @@
+pub mod Logs
+pub mod Nets
+pub mod Moments
+pub mod Faults
+pub mod Compared
+pub mod inner

@@ -1,0 +1,4 @@
+pub mod Blocks
+pub mod Forgetting
+pub mod LineReads
+pub mod LinesRead
