@@ -4,7 +4,8 @@
 //! whose node a node is. What the union is and why each program runs in it as alone is said in `union_laws`.
 //!
 //! Proved: `join` gives exactly the union that is defined, if memory doesn't run out, and `owner` the program whose node it is.
-//! `unite` gives that union only where it has room (`HasRoom` of `union_laws`), and answers `OverLimit` only where it has none.
+//! `unite` answers `OverLimit` exactly where the union has no room (`HasRoom` of `union_laws`), and otherwise gives it, if memory
+//! doesn't run out.
 //!
 //! It knows cores. It doesn't know sources or runs.
 #![tactic(auto)]

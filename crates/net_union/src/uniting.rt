@@ -33,7 +33,8 @@ pub fn unite(alloc: Global, a: &Core, b: &Core) -> Result<Core, UniteError>
     requires second { IsWellFormed b.now }
     ensures united { IfOk result (λ core. core ≡ united a.now b.now) }
     ensures room { OnOk result (HasRoom (united a.now b.now)) }
-    ensures refused { IfErr result (λ error. (error ≡ NoMemory) ⊎ ((error ≡ OverLimit) × (HasRoom (united a.now b.now) → ⊥))) }
+    ensures refused { IfErr result (λ error. ((error ≡ OverLimit) × (HasRoom (united a.now b.now) → ⊥))
+        ⊎ ((error ≡ NoMemory) × HasRoom (united a.now b.now))) }
 {
     if !has_room(a, b) {
         return Err(UniteError::OverLimit);

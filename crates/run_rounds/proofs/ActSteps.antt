@@ -1,5 +1,5 @@
 -- The acts of a run, read by read and round by round.
-use Rattle.std.proofs.Common.{◌≡◌, ◌⊎◌, ℕ, suc, ◌+◌, ◌-◌, ◌<◌, ◌≤◌, Bool, true, false, true≢false, List, [], ◌∷◌, ◌++◌, length, Option, None, Some, slice_get, refl, ap, sym, ◌∙◌, inl, inr, arith}
+use Rattle.std.proofs.Common.{◌≡◌, ℕ, suc, ◌+◌, ◌-◌, ◌<◌, ◌≤◌, Bool, true, false, true≢false, List, ◌++◌, length, Option, None, Some, slice_get, refl, ap, sym, ◌∙◌, inl, inr, arith}
 use Rattle.std.proofs.lemmas.Bool.{cases_lt}
 use Rattle.std.proofs.lemmas.List.{append_assoc}
 use Rattle.std.specs.Option.{is_some}
@@ -8,10 +8,10 @@ use Rattle.hume_model.specs.declared.core_tree.Core.{Core}
 use Rattle.hume_net.specs.rounds.Blocked.{blocks}
 use Rattle.hume_net.specs.rounds.Rounds.{IsRound, rounds_of}
 use Rattle.hume_net.proofs.rounds_lemmas.RoundCounts.{round_counted}
-use Rattle.port_acts.specs.Acts.{Act, write_each}
+use Rattle.port_acts.specs.Acts.{Act}
 use Rattle.run_rounds.specs.Inputs.{Inputs, is_bad}
-use Rattle.run_rounds.specs.Writes.{span_of, blocked_by, blocked_round, bad_value_writes, peak_writes}
-use Rattle.run_rounds.specs.RunActs.{acts_until, blocked_acts, reading, round_wants, rounds_acts, run_acts, wants_of_node, writing}
+use Rattle.run_rounds.specs.Writes.{span_of, blocked_by, blocked_round}
+use Rattle.run_rounds.specs.RunActs.{blocked_wants, made_acts, made_until, reading, round_wants, rounds_acts, wants_of_node, writing}
 use Rattle.run_rounds.proofs.FirstFound.{found}
 use Rattle.run_rounds.proofs.Ranges.{flat_more, flat_within}
 
@@ -63,7 +63,7 @@ as_begun whole other first same b = (b.0, same ∙ b.1)
 
 module _ (core : Core) (inputs : Inputs) (traced : Bool) (steps : ℕ) where
   abbrev Whole : List Act
-  Whole = run_acts core inputs traced steps
+  Whole = made_acts core inputs traced steps
 
   abbrev Rounds : ℕ → List Act
   Rounds count = rounds_acts core inputs.good traced steps count
@@ -82,15 +82,14 @@ module _ (core : Core) (inputs : Inputs) (traced : Bool) (steps : ℕ) where
 
   -- the first rounds come first where none of them is blocked
   until_first : (count : ℕ) → count ≤ rounds_of (span_of traced) steps → ((round : ℕ) → 1 ≤ round → round ≤ count → Blocking round ≡ None)
-      → (o : Option ℕ) → blocked_round core inputs (span_of traced) steps ≡ o → BeginsWith (acts_until core inputs traced steps o) (Rounds count)
+      → (o : Option ℕ) → blocked_round core inputs (span_of traced) steps ≡ o → BeginsWith (made_until core inputs traced steps o) (Rounds count)
   until_first count within none None is =
-      begins_in (acts_until core inputs traced steps None) (Rounds (rounds_of (span_of traced) steps)) (Rounds count)
-      (write_each (peak_writes core inputs.good steps), refl) (rounds_within core inputs.good traced steps count (rounds_of (span_of traced) steps) within)
+      rounds_within core inputs.good traced steps count (rounds_of (span_of traced) steps) within
   until_first count within none (Some round) is =
       let b = blocked_is round is in
       elim (cases_lt count round) [
-        | inl less ↦ begins_in (acts_until core inputs traced steps (Some round)) (Rounds (round - 1)) (Rounds count)
-            (blocked_acts core inputs traced steps round (Blocking round), refl)
+        | inl less ↦ begins_in (made_until core inputs traced steps (Some round)) (Rounds (round - 1)) (Rounds count)
+            (blocked_wants core inputs traced steps round (Blocking round), refl)
             (rounds_within core inputs.good traced steps count (round - 1) (omega (arith, less)))
         | inr past ↦ absurd (true≢false (sym b.1 ∙ ap is_some (none round b.0 past)))
       ]
@@ -114,40 +113,36 @@ module _ (core : Core) (inputs : Inputs) (traced : Bool) (steps : ℕ) where
         (begins_in round (reading core inputs.good traced steps (suc done)) (Wants (suc done) (n + 1)) (writing core inputs.good traced steps (suc done), refl) all))
 
     in_blocked : (o : Option ℕ) → Blocking (suc done) ≡ o → is_some o ≡ true
-        → BeginsWith (Rounds done ++ blocked_acts core inputs traced steps (suc done) o) First
+        → BeginsWith (Rounds done ++ blocked_wants core inputs traced steps (suc done) o) First
     in_blocked None by some = cc
     in_blocked (Some m) by some =
         let f = found (blocks core inputs.good (is_bad inputs) (span_of traced) steps (suc done)) 0 (length core.nodes) m by in
         elim (cases_lt m n) [
           | inl less ↦ absurd (true≢false (sym f.passes ∙ go_on m less))
-          | inr past ↦ more_begin (Rounds done) (blocked_acts core inputs traced steps (suc done) (Some m)) (Wants (suc done) (n + 1))
-              (begins_in (blocked_acts core inputs traced steps (suc done) (Some m)) (Wants (suc done) (m + 1)) (Wants (suc done) (n + 1))
-              (write_each (bad_value_writes core inputs (Some m)), refl)
-              (wants_within core inputs.good (span_of traced) steps (suc done) (n + 1) (m + 1) (omega (arith, past))))
+          | inr past ↦ more_begin (Rounds done) (blocked_wants core inputs traced steps (suc done) (Some m)) (Wants (suc done) (n + 1))
+              (wants_within core inputs.good (span_of traced) steps (suc done) (n + 1) (m + 1) (omega (arith, past)))
         ]
 
-    until_want : (o : Option ℕ) → blocked_round core inputs (span_of traced) steps ≡ o → BeginsWith (acts_until core inputs traced steps o) First
+    until_want : (o : Option ℕ) → blocked_round core inputs (span_of traced) steps ≡ o → BeginsWith (made_until core inputs traced steps o) First
     until_want None blocked =
-        begins_in (acts_until core inputs traced steps None) (Rounds (suc done)) First
-        (begins_in (acts_until core inputs traced steps None) (Rounds (rounds_of (span_of traced) steps)) (Rounds (suc done))
-        (write_each (peak_writes core inputs.good steps), refl)
-        (rounds_within core inputs.good traced steps (suc done) (rounds_of (span_of traced) steps) (round_counted (span_of traced) steps (some_span traced) (suc done) is)))
+        begins_in (made_until core inputs traced steps None) (Rounds (suc done)) First
+        (rounds_within core inputs.good traced steps (suc done) (rounds_of (span_of traced) steps) (round_counted (span_of traced) steps (some_span traced) (suc done) is))
         in_round
     until_want (Some round) blocked =
         let b = blocked_is round blocked in
         elim (cases_lt (suc done) round) [
-          | inl less ↦ begins_in (acts_until core inputs traced steps (Some round)) (Rounds (suc done)) First
-              (begins_in (acts_until core inputs traced steps (Some round)) (Rounds (round - 1)) (Rounds (suc done))
-              (blocked_acts core inputs traced steps round (Blocking round), refl)
+          | inl less ↦ begins_in (made_until core inputs traced steps (Some round)) (Rounds (suc done)) First
+              (begins_in (made_until core inputs traced steps (Some round)) (Rounds (round - 1)) (Rounds (suc done))
+              (blocked_wants core inputs traced steps round (Blocking round), refl)
               (rounds_within core inputs.good traced steps (suc done) (round - 1) (omega (arith, less))))
               in_round
           | inr past ↦ elim (cases_lt done round) [
             | inl more ↦ (
                 let same : round ≡ suc done = omega (arith, past, more) in
                 let before : round - 1 ≡ done = omega (arith, same) in
-                as_begun (Rounds done ++ blocked_acts core inputs traced steps (suc done) (Blocking (suc done))) (acts_until core inputs traced steps (Some round)) First
-                (ap (λ k. Rounds k ++ blocked_acts core inputs traced steps round (Blocking round)) before
-                ∙ ap (λ k. Rounds done ++ blocked_acts core inputs traced steps k (Blocking k)) same)
+                as_begun (Rounds done ++ blocked_wants core inputs traced steps (suc done) (Blocking (suc done))) (made_until core inputs traced steps (Some round)) First
+                (ap (λ k. Rounds k ++ blocked_wants core inputs traced steps round (Blocking round)) before
+                ∙ ap (λ k. Rounds done ++ blocked_wants core inputs traced steps k (Blocking k)) same)
                 (in_blocked (Blocking (suc done)) refl (ap (λ k. is_some (Blocking k)) (sym same) ∙ b.1)))
             | inr few ↦ absurd (true≢false (sym b.1 ∙ ap is_some (none round b.0 few)))
           ]

@@ -113,8 +113,8 @@ module _ (traced : Bool) (steps done want : ℕ) (olds mids news : List PortView
     begun (inl enough) = inl enough
     begun (inr all) = inr (record {
       ended = all.ended;
-      all = subst (λ (c : Core). (text : List ℕ) (gone : List Value) → IsQueueOf c.types (type_at c n) (queue_at new n) text (gone ++ coming_at new n) []
-          → IsGoodUntil c.types (type_at c n) text (gone ++ coming_at new n) None) same_core all.all;
+      all = λ text gone. subst (λ (c : Core). IsQueueOf c.types (type_at c n) (queue_at new n) text (gone ++ coming_at new n) []
+          → IsGoodUntil c.types (type_at c n) text (gone ++ coming_at new n) None) same_core (all.all text (gone ++ coming_at new n));
     })
 
     pub node_filled : StandsFilling core traced steps done (n + 1) want olds news new
@@ -142,8 +142,9 @@ module _ (traced : Bool) (steps done want : ℕ) (olds mids news : List PortView
         stream = stream;
         is = is;
         few = few_or_enough want (length (coming_at new n)) fill.ends.0;
-        before = subst (λ (c : Core). (text : List ℕ) (gone : List Value) (rest : List ℕ) → IsQueueOf c.types (type_at c n) (queue_at new n) text (gone ++ coming_at new n) rest
-            → (number : ℕ) × (line ≡ min number last_count) × IsGoodUntil c.types (type_at c n) text (gone ++ coming_at new n) (Some number)) same_core fill.ends.1;
+        before = λ text gone rest. subst (λ (c : Core). IsQueueOf c.types (type_at c n) (queue_at new n) text (gone ++ coming_at new n) rest
+            → (number : ℕ) × (line ≡ min number last_count) × IsGoodUntil c.types (type_at c n) text (gone ++ coming_at new n) (Some number)) same_core
+            (fill.ends.1 text (gone ++ coming_at new n) rest);
       };
     }
 

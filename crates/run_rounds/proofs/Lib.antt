@@ -13,11 +13,13 @@ pub mod Wanting
 pub mod FillingInputs
 pub mod Clearings
 pub mod Tellings
+pub mod MemberLines
 pub mod Peaks
 pub mod RoundSteps
 pub mod RoundMaking
 pub mod RoundJoins
 pub mod RunEnds
+pub mod Reports
 pub mod RunStarts
 pub mod WantsOfRounds
 pub mod ActSteps

@@ -13,7 +13,7 @@ use Rattle.port_acts.specs.Ends.{Ends, never}
 use Rattle.phase_workers.specs.Engines.{EngineView as Engine}
 use Rattle.phase_workers.specs.Engines.{core_of, queue_at, span_of as room_of, state_of}
 use Rattle.phase_workers.specs.Runnable.{IsRunnable}
-use Rattle.run_rounds.specs.Runs.{FailsToRun}
+use Rattle.run_rounds.specs.MadeRounds.{FailsInRounds}
 use Rattle.run_rounds.specs.Writes.{span_of}
 use Rattle.run_rounds.specs.inner.Clearing.{Clears}
 use Rattle.run_rounds.specs.inner.Rounding.{PeaksGrow, told_now}
@@ -47,8 +47,8 @@ module _ (traced : Bool) (steps done want : ℕ) (olds mids : List PortView) (fi
     did_next : Ends never [] (write_each (told_now (core_of filled) traced (suc done) (lockstep (core_of filled) (state_of filled) want))) [] mids news result
     did_next = subst (λ r. Ends never [] (write_each (told_now (core_of filled) traced r (lockstep (core_of filled) (state_of filled) want))) [] mids news result) is_next did
 
-    pub joined_failed : (failed : Failed) → result ≡ Err failed → FailsToRun (core_of first) traced steps olds news
-    joined_failed failed is = subst (λ c. FailsToRun c traced steps olds news) same
+    pub joined_failed : (failed : Failed) → result ≡ Err failed → FailsInRounds (core_of first) traced steps olds news
+    joined_failed failed is = subst (λ c. FailsInRounds c traced steps olds news) same
         (round_failed (core_of filled) run_own traced steps done want olds mids filled refl own new news want filling.wanted result did_next failed is)
 
     pub joined : result ≡ Ok tt → core_of new ≡ core_of filled → room_of new ≡ room_of filled → ((n : ℕ) → queue_at new n ≡ queue_at filled n)

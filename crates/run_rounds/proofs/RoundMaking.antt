@@ -1,5 +1,5 @@
 -- The supersteps of a round, its writes, and what is told of its wires, in turn.
-use Rattle.std.proofs.Common.{◌≡◌, ℕ, suc, ◌+◌, ◌-◌, ◌*◌, ◌<◌, ◌≤◌, max, min, Bool, true, false, List, [], ◌∷◌, ◌++◌, Option, None, Some, slice_get, Result, Ok, Err, OnOk, refl, ap, sym, ◌∙◌, subst, arith, append-nil}
+use Rattle.std.proofs.Common.{◌≡◌, ℕ, suc, ◌+◌, ◌-◌, ◌*◌, ◌<◌, max, min, Bool, true, false, List, [], ◌∷◌, Option, None, Some, slice_get, Result, Ok, Err, OnOk, refl, ap, sym, ◌∙◌, subst, arith, append-nil}
 use Rattle.hume_base.specs.declared.types.Value.{Value}
 use Rattle.hume_model.specs.declared.core_tree.NodeC.{NodeC}
 use Rattle.hume_model.specs.declared.core_tree.Core.{Core}

@@ -1,5 +1,5 @@
 -- A round is made, and its lines are written.
-use Rattle.std.proofs.Common.{◌≡◌, ◌⊎◌, ℕ, zero, suc, ◌+◌, ◌-◌, ◌<◌, ◌≤◌, max, Bool, true, false, List, [], ◌∷◌, ◌++◌, length, None, Some, slice_get, Result, Ok, Err, refl, ap, sym, ◌∙◌, subst, inl, inr, arith, append_assoc, append-nil}
+use Rattle.std.proofs.Common.{◌≡◌, ◌⊎◌, ℕ, zero, suc, ◌≤◌, max, Bool, true, false, List, [], ◌∷◌, ◌++◌, length, None, Some, slice_get, Result, Ok, Err, refl, ap, sym, ◌∙◌, subst, inl, inr, arith, append_assoc, append-nil}
 use Rattle.std.proofs.lemmas.Option.{slice_get_within}
 use Rattle.hume_base.specs.declared.types.Value.{Value}
 use Rattle.hume_model.specs.declared.core_tree.NodeC.{NodeC}
@@ -31,15 +31,15 @@ use Rattle.phase_workers.specs.Engines.{EngineView as Engine}
 use Rattle.phase_workers.specs.Engines.{core_of, queue_at, state_of, span_of as room_of, heap_peak_at, stack_peak_at}
 use Rattle.phase_workers.specs.Runnable.{IsRunnable}
 use Rattle.run_rounds.specs.Inputs.{Inputs, is_bad}
-use Rattle.run_rounds.specs.RunActs.{reading, rounds_acts, run_acts, run_few}
-use Rattle.run_rounds.specs.Runs.{FailsToRun}
+use Rattle.run_rounds.specs.RunActs.{made_acts, reading, rounds_acts, run_few}
+use Rattle.run_rounds.specs.MadeRounds.{FailsInRounds, IsPeak}
 use Rattle.trace_print.specs.TraceLines.{line_there, step_line, wire_lines}
 use Rattle.run_rounds.specs.Writes.{gained_writes, round_writes, span_of, told, trace_writes, writes_of_node, writes_of_nodes}
 use Rattle.run_rounds.specs.inner.Beginning.{MayBegin}
 use Rattle.run_rounds.specs.inner.Clearing.{Clears}
 use Rattle.run_rounds.specs.inner.Reading.{MayCome, later_of}
 use Rattle.run_rounds.specs.inner.Rounding.{PeaksGrow, told_now, wires_now}
-use Rattle.run_rounds.specs.inner.Standing.{AreUnblocked, EndsAreTold, IsAfter, IsCleared, IsPeak, IsPieceAt}
+use Rattle.run_rounds.specs.inner.Standing.{AreUnblocked, EndsAreTold, IsAfter, IsCleared, IsPieceAt}
 use Rattle.run_rounds.specs.inner.Steps.{Stands, StandsAfter, StandsFilling, filling_acts}
 use Rattle.run_rounds.proofs.ActSteps.{rounds_more, some_span, unblocked_first}
 use Rattle.run_rounds.proofs.Clearings.{output_or_not}
@@ -169,7 +169,7 @@ module _ (core : Core) (run : IsRunnable core) (traced : Bool) (steps done want 
     here = ap (lockstep core (state_of old)) count
 
     -- a write failed
-    pub round_failed : (failed : Failed) → result ≡ Err failed → FailsToRun core traced steps olds news
+    pub round_failed : (failed : Failed) → result ≡ Err failed → FailsInRounds core traced steps olds news
     round_failed failed is =
         let coming = comes core run traced steps done acts_of olds mids old stands in
         let can = may core run traced steps done acts_of olds mids old stands in
@@ -182,7 +182,7 @@ module _ (core : Core) (run : IsRunnable core) (traced : Bool) (steps done want 
         let begins : Fails (run_few core) [] acts olds news =
         Fails-on (run_few core) [] stands.taken stands.acts (write_each (told_now core traced (suc done) over)) olds mids news stands.made
         (Fails-any (run_few core) stands.taken (write_each (told_now core traced (suc done) over)) mids news fails) in
-        let all : run_acts core coming.inputs traced steps ≡ acts ++ first.0 =
+        let all : made_acts core coming.inputs traced steps ≡ acts ++ first.0 =
         first.1 ∙ ap (λ (front : List Act). front ++ first.0) (sym (acts_are coming.inputs can)) in
         record {
           comes = coming;

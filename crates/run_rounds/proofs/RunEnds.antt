@@ -1,11 +1,10 @@
--- How a run ends: all its rounds are made and peaks are told, or a bad line halts it and is told.
-use Rattle.std.proofs.Common.{◌≡◌, ℕ, suc, ◌+◌, ◌-◌, ◌*◌, ◌<◌, ◌≤◌, ◌^◌, min, Bool, true, false, List, [], ◌∷◌, ◌++◌, length, Option, None, Some, slice_get, Result, Ok, Err, refl, ap, sym, ◌∙◌, subst, arith, append_assoc, append-nil, length-append}
+-- How the rounds of a run end: all are made, or a bad line halts them.
+use Rattle.std.proofs.Common.{◌≡◌, ℕ, suc, ◌+◌, ◌-◌, ◌*◌, ◌<◌, ◌≤◌, ◌^◌, min, Bool, true, false, List, [], ◌++◌, length, Option, None, Some, slice_get, Result, Ok, Err, ap, sym, ◌∙◌, subst, arith, append-nil, length-append}
 use Rattle.std.proofs.lemmas.Option.{slice_get_within}
 use Rattle.std.proofs.Math.Nat.{min-eq_left}
-use Rattle.std.specs.Option.{is_some, unwrap_or}
 use Rattle.hume_base.specs.declared.types.Value.{Value}
 use Rattle.hume_model.specs.declared.core_tree.NodeC.{NodeC}
-use Rattle.hume_model.specs.declared.core_tree.NodeC.TheVariants.{Rules, From, To}
+use Rattle.hume_model.specs.declared.core_tree.NodeC.TheVariants.{From}
 use Rattle.hume_model.specs.declared.core_tree.Core.{Core}
 use Rattle.hume_net.specs.declared.state.Part.{Part}
 use Rattle.hume_net.specs.declared.state.State.{State}
@@ -21,63 +20,27 @@ use Rattle.hume_net.proofs.rounds_lemmas.Blocking.{blocking_is, first_is, none_i
 use Rattle.hume_net.proofs.rounds_lemmas.RoundCounts.{all_made}
 use Rattle.hume_ports.specs.declared.port.Failed.{Failed}
 use Rattle.hume_ports.specs.Port.{PortView, last_count}
-use Rattle.hume_ports.specs.Delivery.{Pairs, bytes_for}
+use Rattle.hume_ports.specs.Delivery.{bytes_for}
 use Rattle.hume_streams.proofs.FewLines.{small_number}
 use Rattle.hume_streams.specs.Good.{IsGoodUntil}
-use Rattle.box_costs.specs.declared.cost.Cost.{Cost}
 use Rattle.net_costs.specs.Steps.{peaks}
-use Rattle.port_acts.specs.Acts.{Act, write_each, writes}
-use Rattle.port_acts.specs.Ends.{Ends, Fails, Made, never}
-use Rattle.port_acts.proofs.Failing.{Fails-any, Fails-on}
-use Rattle.port_acts.proofs.Making.{Made-on}
+use Rattle.port_acts.specs.Acts.{Act}
+use Rattle.port_acts.specs.Ends.{Made}
 use Rattle.run_rounds.specs.declared.bad_line.BadLine.{BadLine}
 use Rattle.phase_workers.specs.Engines.{EngineView as Engine}
 use Rattle.phase_workers.specs.Engines.{coming_at, queue_at, state_of}
 use Rattle.phase_workers.specs.Runnable.{IsRunnable}
 use Rattle.phase_workers.specs.StreamTypes.{type_at}
 use Rattle.run_rounds.specs.Inputs.{Inputs, is_bad}
-use Rattle.run_rounds.specs.RunActs.{acts_until, blocked_acts, round_wants, rounds_acts, run_acts, run_few}
-use Rattle.run_rounds.specs.Runs.{Comes, FailsToRun, RunsTo}
-use Rattle.run_rounds.specs.Streams.{std_out}
-use Rattle.trace_print.specs.TraceLines.{peak_line, peak_lines, peak_there}
-use Rattle.run_rounds.specs.Writes.{bad_value_line, blocked_by, blocked_round, name_of, peak_writes, span_of, told}
+use Rattle.run_rounds.specs.RunActs.{blocked_wants, made_acts, made_until, rounds_acts}
+use Rattle.run_rounds.specs.Runs.{Comes}
+use Rattle.run_rounds.specs.MadeRounds.{IsPeak, MakesRounds, RoundsEnd}
+use Rattle.run_rounds.specs.Writes.{blocked_by, blocked_round, span_of}
 use Rattle.run_rounds.specs.inner.Reading.{MayCome, later_of}
 use Rattle.run_rounds.specs.inner.Steps.{EndsRounds, HaltsBefore, LacksAt, Stands, StandsAfter, StandsBlocked, filling_acts}
-use Rattle.run_rounds.specs.inner.Telling.{tops}
 use Rattle.run_rounds.proofs.ActSteps.{some_span}
 use Rattle.run_rounds.proofs.Filled.{bad_comes, stream_blocks}
-use Rattle.run_rounds.proofs.Ranges.{same_flat}
-use Rattle.run_rounds.proofs.Standings.{comes, goes_on, item_at, may, piece_now, shares}
-
--- the line of a box tells heap and stack alone
-peak_alike : (x y : Cost) (o : Option NodeC) → x.heap ≡ y.heap → x.stack ≡ y.stack → peak_there x o ≡ peak_there y o
-peak_alike x y None heap stack = refl
-peak_alike x y (Some (Rules b)) heap stack = ap (λ k. peak_line b.name k x.stack ∷ []) heap ∙ ap (λ k. peak_line b.name y.heap k ∷ []) stack
-peak_alike x y (Some (From stream)) heap stack = refl
-peak_alike x y (Some (To stream)) heap stack = refl
-
--- the acts that were made, and then these, are the run's
-module _ (core : Core) (traced : Bool) (steps : ℕ) (olds mids news : List PortView) (coming : Comes core olds) (acts last : List Act) (taken : Pairs)
-    (made : Made acts taken olds mids) (all : acts ++ last ≡ run_acts core coming.inputs traced steps) where
-  made_all : Made last [] mids news → Made (run_acts core coming.inputs traced steps) taken olds news
-  made_all more =
-      subst (λ every. Made every taken olds news) all
-      (subst (λ pairs. Made (acts ++ last) pairs olds news) (append-nil taken) (Made-on acts last taken [] olds mids news made more))
-
-  pub runs_to : (blocked : Bool) → blocked ≡ is_some (blocked_round core coming.inputs (span_of traced) steps) → (result : Result (Unit {0}) Failed)
-      → result ≡ Ok tt
-      → Ends never [] last [] mids news result → RunsTo core traced steps olds news blocked
-  runs_to blocked blocks (Ok done) is ends = record { comes = coming; taken = taken; made = made_all ends; blocks = blocks }
-  runs_to blocked blocks (Err failed) is ends = cc
-
-  pub fails_to_run : (result : Result (Unit {0}) Failed) (failed : Failed) → result ≡ Err failed → Ends never [] last [] mids news result
-      → FailsToRun core traced steps olds news
-  fails_to_run (Ok done) failed is ends = cc
-  fails_to_run (Err other) failed is ends = record {
-    comes = coming;
-    fails = subst (λ every. Fails (run_few core) [] every olds news) all
-        (Fails-on (run_few core) [] taken acts last olds mids news made (Fails-any (run_few core) taken last mids news ends));
-  }
+use Rattle.run_rounds.proofs.Standings.{comes, goes_on, may, piece_now, shares}
 
 module _ (core : Core) (run : IsRunnable core) (traced : Bool) (steps : ℕ) (olds mids : List PortView) (engine : Engine) where
   -- all rounds were made
@@ -94,30 +57,25 @@ module _ (core : Core) (run : IsRunnable core) (traced : Bool) (steps : ℕ) (ol
     none : blocked_round core coming.inputs (span_of traced) steps ≡ None
     none = none_is_blocked core coming.inputs.good (is_bad coming.inputs) (span_of traced) steps (λ round least most. stands.after.unblocked coming.inputs can round least most)
 
-    peaks_are : told (peak_lines core (tops engine)) ≡ peak_writes core coming.inputs.good steps
-    peaks_are =
+    peak_is : (n : ℕ) (node : NodeC) → slice_get core.nodes n ≡ Some node → IsPeak core coming.inputs.good steps engine n
+    peak_is n node is =
         let all = all_made (span_of traced) steps (some_span traced) in
-        ap told (same_flat (λ n. peak_there (tops engine n) (slice_get core.nodes n)) (λ n. peak_there (peaks core (start core coming.inputs.good) steps n) (slice_get core.nodes n)) 0
-        (length core.nodes) (λ n least most. (let item = item_at core.nodes n (omega (arith, most)) in
-        let its = stands.peaks coming.inputs can n item.0 item.1 in
-        peak_alike (tops engine n) (peaks core (start core coming.inputs.good) steps n) (slice_get core.nodes n)
-        (its.heap ∙ ap (λ k. (peaks core (start core coming.inputs.good) k n).heap) all)
-        (its.stack ∙ ap (λ k. (peaks core (start core coming.inputs.good) k n).stack) all))))
+        let its = stands.peaks coming.inputs can n node is in
+        record {
+          heap = its.heap ∙ ap (λ k. (peaks core (start core coming.inputs.good) k n).heap) all;
+          stack = its.stack ∙ ap (λ k. (peaks core (start core coming.inputs.good) k n).stack) all;
+        }
 
-    all_acts : stands.acts ++ write_each (told (peak_lines core (tops engine))) ≡ run_acts core coming.inputs traced steps
-    all_acts =
-        ap (λ (acts : List Act). acts ++ write_each (told (peak_lines core (tops engine)))) (stands.are coming.inputs can)
-        ∙ ap (λ pairs. acts_made coming.inputs.good ++ write_each pairs) peaks_are
-        ∙ sym (ap (acts_until core coming.inputs traced steps) none)
+    all_acts : stands.acts ≡ made_acts core coming.inputs traced steps
+    all_acts = stands.are coming.inputs can ∙ sym (ap (made_until core coming.inputs traced steps) none)
 
-    module _ (news : List PortView) (result : Result (Unit {0}) Failed) (ends : Ends never [] (write_each (told (peak_lines core (tops engine)))) [] mids news result) where
-      pub run_over : result ≡ Ok tt → RunsTo core traced steps olds news false
-      run_over is = runs_to core traced steps olds mids news coming stands.acts (write_each (told (peak_lines core (tops engine)))) stands.taken stands.made all_acts
-          false (sym (ap is_some none)) result is ends
-
-      pub peaks_failed : (failed : Failed) → result ≡ Err failed → FailsToRun core traced steps olds news
-      peaks_failed failed is = fails_to_run core traced steps olds mids news coming stands.acts (write_each (told (peak_lines core (tops engine)))) stands.taken stands.made all_acts
-          result failed is ends
+    pub all_rounds : MakesRounds core traced steps olds mids engine None
+    all_rounds = record {
+      comes = coming;
+      taken = stands.taken;
+      made = subst (λ (acts : List Act). Made acts stands.taken olds mids) all_acts stands.made;
+      leaves = record { none = none; peaks = peak_is };
+    }
 
   -- a bad line halts it
   module _ (bad : BadLine) (halts : HaltsBefore core traced steps olds mids engine bad) (short : (steps + span_of traced + 1) * 65537 ≤ last_count) where
@@ -203,48 +161,30 @@ module _ (core : Core) (run : IsRunnable core) (traced : Bool) (steps : ℕ) (ol
     blocked_now = first_is core inputs.good (is_bad inputs) span steps (suc done) bad.node (some_span traced) blocked.is blocks_now
         (λ other least most. halted.after.unblocked inputs may_come other least (omega (arith, most)))
 
-    abbrev line_told : List ℕ
-    line_told = bad_value_line (name_of (slice_get core.nodes bad.node)) bad.line
-
-    all_read : halted.acts ++ writes std_out line_told ∷ [] ≡ run_acts core inputs traced steps
-    all_read =
+    read_acts : halted.acts ≡ made_acts core inputs traced steps
+    read_acts =
         let before : suc done - 1 ≡ done = omega arith in
-        let line : line_told ≡ bad_value_line (name_of (slice_get core.nodes bad.node)) (unwrap_or (inputs.bad bad.node) 0) =
-        ap (bad_value_line (name_of (slice_get core.nodes bad.node))) line_is
-        ∙ ap (λ number. bad_value_line (name_of (slice_get core.nodes bad.node)) (unwrap_or number 0)) (sym tells.3) in
-        ap (λ (acts : List Act). acts ++ writes std_out line_told ∷ []) (halted.are inputs may_come)
-        ∙ append_assoc (rounds_acts core inputs.good traced steps done) (round_wants core inputs.good span steps (suc done) (bad.node + 1)) (writes std_out line_told ∷ [])
-        ∙ ap (λ bytes. rounds_acts core inputs.good traced steps done ++ (round_wants core inputs.good span steps (suc done) (bad.node + 1) ++ writes std_out bytes ∷ [])) line
-        ∙ ap (λ o. rounds_acts core inputs.good traced steps done ++ blocked_acts core inputs traced steps (suc done) o) (sym blocks_now)
-        ∙ ap (λ k. rounds_acts core inputs.good traced steps k ++ blocked_acts core inputs traced steps (suc done) (blocked_by core inputs traced steps (suc done))) (sym before)
-        ∙ sym (ap (acts_until core inputs traced steps) blocked_now)
+        halted.are inputs may_come
+        ∙ ap (λ o. rounds_acts core inputs.good traced steps done ++ blocked_wants core inputs traced steps (suc done) o) (sym blocks_now)
+        ∙ ap (λ k. rounds_acts core inputs.good traced steps k ++ blocked_wants core inputs traced steps (suc done) (blocked_by core inputs traced steps (suc done))) (sym before)
+        ∙ sym (ap (made_until core inputs traced steps) blocked_now)
 
-    module _ (news : List PortView) (result : Result (Unit {0}) Failed) (ends : Ends never [] (writes std_out line_told ∷ []) [] mids news result) where
-      pub run_halted : result ≡ Ok tt → RunsTo core traced steps olds news true
-      run_halted is = runs_to core traced steps olds mids news came halted.acts (writes std_out line_told ∷ []) halted.taken halted.made all_read
-          true (sym (ap is_some blocked_now)) result is ends
-
-      pub line_failed : (failed : Failed) → result ≡ Err failed → FailsToRun core traced steps olds news
-      line_failed failed is = fails_to_run core traced steps olds mids news came halted.acts (writes std_out line_told ∷ []) halted.taken halted.made all_read result failed is ends
+    pub rounds_before : MakesRounds core traced steps olds mids engine (Some bad)
+    rounds_before = record {
+      comes = came;
+      taken = halted.taken;
+      made = subst (λ (acts : List Act). Made acts halted.taken olds mids) read_acts halted.made;
+      leaves = record { round = suc done; first = blocked_now; by = blocks_now; line = tells.3 ∙ ap Some (sym line_is) };
+    }
 
 pub few_lines : (traced : Bool) (steps : ℕ) → steps < 2 ^ 32 → (steps + span_of traced + 1) * 65537 ≤ last_count
 few_lines true steps less = omega (arith, less)
 few_lines false steps less = omega (arith, less)
 
--- rounds whose result is known
-pub rounds_as : (core : Core) (traced : Bool) (steps : ℕ) (olds news : List PortView) (engine : Engine) (result other : Result (Option BadLine) Failed)
-    → result ≡ other
-    → EndsRounds core traced steps olds news engine result → EndsRounds core traced steps olds news engine other
-rounds_as core traced steps olds news engine result other is ends = subst (EndsRounds core traced steps olds news engine) is ends
-
--- what is told of an engine with the same core
-pub peaks_as : (core own : Core) (engine : Engine) (mids news : List PortView) (result : Result (Unit {0}) Failed) → own ≡ core
-    → Ends never [] (write_each (told (peak_lines own (tops engine)))) [] mids news result
-    → Ends never [] (write_each (told (peak_lines core (tops engine)))) [] mids news result
-peaks_as core own engine mids news result same ends = subst (λ c. Ends never [] (write_each (told (peak_lines c (tops engine)))) [] mids news result) same ends
-
-pub line_as : (core own : Core) (bad : BadLine) (mids news : List PortView) (result : Result (Unit {0}) Failed) → own ≡ core
-    → Ends never [] (writes std_out (bad_value_line (name_of (slice_get own.nodes bad.node)) bad.line) ∷ []) [] mids news result
-    → Ends never [] (writes std_out (bad_value_line (name_of (slice_get core.nodes bad.node)) bad.line) ∷ []) [] mids news result
-line_as core own bad mids news result same ends =
-    subst (λ (c : Core). Ends never [] (writes std_out (bad_value_line (name_of (slice_get c.nodes bad.node)) bad.line) ∷ []) [] mids news result) same ends
+-- how the rounds ended, for who has no engine in hand
+pub rounds_end : (core : Core) → IsRunnable core → (traced : Bool) (steps : ℕ) (olds mids : List PortView) (engine : Engine) → steps < 2 ^ 32
+    → (result : Result (Option BadLine) Failed) → EndsRounds core traced steps olds mids engine result → RoundsEnd core traced steps olds mids engine result
+rounds_end core run traced steps olds mids engine small (Ok None) ends = all_rounds core run traced steps olds mids engine ends
+rounds_end core run traced steps olds mids engine small (Ok (Some bad)) ends =
+    rounds_before core run traced steps olds mids engine bad ends (few_lines traced steps small)
+rounds_end core run traced steps olds mids engine small (Err failed) ends = ends

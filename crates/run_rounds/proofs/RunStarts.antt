@@ -1,5 +1,5 @@
 -- Where a run stands before its first round.
-use Rattle.std.proofs.Common.{◌≡◌, ℕ, ◌<◌, ◌≤◌, Bool, true, false, List, [], refl, ap, sym, ◌∙◌, subst, arith}
+use Rattle.std.proofs.Common.{◌≡◌, ℕ, Bool, true, false, List, [], refl, ap, sym, ◌∙◌, subst, arith}
 use Rattle.hume_model.specs.declared.core_tree.Core.{Core}
 use Rattle.hume_net.specs.declared.state.State.{State}
 use Rattle.hume_net.specs.Lockstep.{lockstep}
@@ -23,9 +23,10 @@ use Rattle.phase_workers.specs.Engines.{EngineView as Engine}
 use Rattle.phase_workers.specs.Engines.{queue_at, state_of}
 use Rattle.run_rounds.specs.Inputs.{Inputs}
 use Rattle.run_rounds.specs.Opened.{IsFresh}
+use Rattle.run_rounds.specs.MadeRounds.{IsPeak}
 use Rattle.run_rounds.specs.Writes.{span_of}
 use Rattle.run_rounds.specs.inner.Reading.{HasRead, later_of}
-use Rattle.run_rounds.specs.inner.Standing.{IsCleared, IsPeak, IsPieceAt}
+use Rattle.run_rounds.specs.inner.Standing.{IsCleared, IsPieceAt}
 use Rattle.run_rounds.specs.inner.Steps.{StandsAfter}
 use Rattle.run_rounds.proofs.Comings.{inputs_are}
 use Rattle.run_rounds.proofs.EngineFacts.{queues_show_no_values}

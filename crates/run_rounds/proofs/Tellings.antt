@@ -1,5 +1,5 @@
 -- Lines that are told one after another.
-use Rattle.std.proofs.Common.{◌≡◌, ℕ, zero, suc, ◌+◌, ◌<◌, ◌≤◌, List, [], ◌∷◌, ◌++◌, length, Some, slice_get, Result, Ok, Err, refl, ap, sym, ◌∙◌, subst, arith, append_assoc, append-nil}
+use Rattle.std.proofs.Common.{◌≡◌, ℕ, zero, suc, ◌+◌, ◌<◌, List, [], ◌∷◌, ◌++◌, length, Some, slice_get, Result, Ok, Err, refl, ap, sym, ◌∙◌, subst, arith, append_assoc, append-nil}
 use Rattle.std.proofs.lemmas.List.{map-append}
 use Rattle.std.specs.List.{flat_map, range_with_len}
 use Rattle.hume_base.specs.declared.types.Value.{Value}
@@ -127,3 +127,56 @@ telling_over before ports acts of old chunk count total it all =
 pub then_told : (act : Act) (lines : List (List ℕ)) (olds mids news : List PortView) (result : Result (Unit {0}) Failed) → Made (act ∷ []) [] olds mids
     → Ends never [] (write_each (told lines)) [] mids news result → Ends never [] (act ∷ write_each (told lines)) [] olds news result
 then_told act lines olds mids news result made ends = Ends-on never [] [] [] (act ∷ []) (write_each (told lines)) olds mids news result made ends
+
+-- the same lines by the numbers of the nodes
+
+shifted : (f : ℕ → List (List ℕ)) (by from count : ℕ) → flat_map (λ n. f (by + n)) (range_with_len from count) ≡ flat_map f (range_with_len (by + from) count)
+shifted f by from zero = refl
+shifted f by from (suc count) =
+    let next : by + (from + 1) ≡ (by + from) + 1 = omega arith in
+    ap (λ (later : List (List ℕ)). f (by + from) ++ later) (shifted f by (from + 1) count ∙ ap (λ k. flat_map f (range_with_len k count)) next)
+
+shifted_lines : (first count : ℕ) (f : ℕ → List (List ℕ)) → write_each (told (flat_map (λ n. f (first + n)) (range_with_len 0 count)))
+    ≡ write_each (told (flat_map f (range_with_len first count)))
+shifted_lines first count f =
+    let here : first + 0 ≡ first = omega arith in
+    ap (λ lines. write_each (told lines)) (shifted f first 0 count ∙ ap (λ k. flat_map f (range_with_len k count)) here)
+
+pub shifted_made : (first count : ℕ) (f : ℕ → List (List ℕ)) (olds news : List PortView)
+    → Made (write_each (told (flat_map (λ n. f (first + n)) (range_with_len 0 count)))) [] olds news
+    → Made (write_each (told (flat_map f (range_with_len first count)))) [] olds news
+shifted_made first count f olds news made = subst (λ acts. Made acts [] olds news) (shifted_lines first count f) made
+
+pub shifted_failed : (first count : ℕ) (f : ℕ → List (List ℕ)) (olds news : List PortView)
+    → Fails never [] (write_each (told (flat_map (λ n. f (first + n)) (range_with_len 0 count)))) olds news
+    → Fails never [] (write_each (told (flat_map f (range_with_len first count)))) olds news
+shifted_failed first count f olds news fails = subst (λ acts. Fails never [] acts olds news) (shifted_lines first count f) fails
+
+-- as many lines as there are
+pub count_told : (f : ℕ → List (List ℕ)) (count total : ℕ) (olds news : List PortView) (result : Result (Unit {0}) Failed) → count ≡ total
+    → Ends never [] (write_each (told (flat_map f (range_with_len 0 count)))) [] olds news result
+    → Ends never [] (write_each (told (flat_map f (range_with_len 0 total)))) [] olds news result
+count_told f count total olds news result all ends =
+    subst (λ k. Ends never [] (write_each (told (flat_map f (range_with_len 0 k)))) [] olds news result) all ends
+
+-- a line that is given as bytes
+pub line_given : (bytes line : List ℕ) (olds news : List PortView) (result : Result (Unit {0}) Failed) → bytes ≡ line
+    → Ends never [] (writes std_out bytes ∷ []) [] olds news result → Ends never [] (writes std_out line ∷ []) [] olds news result
+line_given bytes line olds news result is ends = subst (λ all. Ends never [] (writes std_out all ∷ []) [] olds news result) is ends
+
+-- lines and then others
+
+pub lines_failed : (lines later : List (List ℕ)) (olds news : List PortView) (result : Result (Unit {0}) Failed) (failed : Failed) → result ≡ Err failed
+    → Ends never [] (write_each (told lines)) [] olds news result → Fails never [] (write_each (told (lines ++ later))) olds news
+lines_failed lines later olds news (Ok done) failed is ends = cc
+lines_failed lines later olds news (Err other) failed is ends =
+    subst (λ acts. Fails never [] acts olds news) (sym (told_append lines later))
+    (Fails-stop never [] (write_each (told lines)) (write_each (told later)) olds news ends)
+
+pub lines_then : (lines later : List (List ℕ)) (olds mids news : List PortView) (first result : Result (Unit {0}) Failed) → first ≡ Ok tt
+    → Ends never [] (write_each (told lines)) [] olds mids first → Ends never [] (write_each (told later)) [] mids news result
+    → Ends never [] (write_each (told (lines ++ later))) [] olds news result
+lines_then lines later olds mids news (Ok done) result is made ends =
+    subst (λ acts. Ends never [] acts [] olds news result) (sym (told_append lines later))
+    (Ends-on never [] [] [] (write_each (told lines)) (write_each (told later)) olds mids news result made ends)
+lines_then lines later olds mids news (Err failed) result is made ends = cc

@@ -1,5 +1,5 @@
 -- One want of a run: it is made, or its read fails.
-use Rattle.std.proofs.Common.{◌≡◌, ℕ, zero, suc, ◌+◌, ◌-◌, ◌<◌, ◌≤◌, Bool, true, false, List, [], ◌∷◌, ◌++◌, length, Option, None, Some, slice_get, slice_set, slice_index_or, Result, Err, refl, ap, sym, ◌∙◌, subst, arith, append_assoc, length-append}
+use Rattle.std.proofs.Common.{◌≡◌, ℕ, zero, suc, ◌+◌, ◌-◌, ◌<◌, Bool, true, false, List, [], ◌∷◌, ◌++◌, length, Option, None, Some, slice_get, slice_set, slice_index_or, Result, Err, refl, ap, sym, ◌∙◌, subst, arith, append_assoc, length-append}
 use Rattle.std.proofs.lemmas.List.{length-map}
 use Rattle.std.proofs.lemmas.Option.{slice_get_within}
 use Rattle.std.specs.Option.{unwrap_or}
@@ -35,13 +35,13 @@ use Rattle.phase_workers.specs.NodeFills.{FillsNode, fed_at}
 use Rattle.phase_workers.specs.Runnable.{IsRunnable}
 use Rattle.phase_workers.specs.StreamTypes.{type_at}
 use Rattle.run_rounds.specs.Inputs.{Inputs}
-use Rattle.run_rounds.specs.RunActs.{needed, round_wants, rounds_acts, run_acts, run_few, wants_of_node}
-use Rattle.run_rounds.specs.Runs.{FailsToRun}
+use Rattle.run_rounds.specs.RunActs.{made_acts, needed, round_wants, rounds_acts, run_few, wants_of_node}
+use Rattle.run_rounds.specs.MadeRounds.{FailsInRounds, IsPeak}
 use Rattle.run_rounds.specs.Streams.{ArePortsApart}
 use Rattle.run_rounds.specs.Writes.{span_of}
 use Rattle.run_rounds.specs.inner.Beginning.{MayBegin}
 use Rattle.run_rounds.specs.inner.Reading.{MayCome}
-use Rattle.run_rounds.specs.inner.Standing.{IsAfter, IsPeak}
+use Rattle.run_rounds.specs.inner.Standing.{IsAfter}
 use Rattle.run_rounds.specs.inner.Steps.{Stands, StandsFilling, filling_acts}
 use Rattle.run_rounds.proofs.ActSteps.{want_next, wants_more}
 use Rattle.run_rounds.proofs.EngineFacts.{queues_show_no_values}
@@ -110,10 +110,7 @@ module _ (traced : Bool) (steps done want : ℕ) (olds mids news : List PortView
   on : (text rest : List ℕ) → ((queue_at new n).ended ≡ true → rest ≡ [])
       → IsQueueOf core.types (type_at core n) (queue_at old n) text (stands.fed n) (fill.bytes ++ rest)
       → IsQueueOf core.types (type_at core n) (queue_at new n) text (stands.fed n ++ fill.values) rest
-  on text rest ends right =
-      let P : List Value → Type 0 = λ came. IsQueueOf core.types (type_at core n) (queue_at old n) text came (fill.bytes ++ rest) in
-      let Q : List Value → Type 0 = λ came. IsQueueOf core.types (type_at core n) (queue_at new n) text (came ++ fill.values) rest in
-      subst Q (sym fed_now.1) (fill.goes_on text fed_now.0 rest ends (subst P fed_now.1 right))
+  on text rest ends right = fill.goes_on text (stands.fed n) rest ends right
 
   earlier_may : (others : Inputs) → MayCome core (queue_at new) taken others → MayCome core (queue_at old) stands.taken others
   earlier_may others can =
@@ -214,7 +211,7 @@ module _ (traced : Bool) (steps done want : ℕ) (olds mids news : List PortView
       let here : node ≡ n = apart node n (From other) (From stream) other stream there is refl refl named in
       few_here good bad (subst (λ k. IsGoodUntil its.types (type_at its k) (whole_lines (bytes_for stream.port read)) good bad) here until)
 
-  pub want_failed : (Roomy mids [] → ⊥) → n < length its.nodes → FailsToRun its traced steps olds news
+  pub want_failed : (Roomy mids [] → ⊥) → n < length its.nodes → FailsInRounds its traced steps olds news
   want_failed no_room within =
       let coming = comes its run traced steps done (filling_acts its traced steps done n) olds mids old stood in
       let can = may its run traced steps done (filling_acts its traced steps done n) olds mids old stood in
@@ -223,11 +220,11 @@ module _ (traced : Bool) (steps done want : ℕ) (olds mids news : List PortView
       (let e = within in omega (arith, less, e)) filling.wanted (λ other there. filling.begun m other less there)) in
       let same = wants_are traced steps done want olds mids news old new n stream is run apart filling (Err ReadFailed) fill untouched coming.inputs.good
       (is_needed traced steps done want olds mids news old new n stream is run apart filling (Err ReadFailed) fill untouched coming.inputs can) in
-      let whole : run_acts its coming.inputs traced steps ≡ stood.acts ++ wants stream.port number ∷ next.0 =
+      let whole : made_acts its coming.inputs traced steps ≡ stood.acts ++ wants stream.port number ∷ next.0 =
       next.1 ∙ ap (λ (acts : List Act). acts ++ next.0) (same ∙ ap (λ (acts : List Act). acts ++ wants stream.port number ∷ []) (sym (stood.are coming.inputs can)))
       ∙ append_assoc stood.acts (wants stream.port number ∷ []) next.0 in
       record {
         comes = coming;
-        fails = then_fails (run_few its) [] stood.acts (wants stream.port number) next.0 (run_acts its coming.inputs traced steps) stood.taken olds mids news whole stood.made
+        fails = then_fails (run_few its) [] stood.acts (wants stream.port number) next.0 (made_acts its coming.inputs traced steps) stood.taken olds mids news whole stood.made
             (want_fails (run_few its) stood.taken stream.port number ((stream.port, fill.bytes) ∷ []) mids news fill.reads (only_of stream.port number fill.bytes) few no_room untouched);
       }

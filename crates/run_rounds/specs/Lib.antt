@@ -3,5 +3,8 @@ pub mod Inputs
 pub mod Writes
 pub mod RunActs
 pub mod Runs
+pub mod MadeRounds
+pub mod Telling
+pub mod Members
 pub mod Opened
 pub mod inner

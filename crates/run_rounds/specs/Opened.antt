@@ -11,6 +11,10 @@ use Rattle.phase_workers.specs.Engines.{core_of, span_of as room_of, state_of, q
 use Rattle.phase_workers.specs.StreamTypes.{type_at}
 use Rattle.run_rounds.specs.Writes.{span_of}
 
+-- the engine of the run
+abbrev pub engine_in : Running → Engine
+engine_in running = running.engine
+
 -- the core that it runs
 abbrev pub core_in : Running → Core
 core_in running = core_of running.engine

@@ -50,6 +50,21 @@ blocked_acts core inputs traced steps round None = []
 blocked_acts core inputs traced steps round (Some n) =
     round_wants core inputs.good (span_of traced) steps round (n + 1) ++ write_each (bad_value_writes core inputs (Some n))
 
+-- a round that a stream blocks: streams are read up to that one
+abbrev pub blocked_wants : Core → Inputs → Bool → ℕ → ℕ → Option ℕ → List Act
+blocked_wants core inputs traced steps round None = []
+blocked_wants core inputs traced steps round (Some n) = round_wants core inputs.good (span_of traced) steps round (n + 1)
+
+-- the acts of rounds, by the first blocked one
+abbrev pub made_until : Core → Inputs → Bool → ℕ → Option ℕ → List Act
+made_until core inputs traced steps None = rounds_acts core inputs.good traced steps (rounds_of (span_of traced) steps)
+made_until core inputs traced steps (Some round) =
+    rounds_acts core inputs.good traced steps (round - 1) ++ blocked_wants core inputs traced steps round (blocked_by core inputs traced steps round)
+
+-- The rounds of a run, before anything is told of them: all of them, or those before the first blocked one and the reads of that one.
+abbrev pub made_acts : Core → Inputs → Bool → ℕ → List Act
+made_acts core inputs traced steps = made_until core inputs traced steps (blocked_round core inputs (span_of traced) steps)
+
 -- the acts of a run, by its first blocked round
 abbrev pub acts_until : Core → Inputs → Bool → ℕ → Option ℕ → List Act
 acts_until core inputs traced steps None =

@@ -3,5 +3,4 @@ pub mod Beginning
 pub mod Standing
 pub mod Clearing
 pub mod Steps
-pub mod Telling
 pub mod Rounding

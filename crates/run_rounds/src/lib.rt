@@ -1,8 +1,10 @@
 //! The run of a core by rounds: before each round its input streams are read, and after it the lines of the round are written.
 //!
-//! Main calls: `Running::make` and `Running::run`. `Inputs.antt` says which values the texts bring to the streams, `Writes.antt`
+//! Main calls: `Running::make` and `Running::run`, or `Running::run_union` for the core of several programs; both make rounds
+//! (`make_rounds`) and then tell peaks or a bad line. `Inputs.antt` says which values the texts bring to the streams, `Writes.antt`
 //! what a run writes and which round is blocked, `RunActs.antt` which reads and writes it makes and in which order, `Runs.antt`
-//! how a run ended, and `Opened.antt` what it is before its first superstep.
+//! how a run ended, `MadeRounds.antt` how its rounds ended before anything was told of them, `Members.antt` what a run of several
+//! programs tells, and `Opened.antt` what a run is before its first superstep.
 //!
 //! Proved: `run` makes exactly the acts that the texts of the ports owe (`RunsTo`), or one of them has failed and those before it
 //! were made (`FailsToRun`). A read failed only where the whole lines that were taken from its port have fewer good values than its
@@ -21,14 +23,17 @@ mod bad_line;
 mod draining;
 mod filling;
 mod laws;
+mod members;
 mod nodes;
 mod rounds;
 mod run;
 mod telling;
 
+pub use bad_line::BadLine;
 pub use laws::{
     each_run_has_inputs, inputs_are_unique, inputs_have_types, runs_write_their_lines,
     wants_stand_before_rounds,
 };
+pub use members::Member;
 pub use rounds::SPAN;
 pub use run::Running;

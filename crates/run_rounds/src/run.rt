@@ -1,9 +1,11 @@
 //! A run that is open.
-ghost use Rattle.std.specs.Prelude.{◌≡◌, ◌≤◌, ◌<◌, ◌*◌, ◌^◌, map, IfOk, None};
+ghost use Rattle.std.specs.Prelude.{◌≡◌, ◌≤◌, ◌<◌, ◌*◌, ◌^◌, ◌∷◌, [], suc, length, map, slice_get, IfOk, None};
 ghost use Rattle.hume_base.specs.Least.{IsLeast};
 ghost use Rattle.hume_net.specs.StatePlaces.{BoxesHandleAll};
 ghost use Rattle.hume_ports.specs.Ports.{names};
 ghost use Rattle.hume_text.specs.Chunks.{room_of};
+ghost use Rattle.port_acts.specs.Acts.{write_each, writes};
+ghost use Rattle.port_acts.specs.Ends.{Ends, never};
 ghost use Rattle.port_acts.specs.Places.{IsPlaceOf};
 ghost use Rattle.wiring_check.specs.Wires.{IsWiringOf};
 ghost use Rattle.box_compile.specs.Programs.{AreProgramsOf};
@@ -12,10 +14,17 @@ ghost use Rattle.phase_workers.specs.Engines.{core_of};
 ghost use Rattle.phase_workers.specs.Runnable.{IsRunnable};
 ghost use Rattle.run_rounds.specs.Streams.{ArePlacesOf, ArePortsApart, std_out};
 ghost use Rattle.trace_print.specs.Rooms.{line_room};
+ghost use Rattle.run_rounds.specs.MadeRounds.{RoundsEnd};
+ghost use Rattle.run_rounds.specs.Members.{EndsMembers, member_bad_line, member_lines, members_before, nodes_of, views};
 ghost use Rattle.run_rounds.specs.Runs.{EndsRun};
+ghost use Rattle.run_rounds.specs.Telling.{top_there, tops};
+ghost use Rattle.run_rounds.specs.Writes.{bad_value_line, name_of, told};
+ghost use Rattle.trace_print.specs.TraceLines.{peak_lines};
 
+use crate::bad_line::BadLine;
+use crate::members::Member;
 use crate::rounds::{make_rounds, span};
-use crate::telling::{tell_bad_line, tell_peaks};
+use crate::telling::{tell_bad_line, tell_member_bad_line, tell_members, tell_peaks};
 use box_code::BoxProgram;
 use hume_base::List;
 use hume_base::limits::MAX_TYPE_WORDS;
@@ -44,7 +53,7 @@ pub struct Running {
 }
 
 impl Running {
-    ghost use Rattle.run_rounds.specs.Opened.{core_in, traced_in, IsOpened};
+    ghost use Rattle.run_rounds.specs.Opened.{core_in, engine_in, traced_in, IsOpened};
 
     /// The run of a core before its first superstep, of boxes whose programs are given. If `traced`, it will tell all wires after each
     /// superstep. It takes all memory that the run needs.
@@ -100,7 +109,83 @@ impl Running {
         ensures ends { EndsRun (core_in self.old) (traced_in self.old) steps (map view ports.old) (map view ports.new) result }
         ensures same_names { names (map view ports.new) ≡ names (map view ports.old) }
     {
-        match make_rounds(
+        match self.make_rounds(rt, steps, workers, gate, ports, places, out) {
+            Ok(None) => match self.tell_peaks(ports, out) {
+                Ok(()) => Ok(false),
+                Err(failed) => Err(failed),
+            },
+            Ok(Some(bad)) => match self.tell_bad_line(bad, ports, out) {
+                Ok(()) => Ok(true),
+                Err(failed) => Err(failed),
+            },
+            Err(failed) => Err(failed),
+        }
+    }
+
+    /// Runs the core of a union as `run` does, and tells all by its programs.
+    pub fn run_union<R: Threads + Sync, G: Gate>(
+        &mut self,
+        rt: &R,
+        members: &[Member],
+        steps: u32,
+        workers: u32,
+        gate: &G,
+        ports: &mut [Box<dyn Port>],
+        places: &[usize],
+        out: usize,
+    ) -> Result<bool, Failed>
+        requires workers { workers ≤ 2 ^ 16 }
+        requires runnable { IsRunnable (core_in self.old) }
+        requires places { ArePlacesOf (core_in self.old) (names (map view ports.old)) places.now }
+        requires apart { ArePortsApart (core_in self.old) }
+        requires out { IsPlaceOf std_out (names (map view ports.old)) out }
+        requires opened { IsOpened (core_in self.old) (traced_in self.old) self.old }
+        requires few { length members.now < 2 ^ 31 }
+        requires nodes { nodes_of (views members.now) ≤ length (core_in self.old).nodes }
+        ensures ends { EndsMembers (core_in self.old) (views members.now) (traced_in self.old) steps (map view ports.old) (map view ports.new) result }
+        ensures same_names { names (map view ports.new) ≡ names (map view ports.old) }
+    {
+        match self.make_rounds(rt, steps, workers, gate, ports, places, out) {
+            Ok(None) => {
+                match self.tell_members(members, ports, out) {
+                    Ok(()) => {}
+                    Err(failed) => return Err(failed),
+                }
+                Ok(false)
+            }
+            Ok(Some(bad)) => {
+                match self.tell_member_bad_line(members, bad, ports, out) {
+                    Ok(()) => {}
+                    Err(failed) => return Err(failed),
+                }
+                Ok(true)
+            }
+            Err(failed) => Err(failed),
+        }
+    }
+
+    /// Makes `steps` supersteps by rounds of at most `workers` threads, until a bad line of a stream blocks one: it is the answer then.
+    pub fn make_rounds<R: Threads + Sync, G: Gate>(
+        &mut self,
+        rt: &R,
+        steps: u32,
+        workers: u32,
+        gate: &G,
+        ports: &mut [Box<dyn Port>],
+        places: &[usize],
+        out: usize,
+    ) -> Result<Option<BadLine>, Failed>
+        requires workers { workers ≤ 2 ^ 16 }
+        requires runnable { IsRunnable (core_in self.old) }
+        requires places { ArePlacesOf (core_in self.old) (names (map view ports.old)) places.now }
+        requires apart { ArePortsApart (core_in self.old) }
+        requires out { IsPlaceOf std_out (names (map view ports.old)) out }
+        requires opened { IsOpened (core_in self.old) (traced_in self.old) self.old }
+        ensures core { core_in self.new ≡ core_in self.old }
+        ensures ends { RoundsEnd (core_in self.old) (traced_in self.old) steps (map view ports.old) (map view ports.new) (engine_in self.new) result }
+        ensures same_names { names (map view ports.new) ≡ names (map view ports.old) }
+    {
+        make_rounds(
             rt,
             &mut self.engine,
             self.traced,
@@ -111,22 +196,76 @@ impl Running {
             places,
             out,
             &mut self.chunk,
-        ) {
-            Ok(None) => match tell_peaks(&self.engine, ports, out, &mut self.chunk) {
-                Ok(()) => Ok(false),
-                Err(failed) => Err(failed),
-            },
-            Ok(Some(bad)) => match tell_bad_line(
-                self.engine.core(),
-                bad,
-                ports,
-                out,
-                &mut self.chunk,
-            ) {
-                Ok(()) => Ok(true),
-                Err(failed) => Err(failed),
-            },
-            Err(failed) => Err(failed),
-        }
+        )
+    }
+
+    /// Tells what each box has taken at most in one of its execute steps.
+    pub fn tell_peaks(&mut self, ports: &mut [Box<dyn Port>], out: usize) -> Result<(), Failed>
+        requires runnable { IsRunnable (core_in self.old) }
+        requires out { IsPlaceOf std_out (names (map view ports.old)) out }
+        ensures ends { Ends never [] (write_each (told (peak_lines (core_in self.old) (tops (engine_in self.old))))) []
+            (map view ports.old) (map view ports.new) result }
+        ensures same_names { names (map view ports.new) ≡ names (map view ports.old) }
+    {
+        tell_peaks(&self.engine, ports, out, &mut self.chunk)
+    }
+
+    /// Tells the bad line of an input stream.
+    pub fn tell_bad_line(
+        &mut self,
+        bad: BadLine,
+        ports: &mut [Box<dyn Port>],
+        out: usize,
+    ) -> Result<(), Failed>
+        requires runnable { IsRunnable (core_in self.old) }
+        requires out { IsPlaceOf std_out (names (map view ports.old)) out }
+        ensures ends { Ends never [] (writes std_out (bad_value_line (name_of (slice_get (core_in self.old).nodes bad.node)) bad.line) ∷ []) []
+            (map view ports.old) (map view ports.new) result }
+        ensures same_names { names (map view ports.new) ≡ names (map view ports.old) }
+    {
+        tell_bad_line(self.engine.core(), bad, ports, out, &mut self.chunk)
+    }
+
+    /// Tells what each box of a union has taken at most, by its programs.
+    pub fn tell_members(
+        &mut self,
+        members: &[Member],
+        ports: &mut [Box<dyn Port>],
+        out: usize,
+    ) -> Result<(), Failed>
+        requires runnable { IsRunnable (core_in self.old) }
+        requires nodes { nodes_of (views members.now) ≤ length (core_in self.old).nodes }
+        requires out { IsPlaceOf std_out (names (map view ports.old)) out }
+        ensures ends { Ends never [] (write_each (told (member_lines (top_there (engine_in self.old)) 0 (views members.now)))) []
+            (map view ports.old) (map view ports.new) result }
+        ensures same_names { names (map view ports.new) ≡ names (map view ports.old) }
+    {
+        tell_members(&self.engine, members, 0, ports, out, &mut self.chunk)
+    }
+
+    /// Tells the bad line of an input stream of a union, and the number of its program.
+    pub fn tell_member_bad_line(
+        &mut self,
+        members: &[Member],
+        bad: BadLine,
+        ports: &mut [Box<dyn Port>],
+        out: usize,
+    ) -> Result<(), Failed>
+        requires runnable { IsRunnable (core_in self.old) }
+        requires few { length members.now < 2 ^ 31 }
+        requires out { IsPlaceOf std_out (names (map view ports.old)) out }
+        ensures ends { Ends never []
+            (writes std_out (member_bad_line (suc (members_before (views members.now) bad.node)) (name_of (slice_get (core_in self.old).nodes bad.node)) bad.line) ∷ []) []
+            (map view ports.old) (map view ports.new) result }
+        ensures same_names { names (map view ports.new) ≡ names (map view ports.old) }
+    {
+        tell_member_bad_line(
+            self.engine.core(),
+            members,
+            bad,
+            ports,
+            out,
+            &mut self.chunk,
+        )
     }
 }

@@ -25,6 +25,7 @@ pub mod Positions
 pub mod Unions
 pub mod AloneInUnions
 pub mod Programs
+pub mod ProgramPeaks
 pub mod KnownCalls
 pub mod Starts
 pub mod UnionFormed

@@ -32,7 +32,7 @@ all_alone core (next ∷ others) alone each =
 self_at : {X : Type 0} (f : X → X) (xs : List X) (n k : ℕ) (x : X) → k ≡ n → f x ≡ x → slice_get xs n ≡ Some x → slice_get xs k ≡ Some (f x)
 self_at f xs n k x at same found = ap (slice_get xs) at ∙ found ∙ ap Some (sym same)
 
-self_stands : (core : Core) → StandsIn unmoved 0 core core
+pub self_stands : (core : Core) → StandsIn unmoved 0 core core
 self_stands core = record {
   funs = λ n function found. self_at (moved_function unmoved) core.funs n (0 + n) function (omega arith) (function_same function) found;
   nodes = λ n node found. self_at (moved_node unmoved) core.nodes n (0 + n) node (omega arith) (node_same node) found;
@@ -41,7 +41,7 @@ self_stands core = record {
   out_of = λ n output within. (let at : 0 + n ≡ n = omega arith in ap (λ k. wire_from core k output) at ∙ as_found (wire_from core n output));
 }
 
-take_all : {X : Type 0} (n : ℕ) (xs : List X) → length xs ≡ n → take n xs ≡ xs
+pub take_all : {X : Type 0} (n : ℕ) (xs : List X) → length xs ≡ n → take n xs ≡ xs
 take_all zero [] long = refl
 take_all zero (x ∷ xs) long = absurd (omega arith)
 take_all (suc n) [] long = refl
@@ -66,13 +66,13 @@ own_share core s alone (suc k) =
     (lockstep_share unmoved 0 core core alone (self_stands core) s (left core s) (left_share core s) (suc k))
     places (superstep_state core (lockstep core (left core s) k))
 
-take_less : {X : Type 0} (m n k : ℕ) (xs : List X) → k ≡ m + n → take m (take k xs) ≡ take m xs
+pub take_less : {X : Type 0} (m n k : ℕ) (xs : List X) → k ≡ m + n → take m (take k xs) ≡ take m xs
 take_less zero n k xs at = refl
 take_less (suc m) n zero xs at = absurd (omega arith)
 take_less (suc m) n (suc k) [] at = refl
 take_less (suc m) n (suc k) (x ∷ xs) at = ap (λ ys. x ∷ ys) (take_less m n k xs (omega arith))
 
-take_rest : {X : Type 0} (m n k : ℕ) (xs : List X) → k ≡ m + n → drop m (take k xs) ≡ take n (drop m xs)
+pub take_rest : {X : Type 0} (m n k : ℕ) (xs : List X) → k ≡ m + n → drop m (take k xs) ≡ take n (drop m xs)
 take_rest m n k xs at = ap (λ j. drop m (take j xs)) at ∙ drop-take m n xs
 
 module _ (a b : Core) (s : State) where
@@ -83,7 +83,7 @@ module _ (a b : Core) (s : State) where
   many_wires = all_wires a b
 
   -- the first program's share of the share of both
-  left_left : left a (left (united a b) s) ≡ left a s
+  pub left_left : left a (left (united a b) s) ≡ left a s
   left_left = λ i. record {
     wires = take_less (length a.wires) (length b.wires) (length (united a b).wires) s.wires many_wires i;
     pending = take_less (length a.nodes) (length b.nodes) (length (united a b).nodes) s.pending many_nodes i;
@@ -93,7 +93,7 @@ module _ (a b : Core) (s : State) where
   }
 
   -- and the second one's
-  right_left : right a (left (united a b) s) ≡ left b (right a s)
+  pub right_left : right a (left (united a b) s) ≡ left b (right a s)
   right_left = λ i. record {
     wires = take_rest (length a.wires) (length b.wires) (length (united a b).wires) s.wires many_wires i;
     pending = take_rest (length a.nodes) (length b.nodes) (length (united a b).nodes) s.pending many_nodes i;
@@ -115,14 +115,14 @@ first_alone core (next ∷ others) alone each s k =
     ∙ ap (λ t. lockstep core t k) (left_left core next s)
 
 -- the programs before a place, the one there, and those behind
-record IsAmong (core : Core) (programs : List Core) (place : ℕ) (program : Core) : Type 0 where
-  later : List Core
-  later_alone : All RunsAlone later
-  before_alone : RunsAlone (followed_by core (take place programs))
-  alone : RunsAlone program
-  whole : followed_by core programs ≡ followed_by (united (followed_by core (take place programs)) program) later
+pub record IsAmong (core : Core) (programs : List Core) (place : ℕ) (program : Core) : Type 0 where
+  pub later : List Core
+  pub later_alone : All RunsAlone later
+  pub before_alone : RunsAlone (followed_by core (take place programs))
+  pub alone : RunsAlone program
+  pub whole : followed_by core programs ≡ followed_by (united (followed_by core (take place programs)) program) later
 
-among : (core : Core) (programs : List Core) (place : ℕ) (program : Core) → RunsAlone core → All RunsAlone programs → slice_get programs place ≡ Some program
+pub among : (core : Core) (programs : List Core) (place : ℕ) (program : Core) → RunsAlone core → All RunsAlone programs → slice_get programs place ≡ Some program
     → IsAmong core programs place program
 among core [] place program first each found = cc
 among core (x ∷ xs) zero program first each found =

@@ -52,7 +52,7 @@ module _ (moves : Moves) (first : ℕ) (small large : Core) (alone : RunsAlone s
         let at = there_is small.nodes n within in
         ap (node_step_spent large s (moves.nodes + n)) (stands.nodes n at.0 at.1) ∙ node_same n within at.0 at.1 ∙ ap (node_step_spent small t n) (sym at.1)
 
-  peaks_same : (s t : State) → IsShare moves first small s t → (steps n : ℕ) → n < length small.nodes → peaks large s steps (moves.nodes + n) ≡ peaks small t steps n
+  pub peaks_same : (s t : State) → IsShare moves first small s t → (steps n : ℕ) → n < length small.nodes → peaks large s steps (moves.nodes + n) ≡ peaks small t steps n
   peaks_same s t share steps n within =
       λ i. any_of (map (λ k. step_same (lockstep large s k) (lockstep small t k) (lockstep_share moves first small large alone stands s t share k) n within i) (range_with_len 0 steps))
 

@@ -27,3 +27,7 @@ right a state = record {
 -- those of a program that stands at a place of a list
 abbrev pub share : List Core → ℕ → Core → State → State
 share programs place program state = left program (right (united_all (take place programs)) state)
+
+-- how many nodes the programs before a place of a list have together
+abbrev pub nodes_before : List Core → ℕ → ℕ
+nodes_before programs place = length (united_all (take place programs)).nodes

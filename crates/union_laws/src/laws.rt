@@ -15,7 +15,7 @@ ghost use Rattle.box_costs.specs.Bounds.{box_bound};
 ghost use Rattle.net_costs.specs.Steps.{peaks};
 ghost use Rattle.union_laws.specs.Moving.{moved_box};
 ghost use Rattle.union_laws.specs.Room.{HasRoom};
-ghost use Rattle.union_laws.specs.Shares.{left, right, share};
+ghost use Rattle.union_laws.specs.Shares.{left, nodes_before, right, share};
 ghost use Rattle.union_laws.specs.Union.{behind, united, united_all};
 
 /// A program of a union runs as it runs alone: from every state and after any number of supersteps its share of the state is
@@ -32,6 +32,9 @@ pub fn programs_run_as_alone()
 pub fn programs_start_as_alone()
     ensures left { (a b : Core) (coming : List (List Value)) → left a (start (united a b) coming) ≡ start a (take (length a.nodes) coming) }
     ensures right { (a b : Core) (coming : List (List Value)) → right a (start (united a b) coming) ≡ start b (drop (length a.nodes) coming) }
+    ensures each { (programs : List Core) → All IsWellFormed programs → (place : ℕ) (program : Core) → slice_get programs place ≡ Some program
+        → (coming : List (List Value)) → share programs place program (start (united_all programs) coming)
+        ≡ start program (take (length program.nodes) (drop (nodes_before programs place) coming)) }
 {}
 
 /// The union of two well-formed programs is well formed where it is within the limits of a program.
@@ -54,6 +57,9 @@ pub fn nodes_take_what_they_take_alone()
         → peaks (united a b) state steps n ≡ peaks a (left a state) steps n }
     ensures right { (a b : Core) → IsWellFormed a → IsWellFormed b → (state : State) (steps n : ℕ) → n < length b.nodes
         → peaks (united a b) state steps (length a.nodes + n) ≡ peaks b (right a state) steps n }
+    ensures each { (programs : List Core) → All IsWellFormed programs → (place : ℕ) (program : Core) → slice_get programs place ≡ Some program
+        → (state : State) (steps n : ℕ) → n < length program.nodes
+        → peaks (united_all programs) state steps (nodes_before programs place + n) ≡ peaks program (share programs place program state) steps n }
 {}
 
 /// A box of a union has the bounds of heap, stack and work that it has in its program alone.

@@ -1,5 +1,5 @@
 -- Whether a round may begin: what each input stream has brought, and what it has left to read.
-use Rattle.std.specs.Prelude.{◌≡◌, ◌⊎◌, ℕ, ◌≤◌, true, List, [], ◌++◌, length, None, Some, slice_get}
+use Rattle.std.specs.Prelude.{◌≡◌, ◌⊎◌, ℕ, ◌≤◌, true, List, [], ◌++◌, length, None, Some}
 use Rattle.hume_base.specs.declared.types.Value.{Value}
 use Rattle.hume_model.specs.declared.core_tree.Core.{Core}
 use Rattle.hume_net.specs.declared.state.State.{State}

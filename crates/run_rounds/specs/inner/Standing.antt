@@ -16,10 +16,9 @@ use Rattle.hume_ports.specs.Port.{PortView}
 use Rattle.hume_ports.specs.Ports.{left_of}
 use Rattle.hume_ports.specs.Delivery.{Pairs, bytes_for}
 use Rattle.hume_streams.specs.Queues.{QueueView}
-use Rattle.net_costs.specs.Steps.{peaks}
 use Rattle.phase_workers.specs.Engines.{EngineView as Engine}
-use Rattle.phase_workers.specs.Engines.{heap_peak_at, stack_peak_at}
 use Rattle.run_rounds.specs.Inputs.{Inputs, is_bad}
+use Rattle.run_rounds.specs.MadeRounds.{IsPeak}
 use Rattle.run_rounds.specs.inner.Reading.{HasRead, MayCome, later_of}
 
 -- Whatever may come, the net's state is a piece of the whole run's state after so many supersteps.
@@ -47,11 +46,6 @@ pub record IsAfter (core : Core) (span steps done : ℕ) (queues : ℕ → Queue
 abbrev pub EndsAreTold : Core → (ℕ → QueueView) → Pairs → List PortView → Type 0
 EndsAreTold core queues taken olds = (n : ℕ) (stream : StreamC) → slice_get core.nodes n ≡ Some (From stream) → (queues n).ended ≡ true
     → IfSome (left_of stream.port olds) (λ left. left ≡ bytes_for stream.port taken)
-
--- the engine's peak of a node is that of so many supersteps
-pub record IsPeak (core : Core) (good : List (List Value)) (supersteps : ℕ) (engine : Engine) (n : ℕ) : Type 0 where
-  pub heap : heap_peak_at engine n ≡ (peaks core (start core good) supersteps n).heap
-  pub stack : stack_peak_at engine n ≡ (peaks core (start core good) supersteps n).stack
 
 -- Whatever may come, the engine's peaks are those of the whole run's first supersteps.
 abbrev pub ArePeaks : Core → (ℕ → QueueView) → Engine → Pairs → ℕ → Type 0

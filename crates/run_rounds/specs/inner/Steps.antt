@@ -17,7 +17,7 @@ use Rattle.phase_workers.specs.Engines.{core_of, coming_at, queue_at, span_of as
 use Rattle.run_rounds.specs.Inputs.{Inputs}
 use Rattle.run_rounds.specs.Writes.{span_of}
 use Rattle.run_rounds.specs.RunActs.{round_wants, rounds_acts}
-use Rattle.run_rounds.specs.Runs.{FailsToRun}
+use Rattle.run_rounds.specs.MadeRounds.{FailsInRounds}
 use Rattle.run_rounds.specs.inner.Beginning.{MayBegin, StandsBeforeBad}
 use Rattle.run_rounds.specs.inner.Reading.{MayCome}
 use Rattle.run_rounds.specs.inner.Standing.{ArePeaks, EndsAreTold, IsAfter}
@@ -71,12 +71,12 @@ abbrev pub EndsNode : Core → Bool → ℕ → ℕ → ℕ → ℕ → List Por
 EndsNode core traced steps done node want olds news engine (Ok None) = StandsFilling core traced steps done (node + 1) want olds news engine
 EndsNode core traced steps done node want olds news engine (Ok (Some line)) =
     StandsBlocked core traced steps done want olds news engine (record { node = node; line = line })
-EndsNode core traced steps done node want olds news engine (Err failed) = FailsToRun core traced steps olds news
+EndsNode core traced steps done node want olds news engine (Err failed) = FailsInRounds core traced steps olds news
 
 abbrev pub EndsFills : Core → Bool → ℕ → ℕ → ℕ → List PortView → List PortView → Engine → Result (Option BadLine) Failed → Type 0
 EndsFills core traced steps done want olds news engine (Ok None) = StandsFilling core traced steps done (length core.nodes) want olds news engine
 EndsFills core traced steps done want olds news engine (Ok (Some bad)) = StandsBlocked core traced steps done want olds news engine bad
-EndsFills core traced steps done want olds news engine (Err failed) = FailsToRun core traced steps olds news
+EndsFills core traced steps done want olds news engine (Err failed) = FailsInRounds core traced steps olds news
 
 -- The run stands before a round that a stream blocks.
 pub record HaltsBefore (core : Core) (traced : Bool) (steps : ℕ) (olds news : List PortView) (engine : Engine) (bad : BadLine) : Type 0 where
@@ -87,9 +87,9 @@ pub record HaltsBefore (core : Core) (traced : Bool) (steps : ℕ) (olds news : 
 abbrev pub EndsRound : Core → Bool → ℕ → ℕ → List PortView → List PortView → Engine → Result (Option BadLine) Failed → Type 0
 EndsRound core traced steps done olds news engine (Ok None) = StandsAfter core traced steps (suc done) olds news engine
 EndsRound core traced steps done olds news engine (Ok (Some bad)) = HaltsBefore core traced steps olds news engine bad
-EndsRound core traced steps done olds news engine (Err failed) = FailsToRun core traced steps olds news
+EndsRound core traced steps done olds news engine (Err failed) = FailsInRounds core traced steps olds news
 
 abbrev pub EndsRounds : Core → Bool → ℕ → List PortView → List PortView → Engine → Result (Option BadLine) Failed → Type 0
 EndsRounds core traced steps olds news engine (Ok None) = StandsAfter core traced steps (rounds_of (span_of traced) steps) olds news engine
 EndsRounds core traced steps olds news engine (Ok (Some bad)) = HaltsBefore core traced steps olds news engine bad
-EndsRounds core traced steps olds news engine (Err failed) = FailsToRun core traced steps olds news
+EndsRounds core traced steps olds news engine (Err failed) = FailsInRounds core traced steps olds news

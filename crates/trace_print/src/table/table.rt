@@ -46,8 +46,8 @@ pub fn write_table(
     write_total(core, costs, chunk, ports, at)
 }
 
-// The lines of all boxes, in source order.
-fn write_boxes(
+/// Writes the lines of all boxes, in source order, to the port at that place.
+pub fn write_boxes(
     core: &Core,
     costs: &Costs,
     chunk: &mut Chunk,

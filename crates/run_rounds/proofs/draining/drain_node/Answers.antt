@@ -1,4 +1,4 @@
-use Rattle.std.proofs.Common.{◌∙◌, ap, arith, length, subst, sym, refl, inr, [], Ok, Err}
+use Rattle.std.proofs.Common.{arith, subst, sym, refl, inr, []}
 use Rattle.hume_net.specs.Nodes.{IsOutputStream}
 use Rattle.hume_net.specs.Sides.{part_of}
 use Rattle.port_acts.specs.Acts.{write_each}

@@ -1,9 +1,6 @@
-use Rattle.std.proofs.Common.{◌<◌, ◌∙◌, ap, arith, Ok, subst, sym}
+use Rattle.std.proofs.Common.{◌<◌, ◌∙◌, ap, Ok, subst}
 use Rattle.hume_net.specs.rounds.Rounds.{rounds_of}
-use Rattle.run_rounds.specs.Writes.{span_of}
-use Rattle.phase_workers.specs.Runnable.{IsRunnable}
-use Rattle.run_rounds.specs.Streams.{ArePortsApart}
-use Rattle.run_rounds.proofs.RoundMaking.{rounding_none, rounding_next, rounds_halted, rounds_failed, rounds_over, stands_own, next_round}
+use Rattle.run_rounds.proofs.RoundMaking.{rounding_none, rounding_next, rounds_halted, rounds_failed, stands_own, next_round}
 use Rattle.run_rounds.proofs.rounds.make_rounds.Goals as goal
 
 pub loop-done-init : goal.loop-done-init

@@ -1,4 +1,3 @@
-use Rattle.std.proofs.Common.{◌≡◌}
 use Rattle.phase_workers.specs.Engines.{core_of}
 use Rattle.run_rounds.proofs.RoundMaking.{not_told}
 use Rattle.run_rounds.proofs.rounds.tell_wires_now.Goals as goal
