@@ -3,7 +3,7 @@ use Rattle.std.proofs.lemmas.List.{take_rest}
 use Rattle.std.proofs.lemmas.List.Splits.{length-slice_split, slice_split_first, slice_split_none}
 use Rattle.std.proofs.lemmas.List.Sums.{fails_before_first}
 use Rattle.std.proofs.Common.{◌≡◌, ℕ, ◌+◌, ◌-◌, ◌<◌, nat_lt, Bool, true, false, cond, List, [], ◌∷◌, length, take, drop, Some, None, refl, ap, sym, ◌∙◌, arith}
-use Rattle.std.specs.List.{position, position_or_len}
+use Rattle.std.specs.List.{position, position_or_len, slice_split}
 use Rattle.std.proofs.lemmas.Bool.{ltb-false, ltb-true}
 use Rattle.hume_model.specs.declared.core_tree.Core.{Core}
 use Rattle.box_calculus.specs.Lines.{is_space, step_of, step_of_words, words_of}
@@ -18,8 +18,9 @@ some_within n count at is = by (nat_lt n count) refl is
 pub position_within : {X : Type 0} (test : X → Bool) (xs : List X) (at : ℕ) → position test xs ≡ Some at → at < length xs
 position_within test xs at is = let both = some_within (position_or_len test xs) (length xs) at is in rw (← both.0) both.1
 
-pub no_cut : (xs : List ℕ) → position is_space xs ≡ None → words_of xs ≡ xs ∷ []
-no_cut xs none = slice_split_none is_space xs (λ k x within. fails_before_first is_space xs k x (at_end (length xs) (position_or_len is_space xs) none within))
+-- where no element passes the test, all is one part
+pub one_part : (test : ℕ → Bool) (xs : List ℕ) → position test xs ≡ None → slice_split test xs ≡ xs ∷ []
+one_part test xs none = slice_split_none test xs (λ k x within. fails_before_first test xs k x (at_end (length xs) (position_or_len test xs) none within))
   where
     at_end : (count n : ℕ) → cond (nat_lt n count) (Some n) None ≡ None → {k : ℕ} → k < count → k < n
     at_end count n none {k} within = by (nat_lt n count) refl none
@@ -28,10 +29,18 @@ no_cut xs none = slice_split_none is_space xs (λ k x within. fails_before_first
         by true below none = cc
         by false below none = (let least = ltb-false n count below in omega (arith, least, within))
 
+-- where one does, the first part ends before the first that does
+pub first_part : (test : ℕ → Bool) (xs : List ℕ) (at : ℕ) → position test xs ≡ Some at
+    → slice_split test xs ≡ take at xs ∷ slice_split test (drop (at + 1) xs)
+first_part test xs at is =
+    let both = some_within (position_or_len test xs) (length xs) at is in
+    slice_split_first test xs 0 both.1 ∙ ap (λ k. take k xs ∷ slice_split test (drop (k + 1) xs)) both.0
+
+pub no_cut : (xs : List ℕ) → position is_space xs ≡ None → words_of xs ≡ xs ∷ []
+no_cut = one_part is_space
+
 cut_at : (xs : List ℕ) (at : ℕ) → position is_space xs ≡ Some at → words_of xs ≡ take at xs ∷ words_of (drop (at + 1) xs)
-cut_at xs at is =
-    let both = some_within (position_or_len is_space xs) (length xs) at is in
-    slice_split_first is_space xs 0 both.1 ∙ ap (λ k. take k xs ∷ words_of (drop (k + 1) xs)) both.0
+cut_at = first_part is_space
 
 -- the same by slices of the line
 pub cut_slices : (xs : List ℕ) (at : ℕ) → position is_space xs ≡ Some at

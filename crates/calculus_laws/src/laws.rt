@@ -1,5 +1,5 @@
 //! Laws of the definitions, as contracts of functions that do nothing.
-ghost use Rattle.std.specs.Prelude.{◌≡◌, ◌≤◌, ℕ, true, List, None, Some, length};
+ghost use Rattle.std.specs.Prelude.{◌≡◌, ◌≤◌, ℕ, true, List, map, None, Some, length};
 ghost use Rattle.hume_base.specs.declared.limits.TheConstants.{MAX_NAME_BYTES};
 ghost use Rattle.hume_base.specs.declared.token.Kind.TheVariants.{Lower};
 ghost use Rattle.hume_lex.specs.Spelling.{Spells};
@@ -17,7 +17,7 @@ ghost use Rattle.hume_net.specs.Lockstep.{lockstep};
 ghost use Rattle.hume_net.specs.Start.{start};
 ghost use Rattle.calculus_laws.specs.declared.step.Step.{Step};
 ghost use Rattle.calculus_laws.specs.declared.step.Step.TheVariants.{Unfold};
-ghost use Rattle.calculus_laws.specs.Boxes.{box_at};
+ghost use Rattle.calculus_laws.specs.Boxes.{box_at, without_rules};
 ghost use Rattle.calculus_laws.specs.NamedAgain.{rule_again};
 ghost use Rattle.calculus_laws.specs.Names.{is_function_name};
 ghost use Rattle.calculus_laws.specs.Naming.{OnlyOutput, calling_box, named_output, output_at};
@@ -46,10 +46,13 @@ pub fn rewrites_break_no_rules()
         → (finding : Finding) → BreaksHandlers (rewritten core step) finding → BreaksHandlers core finding }
 {}
 
-/// A net starts with its boxes in the written order, and no superstep changes the order of a box that isn't fair.
+/// A net starts with its boxes in the written order, and no superstep changes the order of a box that isn't fair. The written
+/// orders of a core are those of the core that a step makes.
 pub fn unfair_boxes_keep_the_written_order()
     ensures starts { (core : Core) (coming : List (List Value)) → HasWrittenOrders core (start core coming) }
     ensures supersteps { (core : Core) (state : State) → HasWrittenOrders core state → (k : ℕ) → HasWrittenOrders core (lockstep core state k) }
+    ensures steps { (core : Core) (step : Step) → IsOnRule core step → refusal core step ≡ None
+        → (state : State) → HasWrittenOrders core state → HasWrittenOrders (rewritten core step) state }
 {}
 
 /// Unfolding a call raises neither the heap nor the stack of any box, and the work of its box by at most 16 instructions.
@@ -59,13 +62,15 @@ pub fn unfolds_raise_no_heap_or_stack()
         → IsUnfoldedBound (box_bound (rewritten core (Unfold node rule)) new) (box_bound core old) }
 {}
 
-/// A step changes no data type, no exception and no wire, and there are as many nodes as before.
+/// A step changes no data type, no exception, no wire, and nothing of a node but the rules of a box.
 pub fn rewrites_keep_types()
     ensures types { (core : Core) (step : Step) → IsOnRule core step → refusal core step ≡ None → (rewritten core step).types ≡ core.types }
     ensures exceptions { (core : Core) (step : Step) → IsOnRule core step → refusal core step ≡ None → (rewritten core step).exns ≡ core.exns }
     ensures wires { (core : Core) (step : Step) → IsOnRule core step → refusal core step ≡ None → (rewritten core step).wires ≡ core.wires }
     ensures nodes { (core : Core) (step : Step) → IsOnRule core step → refusal core step ≡ None
         → length (rewritten core step).nodes ≡ length core.nodes }
+    ensures others { (core : Core) (step : Step) → IsOnRule core step → refusal core step ≡ None
+        → map without_rules (rewritten core step).nodes ≡ map without_rules core.nodes }
 {}
 
 /// A step keeps the wires of a core: where each input and output has its one wire, it has it in the new core, and where types

@@ -1,4 +1,4 @@
-use Rattle.calculus_laws.proofs.KeptTypes.{exceptions_kept, nodes_kept, types_kept, wires_stay}
+use Rattle.calculus_laws.proofs.KeptTypes.{exceptions_kept, nodes_kept, others_kept, types_kept, wires_stay}
 use Rattle.calculus_laws.proofs.laws.rewrites_keep_types.Goals as goal
 
 pub returns-clause-types : goal.returns-clause-types
@@ -12,3 +12,6 @@ returns-clause-wires c = wires_stay
 
 pub returns-clause-nodes : goal.returns-clause-nodes
 returns-clause-nodes c = nodes_kept
+
+pub returns-clause-others : goal.returns-clause-others
+returns-clause-others c = others_kept

@@ -1,3 +1,4 @@
+use Rattle.calculus_laws.proofs.KeptTypes.{orders_kept}
 use Rattle.calculus_laws.proofs.SameNets.{lockstep_written, start_written}
 use Rattle.calculus_laws.proofs.laws.unfair_boxes_keep_the_written_order.Goals as goal
 
@@ -6,3 +7,6 @@ returns-clause-starts c = start_written
 
 pub returns-clause-supersteps : goal.returns-clause-supersteps
 returns-clause-supersteps c = lockstep_written
+
+pub returns-clause-steps : goal.returns-clause-steps
+returns-clause-steps c = orders_kept
