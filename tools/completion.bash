@@ -17,14 +17,14 @@ _hume_files() {
 _hume() {
     local word=${COMP_WORDS[COMP_CWORD]} kind='' ports=''
     if ((COMP_CWORD == 1)); then
-        mapfile -t COMPREPLY < <(compgen -W 'check run trace demo why bounds net hints test go watch vcd waves page install uninstall --help --version --rebuild' -- "$word")
+        mapfile -t COMPREPLY < <(compgen -W 'check run trace calc demo why bounds net hints test go watch vcd waves page install uninstall --help --version --rebuild' -- "$word")
         return
     fi
     # Where the SOURCE stands, and from where on there are ports.
     local source=0
     case ${COMP_WORDS[1]} in
     check | why | bounds | net | hints) source=2 ;;
-    run | trace) source=4 ;;
+    run | trace | calc) source=4 ;;
     watch | vcd | page) source=3 ;;
     go) kind=source ;;
     waves) [ "$COMP_CWORD" -eq 2 ] && kind=file || kind=source ;;

@@ -1,5 +1,5 @@
 -- Calls whose ports have room, and calls over ports with the same texts.
-use Rattle.std.proofs.Common.{◌≡◌, ◌⊎◌, ℕ, false, List, [], Option, Some, None, IfSome, IsSomeAnd, slice_get, refl, sym, ap, ◌∙◌, subst, inl, inr}
+use Rattle.std.proofs.Common.{◌≡◌, ◌⊎◌, ℕ, false, List, [], ◌∷◌, Option, Some, None, IfSome, IsSomeAnd, slice_get, refl, sym, ap, ◌∙◌, subst, inl, inr}
 use Rattle.std.specs.Option.{is_none}
 use Rattle.std.specs.Str.{bytes_eq}
 use Rattle.hume_base.specs.declared.types.Value.{Value}
@@ -12,23 +12,27 @@ use Rattle.hume_ports.specs.Port.{PortView}
 use Rattle.hume_ports.specs.Ports.{names, left_of, place_of}
 use Rattle.hume_ports.proofs.Rooms.{Roomy-nothing}
 use Rattle.port_acts.specs.Acts.{written}
-use Rattle.port_acts.specs.Ends.{Owed, EndsAs, bytes_of, never}
-use Rattle.port_acts.specs.Early.{after_reads, EndsEarly}
+use Rattle.port_acts.specs.Ends.{Few, Owed, EndsAs, bytes_of, never}
+use Rattle.port_acts.specs.Early.{after_reads}
 use Rattle.port_acts.proofs.Stopping.{end_alike}
 use Rattle.phase_workers.specs.StreamTypes.{type_at}
-use Rattle.run_rounds.specs.Inputs.{ComesTo}
+use Rattle.run_rounds.specs.Inputs.{AreInputs, ComesTo, Inputs}
 use Rattle.run_rounds.specs.Streams.{streams}
 use Rattle.hume_run.specs.declared.status.Status.{Status}
 use Rattle.hume_run.specs.declared.status.Status.TheVariants.{Usage, Fault, NoMemory}
 use Rattle.hume_run.specs.declared.order.Order.{Order}
-use Rattle.hume_run.specs.declared.order.Order.TheVariants.{Run, Check, Demo}
+use Rattle.hume_run.specs.declared.order.Order.TheVariants.{Run, Calc, Check, Demo}
 use Rattle.hume_run.specs.Streams.{unfit_line}
-use Rattle.hume_run.specs.Owed.{IsOwed}
-use Rattle.hume_run.specs.Words.{order_of, source_of}
-use Rattle.hume_run.specs.Few.{source_few, call_few}
-use Rattle.hume_run.specs.Headline.{Answers, AnswersAlone, AnswersFrom, Headline, IsText, OwesAlone, source_reads, source_text}
+use Rattle.hume_run.specs.Owed.{IsOwed, IsOwedScript}
+use Rattle.hume_run.specs.Words.{Named, order_of, named_by, script_of, source_alone}
+use Rattle.hume_run.specs.Reading.{script_text, source_reads, source_text}
+use Rattle.hume_run.specs.Few.{call_few}
+use Rattle.hume_run.specs.Headline.{Answers, AnswersAlone, AnswersFrom, Headline, IsText, LacksPort, OwesAlone}
 use Rattle.hume_run.specs.Calls.{OwesOver, HaveRoom, GivesOwed, HaveSameTexts, IsThrough}
-use Rattle.hume_run.proofs.OneOwed.{SomeInputs, OneInputs, some_owed, one_owed}
+use Rattle.hume_run.proofs.Answering.{Ended}
+use Rattle.hume_run.proofs.OneOwed.{some_owed, one_owed}
+use Rattle.hume_run.proofs.OneScript.{OneInputs, SomeInputs}
+use Rattle.hume_run.proofs.ScriptWords.{NamesScript, script_there}
 use Rattle.hume_run.proofs.Texts.{told_texts, told_by_all}
 use Rattle.hume_run.proofs.Wanting.{fit_inputs}
 
@@ -43,30 +47,28 @@ text_told None = tt
 text_told (Some left) = refl
 
 -- a call owes something over any ports
-owes_something : SomeInputs → (order : Order) (source : List ℕ) (ports : List PortView) → (owed : Owed Status) × OwesOver order source ports owed
-owes_something has_inputs order source ports =
-    let some = some_owed has_inputs order source (text_in (left_of source ports)) (names ports) (told_texts ports) in (
+owes_something : SomeInputs → (order : Order) (named : Named) (ports : List PortView) → (owed : Owed Status) × OwesOver order named ports owed
+owes_something has_inputs order named ports =
+    let some = some_owed has_inputs order named (text_in (left_of named.source ports)) (names ports) (told_texts ports) in (
       some.0,
       record {
-        text = text_in (left_of source ports);
-        told = text_told (left_of source ports);
+        text = text_in (left_of named.source ports);
+        told = text_told (left_of named.source ports);
         texts = told_texts ports;
         texts_told = λ name apart. told_by_all ports name;
         owes = some.1;
       },
     )
 
-module _ (order : Order) (source : List ℕ) (olds news : List PortView) (status : Status) where
-  abbrev pub Ended : Type 0
-  Ended = EndsEarly (source_few source) (source_reads source) NoMemory Fault olds news status ⊎ AnswersFrom order source olds news status
-
-  owes_of : (a : AnswersFrom order source olds news status) → OwesOver order source olds a.owed
+module _ (order : Order) (named : Named) (olds news : List PortView) (status : Status) where
+  owes_of : (a : AnswersFrom order named olds news status) → OwesOver order named olds a.owed
   owes_of a = record { text = a.text; told = a.told; texts = a.texts; texts_told = a.texts_told; owes = a.owes }
 
-  sourced_with_room : SomeInputs → Ended → HaveRoom order (Some source) olds → (status ≡ NoMemory) ⊎ GivesOwed order (Some source) olds news status
+  sourced_with_room : SomeInputs → Ended order named olds news status → HaveRoom order (Some named) olds
+      → (status ≡ NoMemory) ⊎ GivesOwed order (Some named) olds news status
   sourced_with_room has_inputs (inl (inl (is, stops))) room = inl is
   sourced_with_room has_inputs (inl (inr (is, fails))) room =
-      let some = owes_something has_inputs order source olds in
+      let some = owes_something has_inputs order named olds in
       absurd (fails.no_room (Roomy-nothing olds (written some.0.acts) (room some.0 some.1)))
   sourced_with_room has_inputs (inr a) room = elim a.ends [
     | inl made ↦ inr (record { owed = a.owed; owes = owes_of a; answer = made.0; delivered = made.2.progress.delivered })
@@ -81,10 +83,10 @@ module _ (order : Order) (olds news : List PortView) (status : Status) where
     | inr fails ↦ absurd (fails.1.no_room (room owed owes))
   ]
 
-  pub answered_with_room : SomeInputs → (source : Option (List ℕ)) → Answers order source olds news status → HaveRoom order source olds
-      → (status ≡ NoMemory) ⊎ GivesOwed order source olds news status
+  pub answered_with_room : SomeInputs → (named : Option Named) → Answers order named olds news status → HaveRoom order named olds
+      → (status ≡ NoMemory) ⊎ GivesOwed order named olds news status
   answered_with_room has_inputs None answers room = alone_with_room answers room
-  answered_with_room has_inputs (Some source) answers room = sourced_with_room order source olds news status has_inputs answers room
+  answered_with_room has_inputs (Some named) answers room = sourced_with_room order named olds news status has_inputs answers room
 
 -- calls over the same texts
 
@@ -101,84 +103,99 @@ same_source : (left : Option (List ℕ)) (text bytes : List ℕ) → left ≡ So
 same_source None text bytes is told = cc
 same_source (Some l) text bytes is told = told ∙ ap source_text (let same : l ≡ bytes = cc in same)
 
-module _ (source : List ℕ) (olds others : List PortView) (same : HaveSameTexts olds others) (first second : List ℕ → List ℕ)
-    (told : IsText source olds first) (also : IsText source others second) where
+module _ (named : Named) (olds others : List PortView) (same : HaveSameTexts olds others) (first second : List ℕ → List ℕ)
+    (told : IsText named.source olds first) (also : IsText named.source others second) where
   -- each port that is there, and isn't the source's, has one text
-  one_text : (name : List ℕ) → is_none (place_of name (names olds)) ≡ false → bytes_eq name source ≡ false → first name ≡ second name
+  one_text : (name : List ℕ) → is_none (place_of name (names olds)) ≡ false → bytes_eq name named.source ≡ false → first name ≡ second name
   one_text name there apart =
       let tells = same.tell name (is_there (place_of name (names olds)) there) in
       same_told (left_of name olds) (first name) (second name) tells.0 tells.1 (told name apart)
       ∙ sym (same_told (left_of name others) (second name) (first name) tells.0 tells.2 (also name apart))
 
-  comes_alike : (core : Core) (fit : unfit_line (names olds) source [] (streams core) ≡ None) (n : ℕ) (node : Option NodeC) → slice_get core.nodes n ≡ node
-      → (good : List Value) (bad : Option ℕ) → ComesTo core first n node good bad → ComesTo core second n node good bad
-  comes_alike core fit n None at good bad c = c
-  comes_alike core fit n (Some (Rules b)) at good bad c = c
-  comes_alike core fit n (Some (To stream)) at good bad c = c
-  comes_alike core fit n (Some (From stream)) at good bad c =
-      let is = fit_inputs (names olds) source core.nodes [] fit n stream at in
-      subst (λ (text : List ℕ). IsGoodUntil core.types (type_at core n) text good bad) (one_text stream.port is.0 is.1) c
+  module _ (core : Core) (earlier : List (List ℕ)) (fit : unfit_line (names olds) named.source earlier (streams core) ≡ None) where
+    comes_alike : (n : ℕ) (node : Option NodeC) → slice_get core.nodes n ≡ node → (good : List Value) (bad : Option ℕ)
+        → ComesTo core first n node good bad → ComesTo core second n node good bad
+    comes_alike n None at good bad c = c
+    comes_alike n (Some (Rules b)) at good bad c = c
+    comes_alike n (Some (To stream)) at good bad c = c
+    comes_alike n (Some (From stream)) at good bad c =
+        let is = fit_inputs (names olds) named.source core.nodes earlier fit n stream at in
+        subst (λ (text : List ℕ). IsGoodUntil core.types (type_at core n) text good bad) (one_text stream.port is.0 is.1) c
 
-  owed_alike : (order : Order) (text : List ℕ) (owed : Owed Status) → IsOwed order source text (names olds) first owed
-      → IsOwed order source text (names olds) second owed
-  owed_alike (Check place) text owed owes = owes
-  owed_alike (Demo number steps workers) text owed owes = owes
-  owed_alike (Run steps workers place traced) text owed (inl refused) = inl refused
-  owed_alike (Run steps workers place traced) text owed (inr (accepted, is, fit, coming, are, owes)) = inr (
-    accepted,
-    is,
-    fit,
-    coming,
-    record {
+    inputs_alike : (coming : Inputs) → AreInputs core first coming → AreInputs core second coming
+    inputs_alike coming are = record {
       count = are.count;
-      each = λ n. comes_alike accepted.core fit n (slice_get accepted.core.nodes n) refl (listed coming.good n) (coming.bad n) (are.each n);
-    },
-    owes,
-  )
+      each = λ n. comes_alike n (slice_get core.nodes n) refl (listed coming.good n) (coming.bad n) (are.each n);
+    }
+
+  script_alike : (steps : ℕ) (core : Core) (lines : List ℕ) (later : Owed Status)
+      → IsOwedScript steps core lines named.source (script_of named) (names olds) first later
+      → IsOwedScript steps core lines named.source (script_of named) (names olds) second later
+  script_alike steps core lines later (inl refused) = inl refused
+  script_alike steps core lines later (inr (new, made, within, fit, coming, are, owes)) =
+      inr (new, made, within, fit, coming, inputs_alike new (script_of named ∷ []) fit coming are, owes)
+
+  owed_alike : (order : Order) (text : List ℕ) (owed : Owed Status) → NamesScript order named → (LacksPort (names olds) named → ⊥)
+      → IsOwed order named text (names olds) first owed → IsOwed order named text (names olds) second owed
+  owed_alike (Check place) text owed its there owes = owes
+  owed_alike (Demo number steps workers) text owed its there owes = owes
+  owed_alike (Run steps workers place traced) text owed its there (inl refused) = inl refused
+  owed_alike (Run steps workers place traced) text owed its there (inr (accepted, is, fit, coming, are, owes)) =
+      inr (accepted, is, fit, coming, inputs_alike accepted.core [] fit coming are, owes)
+  owed_alike (Calc steps workers place script) text owed its there (inl refused) = inl refused
+  owed_alike (Calc steps workers place script) text owed its there (inr (sound, is, later, owes, same)) =
+      let one : first (script_of named) ≡ second (script_of named) = one_text (script_of named) (script_there named (names olds) its there) its.apart in
+      let now : IsOwedScript steps sound.core (script_text (second (script_of named))) named.source (script_of named) (names olds) second later =
+      subst (λ (all : List ℕ). IsOwedScript steps sound.core (script_text all) named.source (script_of named) (names olds) second later) one
+      (script_alike steps sound.core (script_text (first (script_of named))) later owes) in
+      inr (sound, is, later, now, same)
 
 -- a call that came to its end has read its source
-read_through : (order : Order) (source : List ℕ) (olds news : List PortView) (status : Status) → Ended order source olds news status → IsThrough status
-    → AnswersFrom order source olds news status
-read_through order source olds news status (inl (inl (is, stops))) through = absurd (through.2 is)
-read_through order source olds news status (inl (inr (is, fails))) through = absurd (through.1 is)
-read_through order source olds news status (inr a) through = a
+read_through : (order : Order) (named : Named) (olds news : List PortView) (status : Status) → Ended order named olds news status → IsThrough status
+    → AnswersFrom order named olds news status
+read_through order named olds news status (inl (inl (is, stops))) through = absurd (through.2 is)
+read_through order named olds news status (inl (inr (is, fails))) through = absurd (through.1 is)
+read_through order named olds news status (inr a) through = a
+
+-- what has few values doesn't matter where nothing failed
+any_few : (few other : Few) (owed : Owed Status) (olds news : List PortView) (status : Status) → EndsAs few owed Fault olds news status
+    → (status ≡ Fault → ⊥) → EndsAs other owed Fault olds news status
+any_few few other owed olds news status (inl made) through = inl made
+any_few few other owed olds news status (inr (is, fails)) through = absurd (through is)
 
 -- Two calls gave the same answer, and the same bytes to each port that had the same.
 abbrev pub EndAlike : List PortView → List PortView → List PortView → List PortView → Status → Status → Type 0
 EndAlike olds news others later status other =
     (status ≡ other) × ((name had : List ℕ) → bytes_of name olds ≡ Some had → bytes_of name others ≡ Some had → bytes_of name news ≡ bytes_of name later)
 
-module _ (order : Order) (source : List ℕ) (olds news others later : List PortView) (status other : Status) where
+module _ (order : Order) (named : Named) (olds news others later : List PortView) (status other : Status) where
   abbrev SameBytes : Type 0
   SameBytes = EndAlike olds news others later status other
 
-  pub calls_alike : OneInputs → (place_of source (names olds) ≡ None → ⊥) → HaveSameTexts olds others → (a : AnswersFrom order source olds news status)
-      → (b : AnswersFrom order source others later other) → IsThrough status → IsThrough other → SameBytes
-  calls_alike one_inputs there same a b through too =
-      let tells = same.tell source there in
-      let text : b.text ≡ a.text = same_source (left_of source others) b.text tells.0 tells.2 b.told ∙ sym (same_source (left_of source olds) a.text tells.0 tells.1 a.told) in
-      let first : IsOwed order source a.text (names olds) b.texts a.owed =
-      owed_alike source olds others same a.texts b.texts a.texts_told b.texts_told order a.text a.owed a.owes in
-      let second : IsOwed order source a.text (names olds) b.texts b.owed =
-      subst (λ (ns : List (List ℕ)). IsOwed order source a.text ns b.texts b.owed) (sym same.same_names)
-      (subst (λ (t : List ℕ). IsOwed order source t (names others) b.texts b.owed) text b.owes) in
-      let one : b.owed ≡ a.owed = one_owed one_inputs order source a.text (names olds) b.texts b.owed a.owed second first in
-      end_alike_of a.text b.text (a.owed) (b.owed) one text a.ends b.ends through too
-    where
-      end_alike_of : (text copy : List ℕ) (owed its : Owed Status) → its ≡ owed → copy ≡ text
-          → EndsAs (call_few source text) (after_reads (source_reads source) owed) Fault olds news status
-          → EndsAs (call_few source copy) (after_reads (source_reads source) its) Fault others later other
-          → IsThrough status → IsThrough other → SameBytes
-      end_alike_of text copy owed its one same_text ends also through too =
-          end_alike (call_few source text) (after_reads (source_reads source) owed) Fault olds news others later status other ends
-          (subst (λ (t : List ℕ). EndsAs (call_few source t) (after_reads (source_reads source) owed) Fault others later other) same_text
-          (subst (λ (o : Owed Status). EndsAs (call_few source copy) (after_reads (source_reads source) o) Fault others later other) one also))
-          through.1 too.1
+  calls_alike : OneInputs → NamesScript order named → (LacksPort (names olds) named → ⊥) → HaveSameTexts olds others → (a : AnswersFrom order named olds news status)
+      → (b : AnswersFrom order named others later other) → IsThrough status → IsThrough other → SameBytes
+  calls_alike one_inputs its there same a b through too =
+      let tells = same.tell named.source (λ none. there (inl none)) in
+      let text : b.text ≡ a.text = same_source (left_of named.source others) b.text tells.0 tells.2 b.told
+      ∙ sym (same_source (left_of named.source olds) a.text tells.0 tells.1 a.told) in
+      let first : IsOwed order named a.text (names olds) b.texts a.owed =
+      owed_alike named olds others same a.texts b.texts a.texts_told b.texts_told order a.text a.owed its there a.owes in
+      let second : IsOwed order named a.text (names olds) b.texts b.owed =
+      subst (λ (ns : List (List ℕ)). IsOwed order named a.text ns b.texts b.owed) (sym same.same_names)
+      (subst (λ (t : List ℕ). IsOwed order named t (names others) b.texts b.owed) text b.owes) in
+      let one : b.owed ≡ a.owed = one_owed one_inputs order named a.text (names olds) b.texts b.owed a.owed second first in
+      let few : Few = call_few order named a.text a.texts in
+      let whole : Owed Status = after_reads (source_reads named.source) a.owed in
+      end_alike few whole Fault olds news others later status other a.ends
+      (any_few (call_few order named b.text b.texts) few whole others later other
+      (subst (λ (o : Owed Status). EndsAs (call_few order named b.text b.texts) (after_reads (source_reads named.source) o) Fault others later other) one b.ends)
+      too.1)
+      through.1 too.1
 
-  pub ended_alike : OneInputs → (place_of source (names olds) ≡ None → ⊥) → HaveSameTexts olds others → Ended order source olds news status
-      → Ended order source others later other → IsThrough status → IsThrough other → SameBytes
-  ended_alike one_inputs there same x y through too =
-      calls_alike one_inputs there same (read_through order source olds news status x through) (read_through order source others later other y too) through too
+  pub ended_alike : OneInputs → NamesScript order named → (LacksPort (names olds) named → ⊥) → HaveSameTexts olds others → Ended order named olds news status
+      → Ended order named others later other → IsThrough status → IsThrough other → SameBytes
+  ended_alike one_inputs its there same x y through too =
+      calls_alike one_inputs its there same (read_through order named olds news status x through) (read_through order named others later other y too) through too
 
 -- a call without a source that came to its end ends as what it owes
 module _ (order : Order) (olds news : List PortView) (status : Status) where
@@ -193,17 +210,17 @@ module _ (order : Order) (olds news others later : List PortView) (status other 
   alone_alike : EndsAlone order olds news status → EndsAlone order others later other → IsThrough status → IsThrough other
       → EndAlike olds news others later status other
   alone_alike (owed, owes, ends) (its, also, too) through so =
-      let one : its ≡ owed = one_owed one_inputs order [] [] (names olds) (λ name. []) its owed
-      (subst (λ (ns : List (List ℕ)). IsOwed order [] [] ns (λ name. []) its) (sym same.same_names) also) owes in
+      let one : its ≡ owed = one_owed one_inputs order (source_alone []) [] (names olds) (λ name. []) its owed
+      (subst (λ (ns : List (List ℕ)). IsOwed order (source_alone []) [] ns (λ name. []) its) (sym same.same_names) also) owes in
       end_alike never owed Fault olds news others later status other ends
       (subst (λ (o : Owed Status). EndsAs never o Fault others later other) one too) through.1 so.1
 
-  pub answers_alike : (source : Option (List ℕ)) → (IsSomeAnd source (λ name. place_of name (names olds) ≡ None) → ⊥) → Answers order source olds news status
-      → Answers order source others later other → IsThrough status → IsThrough other → EndAlike olds news others later status other
-  answers_alike None there x y through too =
+  pub answers_alike : (named : Option Named) → IfSome named (NamesScript order) → (IsSomeAnd named (LacksPort (names olds)) → ⊥) → Answers order named olds news status
+      → Answers order named others later other → IsThrough status → IsThrough other → EndAlike olds news others later status other
+  answers_alike None its there x y through too =
       alone_alike (alone_through order olds news status x through) (alone_through order others later other y too) through too
-  answers_alike (Some source) there x y through too =
-      ended_alike order source olds news others later status other one_inputs there same x y through too
+  answers_alike (Some named) its there x y through too =
+      ended_alike order named olds news others later status other one_inputs its there same x y through too
 
 -- words of a form
 
@@ -212,6 +229,6 @@ if_some None P x is p = cc
 if_some (Some y) P x is p = let same : y ≡ x = cc in subst P same p
 
 pub of_form : (words : List (List ℕ)) (order : Order) (olds news : List PortView) (status : Status) → order_of words ≡ Some order
-    → Headline words olds news status → (status ≡ Usage → ⊥) → Answers order (source_of words order) olds news status
+    → Headline words olds news status → (status ≡ Usage → ⊥) → Answers order (named_by words order) olds news status
 of_form words order olds news status is line =
-    if_some (order_of words) (λ order. (status ≡ Usage → ⊥) → Answers order (source_of words order) olds news status) order is line
+    if_some (order_of words) (λ order. (status ≡ Usage → ⊥) → Answers order (named_by words order) olds news status) order is line

@@ -13,8 +13,10 @@ use Rattle.port_acts.specs.Ends.{Fails, IsFew, Owed, never}
 use Rattle.port_acts.proofs.ActLists.{written-append}
 use Rattle.port_acts.proofs.Failing.{failure_since}
 use Rattle.hume_run.specs.declared.status.Status.{Status}
+use Rattle.hume_run.specs.declared.order.Order.{Order}
+use Rattle.hume_run.specs.Words.{Named}
 use Rattle.hume_run.specs.Few.{call_few}
-use Rattle.hume_run.specs.Headline.{source_reads}
+use Rattle.hume_run.specs.Reading.{source_reads}
 use Rattle.hume_run.specs.Faults.{CountRose, ReadRose, HasFault, of_source, of_read, of_write, of_finish, HasFaultAlone, alone_write, alone_finish}
 
 or_right : (a b : Bool) → b ≡ true → (a || b) ≡ true
@@ -52,11 +54,11 @@ module _ (source : List ℕ) (most : ℕ) (owed : Owed Status) (olds news : List
       of_finish name (among_middle name (finished before) (finished later) (finished owed.acts)
       (ap finished e ∙ flat_map-append finished_by before (finishes name ∷ later))) rose
 
-pub has_fault : (source text : List ℕ) (owed : Owed Status) (olds news : List PortView)
-    → Fails (call_few source text) [] (after_reads (source_reads source) owed).acts olds news → HasFault source owed olds news
-has_fault source text owed olds news f =
-    fault_of source 262145 owed olds news f.act f.before f.later f.in_order
-    (failure_since (call_few source text) [] (after_reads (source_reads source) owed).acts olds news f).rose
+pub has_fault : (order : Order) (named : Named) (text : List ℕ) (texts : List ℕ → List ℕ) (owed : Owed Status) (olds news : List PortView)
+    → Fails (call_few order named text texts) [] (after_reads (source_reads named.source) owed).acts olds news → HasFault named.source owed olds news
+has_fault order named text texts owed olds news f =
+    fault_of named.source 262145 owed olds news f.act f.before f.later f.in_order
+    (failure_since (call_few order named text texts) [] (after_reads (source_reads named.source) owed).acts olds news f).rose
 
 -- a call without a source
 

@@ -1,5 +1,5 @@
 -- Which ports may be streams'.
-use Rattle.std.proofs.Common.{◌≡◌, ℕ, zero, suc, Bool, true, false, cond, ◌<◌, List, [], ◌∷◌, length, Some, None, sym, subst, arith}
+use Rattle.std.proofs.Common.{◌≡◌, ℕ, zero, suc, ◌<◌, List, [], ◌∷◌, length, Some, sym, subst, arith}
 use Rattle.std.specs.Str.{bytes_eq}
 use Rattle.hume_ports.specs.Ports.{place_of}
 use Rattle.hume_ports.proofs.Names.{same_name, place-zero, place-suc}

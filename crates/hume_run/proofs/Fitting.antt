@@ -1,5 +1,5 @@
 -- The places of the ports of streams, node after node.
-use Rattle.std.proofs.Common.{◌≡◌, ◌⊎◌, ℕ, zero, suc, ◌+◌, ◌<◌, ◌≤◌, Bool, true, false, cond, ◌||◌, List, [], ◌∷◌, ◌++◌, map, length, take, drop, get_or, Option, Some, None, slice_get, refl, ap, sym, ◌∙◌, subst, inl, inr, arith, append-nil, length-append}
+use Rattle.std.proofs.Common.{◌≡◌, ◌⊎◌, ℕ, zero, suc, ◌+◌, ◌<◌, ◌≤◌, Bool, true, false, cond, ◌||◌, List, [], ◌∷◌, ◌++◌, length, take, drop, get_or, Option, Some, None, slice_get, refl, ap, sym, ◌∙◌, subst, inl, inr, arith, append-nil, append_assoc, length-append}
 use Rattle.std.specs.List.{filter_map}
 use Rattle.std.specs.Option.{is_none}
 use Rattle.std.specs.Str.{bytes_eq}
@@ -7,12 +7,13 @@ use Rattle.std.proofs.Math.Seq.{take-suc, drop-cons}
 use Rattle.std.proofs.lemmas.Bool.{cases_lt, or_parts}
 use Rattle.std.proofs.lemmas.List.{map-append}
 use Rattle.std.proofs.lemmas.List.Elements.{filter_map-append}
+use Rattle.std.proofs.lemmas.List.Folds.{list_any-append}
 use Rattle.std.proofs.lemmas.Option.{get_or_from_slice_get, slice_get-get_or, slice_get_within}
 use Rattle.hume_model.specs.declared.core_tree.NodeC.{NodeC}
 use Rattle.hume_model.specs.declared.core_tree.NodeC.TheVariants.{Rules, From, To}
 use Rattle.hume_model.specs.declared.core_tree.StreamC.{StreamC}
 use Rattle.hume_ports.specs.Ports.{is_among, place_of}
-use Rattle.hume_ports.proofs.Names.{bytes_eq-self, bytes_eq-swap, same_name}
+use Rattle.hume_ports.proofs.Names.{bytes_eq-self}
 use Rattle.port_acts.specs.Places.{IsPlaceOf}
 use Rattle.hume_model.specs.declared.core_tree.Core.{Core}
 use Rattle.run_rounds.specs.Streams.{ArePlacesOf, ArePortsApart, ports_of, stream_of}
@@ -123,11 +124,15 @@ drop_past [] (suc count) past = refl
 drop_past (node ∷ nodes) zero past = absurd (omega (arith, past))
 drop_past (node ∷ nodes) (suc count) past = drop_past nodes count (omega (arith, past))
 
-module _ (names : List (List ℕ)) (source : List ℕ) (nodes : List NodeC) where
+module _ (names : List (List ℕ)) (source : List ℕ) (others : List (List ℕ)) (nodes : List NodeC) where
+  -- the ports that no stream may have behind these nodes
+  abbrev behind : List NodeC → List (List ℕ)
+  behind earlier = others ++ ports_named earlier
+
   -- the places of the first nodes
   pub record Placed (places : List ℕ) (count : ℕ) : Type 0 where
     pub length : length places ≡ count
-    pub left : unfit_line names source (ports_named (take count nodes)) (filter_map stream_of (drop count nodes)) ≡ unfit_line names source [] (filter_map stream_of nodes)
+    pub left : unfit_line names source (behind (take count nodes)) (filter_map stream_of (drop count nodes)) ≡ unfit_line names source others (filter_map stream_of nodes)
     pub each : (n at : ℕ) (node : NodeC) (stream : StreamC) → n < count → slice_get nodes n ≡ Some node → stream_of node ≡ Some stream → slice_get places n ≡ Some at
         → IsPlaceOf stream.port names at
     pub apart : (n m : ℕ) (node other : NodeC) (first second : StreamC) → n < m → m < count → slice_get nodes n ≡ Some node → slice_get nodes m ≡ Some other
@@ -136,7 +141,7 @@ module _ (names : List (List ℕ)) (source : List ℕ) (nodes : List NodeC) wher
   pub placed_none : Placed [] 0
   placed_none = record {
     length = refl;
-    left = refl;
+    left = ap (λ named. unfit_line names source named (filter_map stream_of nodes)) (append-nil others);
     each = λ n at node stream less. absurd (omega (arith, less));
     apart = λ n m node other first second less most. absurd (omega (arith, most));
   }
@@ -157,9 +162,13 @@ module _ (names : List (List ℕ)) (source : List ℕ) (nodes : List NodeC) wher
         ∙ ap ports_of (filter_map-append stream_of earlier (node ∷ []) ∙ ap (λ last. filter_map stream_of earlier ++ last) (streams_from node []))
         ∙ map-append (λ (stream : StreamC). stream.port) (filter_map stream_of earlier) (with_stream (stream_of node) [])
 
-    left_now : unfit_line names source (ports_named earlier) (with_stream (stream_of node) (filter_map stream_of later)) ≡ unfit_line names source [] (filter_map stream_of nodes)
+    -- what no stream may have behind the next node
+    behind_now : behind (take (count + 1) nodes) ≡ behind earlier ++ ports_of (with_stream (stream_of node) [])
+    behind_now = ap (λ named. others ++ named) named_now ∙ sym (append_assoc others (ports_named earlier) (ports_of (with_stream (stream_of node) [])))
+
+    left_now : unfit_line names source (behind earlier) (with_stream (stream_of node) (filter_map stream_of later)) ≡ unfit_line names source others (filter_map stream_of nodes)
     left_now =
-        sym (ap (unfit_line names source (ports_named earlier)) (ap (filter_map stream_of) (from_on nodes count node is) ∙ streams_from node later))
+        sym (ap (unfit_line names source (behind earlier)) (ap (filter_map stream_of) (from_on nodes count node is) ∙ streams_from node later))
         ∙ placed.left
 
     length_now : (at : ℕ) → length (places ++ at ∷ []) ≡ count + 1
@@ -174,8 +183,8 @@ module _ (names : List (List ℕ)) (source : List ℕ) (nodes : List NodeC) wher
       length = length_now at;
       left =
           ap (λ named. unfit_line names source named (filter_map stream_of later))
-          (named_now ∙ ap (λ o. ports_named earlier ++ ports_of (with_stream o [])) none ∙ append-nil (ports_named earlier))
-          ∙ sym (ap (λ o. unfit_line names source (ports_named earlier) (with_stream o (filter_map stream_of later))) none) ∙ left_now;
+          (behind_now ∙ ap (λ o. behind earlier ++ ports_of (with_stream o [])) none ∙ append-nil (behind earlier))
+          ∙ sym (ap (λ o. unfit_line names source (behind earlier) (with_stream o (filter_map stream_of later))) none) ∙ left_now;
       each = λ n p o stream less there of found. elim (before_or_last n count less) [
         | inl l ↦ placed.each n p o stream l there of (earlier_place at n p l found)
         | inr e ↦ absurd (not_here n o stream e there of)
@@ -190,16 +199,16 @@ module _ (names : List (List ℕ)) (source : List ℕ) (nodes : List NodeC) wher
         not_here n o stream e there of = let no : ◌≡◌ {A = Option StreamC} None (Some stream) = sym none ∙ ap stream_of (sym (one_node n o e there)) ∙ of in cc
 
     module _ (stream : StreamC) (of : stream_of node ≡ Some stream) where
-      left_here : unfit_line names source (ports_named earlier) (stream ∷ filter_map stream_of later) ≡ unfit_line names source [] (filter_map stream_of nodes)
-      left_here = sym (ap (λ o. unfit_line names source (ports_named earlier) (with_stream o (filter_map stream_of later))) of) ∙ left_now
+      left_here : unfit_line names source (behind earlier) (stream ∷ filter_map stream_of later) ≡ unfit_line names source others (filter_map stream_of nodes)
+      left_here = sym (ap (λ o. unfit_line names source (behind earlier) (with_stream o (filter_map stream_of later))) of) ∙ left_now
 
       abbrev Unfit : Bool
-      Unfit = is_unfit names source (ports_named earlier) stream.port
+      Unfit = is_unfit names source (behind earlier) stream.port
 
       -- its port is unfit
-      pub placed_unfit : Unfit ≡ true → unfit_line names source [] (filter_map stream_of nodes) ≡ Some stream.line
+      pub placed_unfit : Unfit ≡ true → unfit_line names source others (filter_map stream_of nodes) ≡ Some stream.line
       placed_unfit unfit =
-          sym left_here ∙ ap (λ b. cond b (Some stream.line) (unfit_line names source (ports_named earlier ++ stream.port ∷ []) (filter_map stream_of later))) unfit
+          sym left_here ∙ ap (λ b. cond b (Some stream.line) (unfit_line names source (behind earlier ++ stream.port ∷ []) (filter_map stream_of later))) unfit
 
       -- its port is fit, and found
       pub placed_stream : Unfit ≡ false → (at : ℕ) → place_of stream.port names ≡ Some at → Placed (places ++ at ∷ []) (count + 1)
@@ -207,8 +216,8 @@ module _ (names : List (List ℕ)) (source : List ℕ) (nodes : List NodeC) wher
         length = length_now at;
         left =
             ap (λ named. unfit_line names source named (filter_map stream_of later))
-            (named_now ∙ ap (λ o. ports_named earlier ++ ports_of (with_stream o [])) of)
-            ∙ sym (ap (λ b. cond b (Some stream.line) (unfit_line names source (ports_named earlier ++ stream.port ∷ []) (filter_map stream_of later))) fit)
+            (behind_now ∙ ap (λ o. behind earlier ++ ports_of (with_stream o [])) of)
+            ∙ sym (ap (λ b. cond b (Some stream.line) (unfit_line names source (behind earlier ++ stream.port ∷ []) (filter_map stream_of later))) fit)
             ∙ left_here;
         each = λ n p o other less there of' found. elim (before_or_last n count less) [
           | inl l ↦ placed.each n p o other l there of' (earlier_place at n p l found)
@@ -238,14 +247,16 @@ module _ (names : List (List ℕ)) (source : List ℕ) (nodes : List NodeC) wher
           differs n m o other first second l e there elsewhere of' of'' same =
               let one = one_stream m other second e elsewhere of'' in
               let port : first.port ≡ stream.port = same ∙ ap (λ (s : StreamC). s.port) one in
-              let out = (or_parts (bytes_eq stream.port source) (is_among stream.port (ports_named earlier))
-              (or_parts (is_none (place_of stream.port names)) (bytes_eq stream.port source || is_among stream.port (ports_named earlier)) fit).1).1 in
+              let none = (or_parts (bytes_eq stream.port source) (is_among stream.port (behind earlier))
+              (or_parts (is_none (place_of stream.port names)) (bytes_eq stream.port source || is_among stream.port (behind earlier)) fit).1).1 in
+              let out = (or_parts (is_among stream.port others) (is_among stream.port (ports_named earlier))
+              (sym (list_any-append (bytes_eq stream.port) others (ports_named earlier)) ∙ none)).1 in
               let inside = among earlier n o first (taken_get nodes count n (omega (arith, l, e)) ∙ there) of' in
               let no : true ≡ false = sym inside ∙ ap (λ name. is_among name (ports_named earlier)) port ∙ out in cc
 
   -- the next node is a box, or a stream whose port is fit
   pub placed_next : (places : List ℕ) (count : ℕ) → Placed places count → (node : NodeC) → slice_get nodes count ≡ Some node → (at : ℕ)
-      → IsFitAt names source (take count nodes) node at → Placed (places ++ at ∷ []) (count + 1)
+      → IsFitAt names source others (take count nodes) node at → Placed (places ++ at ∷ []) (count + 1)
   placed_next places count placed node is at fit = by_stream (stream_of node) refl
     where
       by_stream : (o : Option StreamC) → stream_of node ≡ o → Placed (places ++ at ∷ []) (count + 1)
@@ -253,10 +264,10 @@ module _ (names : List (List ℕ)) (source : List ℕ) (nodes : List NodeC) wher
       by_stream (Some stream) of = let f = fit stream of in placed_stream places count placed node is stream of f.0 at f.1
 
   -- all nodes have their places
-  pub placed_all : (places : List ℕ) (count : ℕ) → length nodes ≤ count → count ≤ length nodes → Placed places count → unfit_line names source [] (filter_map stream_of nodes) ≡ None
+  pub placed_all : (places : List ℕ) (count : ℕ) → length nodes ≤ count → count ≤ length nodes → Placed places count → unfit_line names source others (filter_map stream_of nodes) ≡ None
   placed_all places count past within placed =
       let none : drop count nodes ≡ [] = drop_past nodes count past in
-      sym placed.left ∙ ap (λ later. unfit_line names source (ports_named (take count nodes)) (filter_map stream_of later)) none
+      sym placed.left ∙ ap (λ later. unfit_line names source (behind (take count nodes)) (filter_map stream_of later)) none
 
   pub placed_count : (places : List ℕ) (count : ℕ) → length nodes ≤ count → count ≤ length nodes → Placed places count → length places ≡ length nodes
   placed_count places count past within placed = let l = placed.length in omega (arith, l, past, within)
@@ -280,23 +291,23 @@ module _ (names : List (List ℕ)) (source : List ℕ) (nodes : List NodeC) wher
       ]
 
 -- the next node is read at its index, and its place is added
-pub placed_read : (names : List (List ℕ)) (source : List ℕ) (nodes : List NodeC) (places after : List ℕ) (count : ℕ) (node : NodeC) (at : ℕ)
-    → Placed names source nodes places count → count < length nodes → node ≡ get_or nodes count node
-    → IsFitAt names source (take count nodes) node at → after ≡ places ++ at ∷ [] → Placed names source nodes after (count + 1)
-placed_read names source nodes places after count node at placed within is fit added =
-    subst (λ ps. Placed names source nodes ps (count + 1)) (sym added)
-    (placed_next names source nodes places count placed node (slice_get-get_or nodes count node within ∙ ap Some (sym is)) at fit)
+pub placed_read : (names : List (List ℕ)) (source : List ℕ) (others : List (List ℕ)) (nodes : List NodeC) (places after : List ℕ) (count : ℕ) (node : NodeC) (at : ℕ)
+    → Placed names source others nodes places count → count < length nodes → node ≡ get_or nodes count node
+    → IsFitAt names source others (take count nodes) node at → after ≡ places ++ at ∷ [] → Placed names source others nodes after (count + 1)
+placed_read names source others nodes places after count node at placed within is fit added =
+    subst (λ ps. Placed names source others nodes ps (count + 1)) (sym added)
+    (placed_next names source others nodes places count placed node (slice_get-get_or nodes count node within ∙ ap Some (sym is)) at fit)
 
-pub all_placed : (names : List (List ℕ)) (source : List ℕ) (core : Core) (nodes : List NodeC) (places : List ℕ) (count : ℕ) → nodes ≡ core.nodes → length nodes ≤ count → count ≤ length nodes
-    → Placed names source nodes places count → ArePlacesOf core names places
-all_placed names source core nodes places count same past within placed = record {
-  count = placed_count names source nodes places count past within placed ∙ ap length same;
-  each = λ n at node stream there of found. placed_each names source nodes places count past placed n at node stream
+pub all_placed : (names : List (List ℕ)) (source : List ℕ) (others : List (List ℕ)) (core : Core) (nodes : List NodeC) (places : List ℕ) (count : ℕ) → nodes ≡ core.nodes → length nodes ≤ count → count ≤ length nodes
+    → Placed names source others nodes places count → ArePlacesOf core names places
+all_placed names source others core nodes places count same past within placed = record {
+  count = placed_count names source others nodes places count past within placed ∙ ap length same;
+  each = λ n at node stream there of found. placed_each names source others nodes places count past placed n at node stream
       (subst (λ (ns : List NodeC). slice_get ns n ≡ Some node) (sym same) there) of found;
 }
 
-pub all_apart : (names : List (List ℕ)) (source : List ℕ) (core : Core) (nodes : List NodeC) (places : List ℕ) (count : ℕ) → nodes ≡ core.nodes → length nodes ≤ count
-    → Placed names source nodes places count → ArePortsApart core
-all_apart names source core nodes places count same past placed = λ n m node other first second there elsewhere of of' equal.
-    placed_apart names source nodes places count past placed n m node other first second
+pub all_apart : (names : List (List ℕ)) (source : List ℕ) (others : List (List ℕ)) (core : Core) (nodes : List NodeC) (places : List ℕ) (count : ℕ) → nodes ≡ core.nodes → length nodes ≤ count
+    → Placed names source others nodes places count → ArePortsApart core
+all_apart names source others core nodes places count same past placed = λ n m node other first second there elsewhere of of' equal.
+    placed_apart names source others nodes places count past placed n m node other first second
     (subst (λ (ns : List NodeC). slice_get ns n ≡ Some node) (sym same) there) (subst (λ (ns : List NodeC). slice_get ns m ≡ Some other) (sym same) elsewhere) of of' equal

@@ -3,7 +3,7 @@ use Rattle.std.proofs.Common.{◌≡◌, ◌≤◌, ◌<◌, ℕ, Bool, List, []
 use Rattle.std.specs.Str.{bytes_eq}
 use Rattle.hume_run.specs.declared.order.Order.{Order}
 use Rattle.hume_run.specs.declared.order.Order.TheVariants.{Check}
-use Rattle.hume_run.specs.Words.{order_of, number_of, traced_of, run_of}
+use Rattle.hume_run.specs.Words.{five_of, four_of, order_of}
 
 -- a check, if so
 abbrev pub check_if : Bool → Option Order
@@ -29,13 +29,24 @@ module _ {A : Type 0} (bytes_of : A → List ℕ) where
   three_words (first ∷ second ∷ third ∷ []) least less = refl
   three_words (first ∷ second ∷ third ∷ fourth ∷ words) least less = absurd (omega arith)
 
+  -- four words
+  pub four_words : (words : List A) (one two three four : A) → 4 ≤ length words → length words < 5 → one ≡ slice_index_or words 0 one
+      → two ≡ slice_index_or words 1 two → three ≡ slice_index_or words 2 three → four ≡ slice_index_or words 3 four
+      → order_of (map bytes_of words) ≡ four_of (bytes_of one) (bytes_of two) (bytes_of three) (bytes_of four)
+  four_words [] one two three four least less a b c d = absurd (omega arith)
+  four_words (p ∷ []) one two three four least less a b c d = absurd (omega arith)
+  four_words (p ∷ q ∷ []) one two three four least less a b c d = absurd (omega arith)
+  four_words (p ∷ q ∷ r ∷ []) one two three four least less a b c d = absurd (omega arith)
+  four_words (p ∷ q ∷ r ∷ s ∷ []) one two three four least less a b c d = rw (a, b, c, d) refl
+  four_words (p ∷ q ∷ r ∷ s ∷ t ∷ words) one two three four least less a b c d = absurd (omega arith)
+
   -- five words or more
-  pub more_words : (words : List A) (command steps workers : A) → 5 ≤ length words → command ≡ slice_index_or words 0 command
-      → steps ≡ slice_index_or words 1 steps → workers ≡ slice_index_or words 2 workers
-      → order_of (map bytes_of words) ≡ run_of (traced_of (bytes_of command)) (number_of (bytes_of steps)) (number_of (bytes_of workers))
-  more_words [] command steps workers least is at by = absurd (omega arith)
-  more_words (one ∷ []) command steps workers least is at by = absurd (omega arith)
-  more_words (one ∷ two ∷ []) command steps workers least is at by = absurd (omega arith)
-  more_words (one ∷ two ∷ three ∷ []) command steps workers least is at by = absurd (omega arith)
-  more_words (one ∷ two ∷ three ∷ four ∷ []) command steps workers least is at by = absurd (omega arith)
-  more_words (one ∷ two ∷ three ∷ four ∷ five ∷ words) command steps workers least is at by = rw (is, at, by) refl
+  pub more_words : (words : List A) (one two three four five : A) → 5 ≤ length words → one ≡ slice_index_or words 0 one
+      → two ≡ slice_index_or words 1 two → three ≡ slice_index_or words 2 three → four ≡ slice_index_or words 3 four → five ≡ slice_index_or words 4 five
+      → order_of (map bytes_of words) ≡ five_of (bytes_of one) (bytes_of two) (bytes_of three) (bytes_of four) (bytes_of five)
+  more_words [] one two three four five least a b c d e = absurd (omega arith)
+  more_words (p ∷ []) one two three four five least a b c d e = absurd (omega arith)
+  more_words (p ∷ q ∷ []) one two three four five least a b c d e = absurd (omega arith)
+  more_words (p ∷ q ∷ r ∷ []) one two three four five least a b c d e = absurd (omega arith)
+  more_words (p ∷ q ∷ r ∷ s ∷ []) one two three four five least a b c d e = absurd (omega arith)
+  more_words (p ∷ q ∷ r ∷ s ∷ t ∷ words) one two three four five least a b c d e = rw (a, b, c, d, e) refl

@@ -9,24 +9,17 @@ use Rattle.hume_front.proofs.OneRefusal.{one_refusal, accepted_unbroken}
 use Rattle.hume_front.proofs.Sources.{one_accepted_core}
 use Rattle.hume_front.proofs.SomeAnswer as front
 use Rattle.run_rounds.specs.Streams.{streams}
-use Rattle.run_rounds.specs.Inputs.{Inputs, AreInputs}
-use Rattle.phase_workers.specs.Runnable.{IsRunnable}
+use Rattle.run_rounds.specs.Inputs.{AreInputs}
 use Rattle.hume_run.specs.declared.order.Order.{Order}
-use Rattle.hume_run.specs.declared.order.Order.TheVariants.{Run, Check, Demo}
+use Rattle.hume_run.specs.declared.order.Order.TheVariants.{Run, Calc, Check, Demo}
+use Rattle.hume_run.specs.Words.{Named, script_of}
 use Rattle.hume_run.specs.Streams.{unfit_line}
 use Rattle.port_acts.specs.Ends.{Owed}
 use Rattle.hume_run.specs.declared.status.Status.{Status}
 use Rattle.demo_net.specs.Source.{demo_text}
 use Rattle.hume_run.specs.Owed.{IsRefusal, broken, unfit, IsOwedRun, IsOwed, owed_refused, owed_run, owed_check, owed_demo}
+use Rattle.hume_run.proofs.OneScript.{OneInputs, SomeInputs, one_calc, some_calc}
 use Rattle.hume_run.proofs.Runnable.{runnable}
-
--- Something comes from any texts, and one thing.
-abbrev pub SomeInputs : Type 0
-SomeInputs = (core : Core) → IsRunnable core → (texts : List ℕ → List ℕ) → (inputs : Inputs) × AreInputs core texts inputs
-
-abbrev pub OneInputs : Type 0
-OneInputs = (core : Core) → IsRunnable core → (texts : List ℕ → List ℕ) (first second : Inputs) → AreInputs core texts first → AreInputs core texts second
-    → first ≡ second
 
 -- A refusal of the source of that text is owed, or what its accepted core owes.
 abbrev OwedBy : (Core → Owed Status) → List ℕ → Owed Status → Type 0
@@ -98,14 +91,16 @@ module _ (source text : List ℕ) (names : List (List ℕ)) (texts : List ℕ �
     | inr r ↦ (_, inl (r.0, broken r.0 r.1, refl))
   ]
 
-pub one_owed : OneInputs → (order : Order) (source text : List ℕ) (names : List (List ℕ)) (texts : List ℕ → List ℕ) (first second : Owed Status)
-    → IsOwed order source text names texts first → IsOwed order source text names texts second → first ≡ second
-one_owed one_inputs (Run steps workers place traced) source text names texts = same_run source text names texts one_inputs traced steps
-one_owed one_inputs (Check place) source text names texts = same_by owed_check text
-one_owed one_inputs (Demo number steps workers) source text names texts = same_by (owed_demo steps) (demo_text number)
+pub one_owed : OneInputs → (order : Order) (named : Named) (text : List ℕ) (names : List (List ℕ)) (texts : List ℕ → List ℕ) (first second : Owed Status)
+    → IsOwed order named text names texts first → IsOwed order named text names texts second → first ≡ second
+one_owed one_inputs (Run steps workers place traced) named text names texts = same_run named.source text names texts one_inputs traced steps
+one_owed one_inputs (Calc steps workers place script) named text names texts = one_calc named.source (script_of named) text names texts steps one_inputs
+one_owed one_inputs (Check place) named text names texts = same_by owed_check text
+one_owed one_inputs (Demo number steps workers) named text names texts = same_by (owed_demo steps) (demo_text number)
 
-pub some_owed : SomeInputs → (order : Order) (source text : List ℕ) (names : List (List ℕ)) (texts : List ℕ → List ℕ)
-    → (owed : Owed Status) × IsOwed order source text names texts owed
-some_owed has_inputs (Run steps workers place traced) source text names texts = some_run source text names texts has_inputs traced steps
-some_owed has_inputs (Check place) source text names texts = some_by owed_check text
-some_owed has_inputs (Demo number steps workers) source text names texts = some_by (owed_demo steps) (demo_text number)
+pub some_owed : SomeInputs → (order : Order) (named : Named) (text : List ℕ) (names : List (List ℕ)) (texts : List ℕ → List ℕ)
+    → (owed : Owed Status) × IsOwed order named text names texts owed
+some_owed has_inputs (Run steps workers place traced) named text names texts = some_run named.source text names texts has_inputs traced steps
+some_owed has_inputs (Calc steps workers place script) named text names texts = some_calc named.source (script_of named) text names texts steps has_inputs
+some_owed has_inputs (Check place) named text names texts = some_by owed_check text
+some_owed has_inputs (Demo number steps workers) named text names texts = some_by (owed_demo steps) (demo_text number)

@@ -6,6 +6,7 @@ use Rattle.hume_front.specs.declared.acceptance.Accepted.{Accepted}
 use Rattle.hume_front.proofs.Sources.{fine_check, formed, wired, within, handled}
 use Rattle.phase_workers.specs.Runnable.{IsRunnable}
 use Rattle.hume_run.specs.inner.Bounds.{KeepsBounds}
+use Rattle.hume_run.specs.inner.Ready.{IsReady}
 use Rattle.hume_front.proofs.printable_lemmas.NamedConstructors.{have_names}
 use Rattle.hume_front.proofs.printable_lemmas.Printable.{printable}
 
@@ -25,3 +26,12 @@ bounded text accepted h = record { frame = (formed text accepted h).frame; are =
 
 pub handles : (text : List ℕ) (accepted : Accepted) → IsAccepted text accepted → BoxesHandleAll accepted.core
 handles text accepted h = handled text accepted h
+
+pub is_ready : (text : List ℕ) (accepted : Accepted) → IsAccepted text accepted
+    → IsReady (record { core = accepted.core; wiring = accepted.wiring; costs = accepted.costs })
+is_ready text accepted h = record {
+  runnable = runnable text accepted h;
+  handles = handles text accepted h;
+  wiring = h.wiring;
+  bounds = bounded text accepted h;
+}

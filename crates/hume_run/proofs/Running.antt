@@ -1,21 +1,18 @@
 -- The parts of a run in turn: the table, its rounds, the finishes.
-use Rattle.std.proofs.Common.{◌≡◌, ℕ, Bool, true, false, List, [], ◌∷◌, ◌++◌, Option, None, Some, Result, Ok, Err, if◌then◌else◌, refl, ap, sym, ◌∙◌, subst, inl, inr}
+use Rattle.std.proofs.Common.{◌≡◌, ℕ, Bool, true, false, List, [], ◌++◌, Option, None, Some, Result, Ok, Err, if◌then◌else◌, refl, subst, inl, inr}
 use Rattle.std.specs.Option.{is_some}
-use Rattle.std.specs.List.{All}
 use Rattle.hume_ports.specs.declared.port.Failed.{Failed}
 use Rattle.hume_ports.specs.Port.{PortView}
-use Rattle.hume_ports.specs.Delivery.{Pairs}
 use Rattle.hume_model.specs.declared.core_tree.Core.{Core}
 use Rattle.port_acts.specs.Acts.{Act, write_each, finish_each}
-use Rattle.port_acts.specs.Ends.{Few, never, Made, Fails, Ends}
+use Rattle.port_acts.specs.Ends.{never, Made, Fails, Ends}
 use Rattle.port_acts.proofs.Failing.{Fails-on, Fails-stop, Fails-any, Ends-on, Ends-any}
 use Rattle.run_rounds.specs.Inputs.{Inputs, AreInputs}
 use Rattle.run_rounds.specs.RunActs.{run_acts, run_few}
 use Rattle.run_rounds.specs.Writes.{span_of, blocked_round}
-use Rattle.run_rounds.specs.Runs.{Comes, RunsTo, FailsToRun}
-use Rattle.hume_run.specs.declared.status.Status.{Status}
+use Rattle.run_rounds.specs.Runs.{RunsTo, FailsToRun}
 use Rattle.hume_run.specs.declared.status.Status.TheVariants.{Done, BadValue, Fault}
-use Rattle.hume_run.specs.Owed.{owed_run, table_writes, run_finishes, run_status}
+use Rattle.hume_run.specs.Owed.{table_writes, run_finishes, run_status}
 use Rattle.hume_run.specs.inner.Ended.{RunEnds, RunsCore}
 use Rattle.hume_run.proofs.Texts.{comes_before, some_comes}
 

@@ -1,5 +1,5 @@
 -- Calls that tell `std_out` a line or the table, and finish it.
-use Rattle.std.proofs.Common.{◌≡◌, ℕ, List, [], ◌∷◌, ◌++◌, map, Result, Some, refl, subst, inl, inr}
+use Rattle.std.proofs.Common.{◌≡◌, ℕ, List, [], ◌∷◌, map, Result, refl, subst, inl, inr}
 use Rattle.hume_base.specs.declared.rule.Refusal.{Refusal}
 use Rattle.hume_ports.specs.declared.port.Failed.{Failed}
 use Rattle.hume_ports.specs.Port.{PortView}

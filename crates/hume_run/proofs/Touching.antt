@@ -1,9 +1,9 @@
 -- Which ports a run reads, writes and finishes.
-use Rattle.std.proofs.Common.{◌≡◌, ℕ, ◌-◌, zero, suc, Bool, true, false, cond, ◌||◌, List, [], ◌∷◌, ◌++◌, map, length, Option, Some, None, slice_get, refl, ap, sym, ◌∙◌, subst, inl, inr}
+use Rattle.std.proofs.Common.{◌≡◌, ℕ, ◌-◌, zero, suc, Bool, true, false, ◌||◌, List, [], ◌∷◌, ◌++◌, map, Option, Some, None, slice_get, refl, ap, sym, ◌∙◌, subst, inl, inr}
 use Rattle.std.specs.Prelude.{⊤}
 use Rattle.std.specs.List.{filter_map, flat_map}
 use Rattle.std.specs.Str.{bytes_eq}
-use Rattle.std.proofs.lemmas.Bool.{cases_Bool, true≢false}
+use Rattle.std.proofs.lemmas.Bool.{cases_Bool}
 use Rattle.std.proofs.lemmas.Grind.{flat_map-append}
 use Rattle.std.proofs.lemmas.List.Folds.{list_any-append}
 use Rattle.hume_base.specs.declared.types.Value.{Value}
@@ -23,7 +23,7 @@ use Rattle.net_costs.specs.Steps.{peaks}
 use Rattle.trace_print.specs.table.Table.{space_table}
 use Rattle.trace_print.specs.TraceLines.{peak_lines}
 use Rattle.hume_streams.specs.Logs.{line_of}
-use Rattle.port_acts.specs.Acts.{Act, wants, writes as write_to, finishes, wanted, wanted_by, written, finished, finished_by, write_each, finish_each}
+use Rattle.port_acts.specs.Acts.{Act, wants, writes as write_to, finishes, wanted, written, finished, finished_by, write_each, finish_each}
 use Rattle.port_acts.proofs.Each.{writes_finish_nothing}
 use Rattle.phase_workers.specs.StreamTypes.{type_at}
 use Rattle.run_rounds.specs.Streams.{std_out, input_of, inputs, output_of, outputs, ports_of}

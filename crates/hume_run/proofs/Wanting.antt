@@ -1,10 +1,11 @@
 -- Where wants are among the acts of a call.
-use Rattle.std.proofs.Common.{◌≡◌, ◌⊎◌, ℕ, Bool, true, false, cond, ◌||◌, zero, suc, List, [], ◌∷◌, ◌++◌, map, Option, Some, None, slice_get, refl, sym, ap, ◌∙◌, inl, inr, subst}
+use Rattle.std.proofs.Common.{◌≡◌, ◌⊎◌, ℕ, Bool, true, false, cond, ◌||◌, zero, suc, List, [], ◌∷◌, ◌++◌, Option, Some, None, slice_get, refl, sym, ap, ◌∙◌, inl, inr, subst}
 use Rattle.std.specs.List.{filter_map}
 use Rattle.std.specs.Option.{is_none}
 use Rattle.std.specs.Str.{bytes_eq}
 use Rattle.std.proofs.lemmas.Bool.{or_parts}
 use Rattle.std.proofs.lemmas.Grind.{flat_map-append}
+use Rattle.std.proofs.lemmas.List.Folds.{list_any-append}
 use Rattle.hume_model.specs.declared.core_tree.NodeC.{NodeC}
 use Rattle.hume_model.specs.declared.core_tree.NodeC.TheVariants.{Rules, From, To}
 use Rattle.hume_model.specs.declared.core_tree.StreamC.{StreamC}
@@ -116,6 +117,35 @@ module _ (names : List (List ℕ)) (source : List ℕ) where
       let f = fit_first (is_unfit names source earlier other.port) other.line
       (unfit_line names source (earlier ++ other.port ∷ []) (filter_map stream_of nodes)) fit in
       fit_inputs nodes (earlier ++ other.port ∷ []) f.1 n stream at
+
+  -- a name that isn't among more isn't among fewer
+  fewer : (name : List ℕ) (earlier more : List (List ℕ)) → is_among name (earlier ++ more) ≡ false → is_among name earlier ≡ false
+  fewer name earlier more none = (or_parts (is_among name earlier) (is_among name more) (sym (list_any-append (bytes_eq name) earlier more) ∙ none)).0
+
+  not_earlier : (earlier : List (List ℕ)) (port : List ℕ) → is_unfit names source earlier port ≡ false → is_among port earlier ≡ false
+  not_earlier earlier port fit =
+      let parts = or_parts (is_none (place_of port names)) (bytes_eq port source || is_among port earlier) fit in
+      (or_parts (bytes_eq port source) (is_among port earlier) parts.1).1
+
+  -- and none of an input stream is among the earlier ones
+  pub apart_from_earlier : (nodes : List NodeC) (earlier : List (List ℕ)) → unfit_line names source earlier (filter_map stream_of nodes) ≡ None → (n : ℕ)
+      (stream : StreamC) → slice_get nodes n ≡ Some (From stream) → is_among stream.port earlier ≡ false
+  apart_from_earlier [] earlier fit n stream at = cc
+  apart_from_earlier (Rules b ∷ nodes) earlier fit zero stream at = cc
+  apart_from_earlier (Rules b ∷ nodes) earlier fit (suc n) stream at = apart_from_earlier nodes earlier fit n stream at
+  apart_from_earlier (To other ∷ nodes) earlier fit zero stream at = cc
+  apart_from_earlier (To other ∷ nodes) earlier fit (suc n) stream at =
+      let f = fit_first (is_unfit names source earlier other.port) other.line
+      (unfit_line names source (earlier ++ other.port ∷ []) (filter_map stream_of nodes)) fit in
+      fewer stream.port earlier (other.port ∷ []) (apart_from_earlier nodes (earlier ++ other.port ∷ []) f.1 n stream at)
+  apart_from_earlier (From other ∷ nodes) earlier fit zero stream at =
+      let f = fit_first (is_unfit names source earlier other.port) other.line
+      (unfit_line names source (earlier ++ other.port ∷ []) (filter_map stream_of nodes)) fit in
+      subst (λ (s : StreamC). is_among s.port earlier ≡ false) (same_stream other stream at) (not_earlier earlier other.port f.0)
+  apart_from_earlier (From other ∷ nodes) earlier fit (suc n) stream at =
+      let f = fit_first (is_unfit names source earlier other.port) other.line
+      (unfit_line names source (earlier ++ other.port ∷ []) (filter_map stream_of nodes)) fit in
+      fewer stream.port earlier (other.port ∷ []) (apart_from_earlier nodes (earlier ++ other.port ∷ []) f.1 n stream at)
 
   -- so no input stream's is the source's
   pub apart_from_source : (nodes : List NodeC) (earlier : List (List ℕ)) → unfit_line names source earlier (filter_map stream_of nodes) ≡ None → (n : ℕ)

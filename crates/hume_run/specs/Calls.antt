@@ -9,29 +9,31 @@ use Rattle.hume_run.specs.declared.status.Status.{Status}
 use Rattle.hume_run.specs.declared.status.Status.TheVariants.{Usage, Fault, NoMemory}
 use Rattle.hume_run.specs.declared.order.Order.{Order}
 use Rattle.hume_run.specs.Owed.{IsOwed}
-use Rattle.hume_run.specs.Headline.{IsText, OwesAlone, source_text}
+use Rattle.hume_run.specs.Words.{Named}
+use Rattle.hume_run.specs.Reading.{source_text}
+use Rattle.hume_run.specs.Headline.{IsText, OwesAlone}
 
 -- What a call with a source owes over these ports, as the source and the other texts say: those that the ports tell.
-pub record OwesOver (order : Order) (source : List ℕ) (ports : List PortView) (owed : Owed Status) : Type 0 where
+pub record OwesOver (order : Order) (named : Named) (ports : List PortView) (owed : Owed Status) : Type 0 where
   pub text : List ℕ
-  pub told : IfSome (left_of source ports) (λ left. text ≡ source_text left)
+  pub told : IfSome (left_of named.source ports) (λ left. text ≡ source_text left)
   pub texts : List ℕ → List ℕ
-  pub texts_told : IsText source ports texts
-  pub owes : IsOwed order source text (names ports) texts owed
+  pub texts_told : IsText named.source ports texts
+  pub owes : IsOwed order named text (names ports) texts owed
 
--- What a call owes over these ports, with a source of that name or with none.
-abbrev pub Owes : Order → Option (List ℕ) → List PortView → Owed Status → Type 0
+-- What a call owes over these ports, with a source or with none.
+abbrev pub Owes : Order → Option Named → List PortView → Owed Status → Type 0
 Owes order None ports owed = OwesAlone order ports owed
-Owes order (Some source) ports owed = OwesOver order source ports owed
+Owes order (Some named) ports owed = OwesOver order named ports owed
 
 -- Each port has room for what the call owes to it.
-abbrev pub HaveRoom : Order → Option (List ℕ) → List PortView → Type 0
-HaveRoom order source ports = (owed : Owed Status) → Owes order source ports owed → Roomy ports (written owed.acts)
+abbrev pub HaveRoom : Order → Option Named → List PortView → Type 0
+HaveRoom order named ports = (owed : Owed Status) → Owes order named ports owed → Roomy ports (written owed.acts)
 
 -- The call gave the answer that it owes, and wrote just what it owes.
-pub record GivesOwed (order : Order) (source : Option (List ℕ)) (old new : List PortView) (status : Status) : Type 0 where
+pub record GivesOwed (order : Order) (named : Option Named) (old new : List PortView) (status : Status) : Type 0 where
   pub owed : Owed Status
-  pub owes : Owes order source old owed
+  pub owes : Owes order named old owed
   pub answer : status ≡ owed.answer
   pub delivered : Delivered old new (written owed.acts)
 

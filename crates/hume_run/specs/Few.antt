@@ -1,19 +1,39 @@
 -- When a call that reads a port until it has a number of values has too few.
-use Rattle.std.specs.Prelude.{◌≡◌, ◌<◌, ℕ, true, List, length}
+use Rattle.std.specs.Prelude.{◌≡◌, ◌<◌, ℕ, true, false, List, Ok, length}
 use Rattle.std.specs.Str.{bytes_eq}
+use Rattle.hume_model.specs.declared.core_tree.Core.{Core}
+use Rattle.hume_ports.specs.Ports.{is_among}
+use Rattle.port_acts.specs.Early.{Reads, names_read}
 use Rattle.port_acts.specs.Ends.{Few}
 use Rattle.hume_front.specs.declared.acceptance.Accepted.{Accepted}
-use Rattle.hume_front.specs.Accepted.{IsAccepted}
+use Rattle.hume_front.specs.declared.acceptance.Sound.{Sound}
+use Rattle.hume_front.specs.Accepted.{IsAccepted, IsSound}
+use Rattle.box_calculus.specs.Scripts.{scripted}
 use Rattle.run_rounds.specs.RunActs.{run_few}
+use Rattle.hume_run.specs.declared.order.Order.{Order}
+use Rattle.hume_run.specs.declared.order.Order.TheVariants.{Calc}
+use Rattle.hume_run.specs.Words.{Named, script_of}
+use Rattle.hume_run.specs.Reading.{further_reads, script_text}
 
 -- Of the source the values are bytes.
 abbrev pub source_few : List ℕ → Few
 source_few source name count bytes = bytes_eq name source ≡ true → length bytes < count
 
--- Of the source the values are bytes, and of an input stream of the accepted core those of its whole lines.
-pub record CallFew (source text name : List ℕ) (count : ℕ) (bytes : List ℕ) : Type 0 where
-  pub of_source : source_few source name count bytes
-  pub of_streams : (accepted : Accepted) → IsAccepted text accepted → run_few accepted.core name count bytes
+-- Of ports that are read whole, too.
+abbrev pub whole_few : Reads → Few
+whole_few reads name count bytes = is_among name (names_read reads) ≡ true → length bytes < count
 
-abbrev pub call_few : List ℕ → List ℕ → Few
-call_few source text name count bytes = CallFew source text name count bytes
+-- The call runs this core: that of its source, or the one that its script makes.
+abbrev pub IsRunBy : Order → Named → List ℕ → (List ℕ → List ℕ) → Core → Type 0
+IsRunBy (Calc steps workers place script) named text texts core =
+    (sound : Sound) × IsSound text sound × (scripted sound.core (script_text (texts (script_of named))) ≡ Ok core)
+IsRunBy _ named text texts core = (accepted : Accepted) × IsAccepted text accepted × (core ≡ accepted.core)
+
+-- Of a port that is read whole the values are bytes, and of an input stream of the core that is run those of its whole lines.
+pub record CallFew (order : Order) (named : Named) (text : List ℕ) (texts : List ℕ → List ℕ) (name : List ℕ) (count : ℕ) (bytes : List ℕ) : Type 0 where
+  pub of_source : source_few named.source name count bytes
+  pub of_further : whole_few (further_reads order named) name count bytes
+  pub of_streams : is_among name (names_read (further_reads order named)) ≡ false → (core : Core) → IsRunBy order named text texts core → run_few core name count bytes
+
+abbrev pub call_few : Order → Named → List ℕ → (List ℕ → List ℕ) → Few
+call_few order named text texts name count bytes = CallFew order named text texts name count bytes

@@ -1,6 +1,8 @@
 pub mod Statuses
 pub mod Words
+pub mod Reading
 pub mod Streams
+pub mod Calc
 pub mod Owed
 pub mod Few
 pub mod Headline

@@ -1,5 +1,5 @@
 -- What a call owes once it has read its source: acts, in order, and its answer.
-use Rattle.std.specs.Prelude.{◌≡◌, ◌⊎◌, ℕ, Bool, List, [], ◌∷◌, ◌++◌, map, Option, None, Some, codes, decimal}
+use Rattle.std.specs.Prelude.{◌≡◌, ◌⊎◌, ℕ, Bool, false, List, [], ◌∷◌, ◌++◌, map, Option, None, Some, Ok, codes, decimal}
 use Rattle.hume_base.specs.declared.rule.Refusal.{Refusal}
 use Rattle.hume_base.specs.declared.rule.Rule.TheVariants.{C55}
 use Rattle.hume_base.specs.Rules.{code_of}
@@ -8,8 +8,13 @@ use Rattle.hume_ports.specs.Ports.{other_names}
 use Rattle.hume_ports.specs.Delivery.{Pairs}
 use Rattle.port_acts.specs.Acts.{writes, finishes, write_each, finish_each}
 use Rattle.port_acts.specs.Ends.{Owed}
+use Rattle.port_acts.specs.Early.{after_reads}
 use Rattle.hume_front.specs.declared.acceptance.Accepted.{Accepted}
-use Rattle.hume_front.specs.Accepted.{IsAccepted, Breaks}
+use Rattle.hume_front.specs.declared.acceptance.Sound.{Sound}
+use Rattle.hume_front.specs.Accepted.{IsAccepted, IsSound, Breaks, BreaksSoundness}
+use Rattle.hume_base.specs.Least.{IsLeast}
+use Rattle.box_costs.specs.CostRules.{BreaksCosts}
+use Rattle.box_calculus.specs.Scripts.{scripted}
 use Rattle.run_rounds.specs.Streams.{std_out, streams, outputs, ports_of}
 use Rattle.run_rounds.specs.Inputs.{Inputs, AreInputs}
 use Rattle.run_rounds.specs.Writes.{span_of, blocked_round}
@@ -20,7 +25,10 @@ use Rattle.demo_net.specs.Source.{demo_text}
 use Rattle.hume_run.specs.declared.status.Status.{Status}
 use Rattle.hume_run.specs.declared.status.Status.TheVariants.{Done, Refused, BadValue}
 use Rattle.hume_run.specs.declared.order.Order.{Order}
-use Rattle.hume_run.specs.declared.order.Order.TheVariants.{Run, Check, Demo}
+use Rattle.hume_run.specs.declared.order.Order.TheVariants.{Run, Calc, Check, Demo}
+use Rattle.hume_run.specs.Words.{Named, script_of}
+use Rattle.hume_run.specs.Reading.{script_text, script_reads}
+use Rattle.hume_run.specs.Calc.{IsScriptRefusal}
 use Rattle.hume_run.specs.Streams.{unfit_line}
 
 -- refusals
@@ -86,6 +94,21 @@ IsOwedRun traced steps source text names texts owed =
     ⊎ ((accepted : Accepted) × IsAccepted text accepted × (unfit_line names source [] (streams accepted.core) ≡ None)
     × (coming : Inputs) × AreInputs accepted.core texts coming × (owed ≡ owed_run traced steps accepted.core coming))
 
+-- What is owed for the core of a source once a script of these lines was read from its port: a refusal, or the run of the core that
+-- the script makes.
+abbrev pub IsOwedScript : ℕ → Core → List ℕ → List ℕ → List ℕ → List (List ℕ) → (List ℕ → List ℕ) → Owed Status → Type 0
+IsOwedScript steps core lines source script names texts owed =
+    ((refusal : Refusal) × IsScriptRefusal core lines names source script refusal × (owed ≡ owed_refused refusal))
+    ⊎ ((new : Core) × (scripted core lines ≡ Ok new) × IsLeast (BreaksCosts new) None × (unfit_line names source (script ∷ []) (streams new) ≡ None)
+    × (coming : Inputs) × AreInputs new texts coming × (owed ≡ owed_run false steps new coming))
+
+-- What a run of what a script makes of the source of that text owes. The script is read if the source is sound.
+abbrev pub IsOwedCalc : ℕ → List ℕ → List ℕ → List ℕ → List (List ℕ) → (List ℕ → List ℕ) → Owed Status → Type 0
+IsOwedCalc steps source script text names texts owed =
+    ((refusal : Refusal) × BreaksSoundness text refusal × (owed ≡ owed_refused refusal))
+    ⊎ ((sound : Sound) × IsSound text sound × (later : Owed Status)
+    × IsOwedScript steps sound.core (script_text (texts script)) source script names texts later × (owed ≡ after_reads (script_reads script) later))
+
 -- What a check of the source of that text owes.
 abbrev pub IsOwedCheck : List ℕ → Owed Status → Type 0
 IsOwedCheck text owed =
@@ -99,7 +122,8 @@ IsOwedDemo number steps owed =
     ⊎ ((accepted : Accepted) × IsAccepted (demo_text number) accepted × (owed ≡ owed_demo steps accepted.core))
 
 -- What a call owes that the words ask for. A demo asks for nothing of a port.
-abbrev pub IsOwed : Order → List ℕ → List ℕ → List (List ℕ) → (List ℕ → List ℕ) → Owed Status → Type 0
-IsOwed (Run steps workers place traced) source text names texts owed = IsOwedRun traced steps source text names texts owed
-IsOwed (Check place) source text names texts owed = IsOwedCheck text owed
-IsOwed (Demo number steps workers) source text names texts owed = IsOwedDemo number steps owed
+abbrev pub IsOwed : Order → Named → List ℕ → List (List ℕ) → (List ℕ → List ℕ) → Owed Status → Type 0
+IsOwed (Run steps workers place traced) named text names texts owed = IsOwedRun traced steps named.source text names texts owed
+IsOwed (Calc steps workers place script) named text names texts owed = IsOwedCalc steps named.source (script_of named) text names texts owed
+IsOwed (Check place) named text names texts owed = IsOwedCheck text owed
+IsOwed (Demo number steps workers) named text names texts owed = IsOwedDemo number steps owed

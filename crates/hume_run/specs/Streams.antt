@@ -5,7 +5,8 @@ use Rattle.std.specs.Str.{bytes_eq}
 use Rattle.hume_model.specs.declared.core_tree.StreamC.{StreamC}
 use Rattle.hume_ports.specs.Ports.{place_of, is_among}
 
--- A port that isn't handed in, is the source's, or is an earlier stream's, can't be a stream's.
+-- A port that isn't handed in, is the source's, or is an earlier one, can't be a stream's. Earlier are those of earlier streams, and
+-- others that no stream may have.
 abbrev pub is_unfit : List (List ℕ) → List ℕ → List (List ℕ) → List ℕ → Bool
 is_unfit names source earlier port = is_none (place_of port names) || (bytes_eq port source || is_among port earlier)
 

@@ -1,4 +1,5 @@
 pub mod Bounds
+pub mod Ready
 pub mod Places
 pub mod FoundPlaces
 pub mod Ended

@@ -6,6 +6,7 @@ ghost use Rattle.port_acts.specs.Places.{IsPlaceOf};
 ghost use Rattle.trace_print.specs.declared.space_lines.TheConstants.{LINE_BYTES as ROOM};
 ghost use Rattle.run_rounds.specs.Streams.{std_out};
 ghost use Rattle.hume_run.specs.declared.order.Order.TheVariants.{Check};
+ghost use Rattle.hume_run.specs.Words.{Named};
 ghost use Rattle.hume_run.specs.Owed.{owed_check};
 ghost use Rattle.hume_run.specs.inner.Bounds.{KeepsBounds};
 ghost use Rattle.hume_run.specs.inner.Ended.{EndsOwed, EndsText};
@@ -25,7 +26,7 @@ use trace_print::table::write_table;
 /// Says whether a source of that text is accepted, and what its boxes may take. `out` is the place of `std_out`.
 pub fn check_text(alloc: Global, ports: &mut [Box<dyn Port>], text: &[u8], out: usize) -> Status
     requires { IsPlaceOf std_out (names (map view ports.old)) out }
-    ensures { (place : ℕ) (source : List ℕ) → EndsText (Check place) source text.now (map view ports.old) (map view ports.new) result }
+    ensures { (place : ℕ) (named : Named) → EndsText (Check place) named text.now (map view ports.old) (map view ports.new) result }
 {
     match accept(alloc, text) {
         Ok(accepted) => check_accepted(alloc, ports, &accepted.core, &accepted.costs, out),

@@ -14,7 +14,7 @@ ghost use Rattle.hume_ports.specs.Port.{PortView};
 ghost use Rattle.hume_ports.specs.Ports.{is_among, names, place_of};
 ghost use Rattle.hume_ports.specs.Delivery.{Delivered, names_in};
 ghost use Rattle.port_acts.specs.Acts.{finished, wanted, written};
-ghost use Rattle.port_acts.specs.Early.{after_reads};
+ghost use Rattle.port_acts.specs.Early.{after_reads, names_read};
 ghost use Rattle.port_acts.specs.Ends.{Fails, NoneRose, Owed, bytes_of, never};
 ghost use Rattle.hume_front.specs.declared.acceptance.Accepted.{Accepted};
 ghost use Rattle.hume_front.specs.Accepted.{IsAccepted};
@@ -22,13 +22,15 @@ ghost use Rattle.run_rounds.specs.Inputs.{Inputs, AreInputs};
 ghost use Rattle.run_rounds.specs.Streams.{inputs, ports_of, std_out, streams};
 ghost use Rattle.run_rounds.specs.Writes.{writes};
 ghost use Rattle.hume_run.specs.declared.order.Order.{Order};
+ghost use Rattle.hume_run.specs.declared.order.Order.TheVariants.{Run};
 ghost use Rattle.hume_run.specs.declared.status.Status.{Status};
 ghost use Rattle.hume_run.specs.declared.status.Status.TheVariants.{Usage, NoMemory};
 ghost use Rattle.hume_run.specs.Streams.{unfit_line};
 ghost use Rattle.hume_run.specs.Owed.{IsOwed, owed_refused, owed_check, owed_demo, owed_run, demo_writes, refused_line, run_finishes, table_writes};
 ghost use Rattle.hume_run.specs.Few.{call_few};
-ghost use Rattle.hume_run.specs.Headline.{source_reads, Headline, OwesAlone};
-ghost use Rattle.hume_run.specs.Words.{order_of, source_of};
+ghost use Rattle.hume_run.specs.Reading.{further_reads, source_reads};
+ghost use Rattle.hume_run.specs.Headline.{Headline, LacksPort, OwesAlone};
+ghost use Rattle.hume_run.specs.Words.{Named, named_by, order_of};
 ghost use Rattle.hume_run.specs.Calls.{GivesOwed, HaveRoom, HaveSameTexts, IsThrough};
 ghost use Rattle.hume_run.specs.Faults.{FailedInput, HasFault, HasFaultAlone, ReadRose};
 
@@ -50,10 +52,10 @@ pub fn runs_keep_bounds()
 
 /// What a call owes is one thing, whatever the words ask for, the source's text, the names of the ports and their texts.
 pub fn each_call_owes_one_thing()
-    ensures some { (order : Order) (source text : List ℕ) (names : List (List ℕ)) (texts : List ℕ → List ℕ)
-        → (owed : Owed Status) × IsOwed order source text names texts owed }
-    ensures one { (order : Order) (source text : List ℕ) (names : List (List ℕ)) (texts : List ℕ → List ℕ) (first second : Owed Status)
-        → IsOwed order source text names texts first → IsOwed order source text names texts second → first ≡ second }
+    ensures some { (order : Order) (named : Named) (text : List ℕ) (names : List (List ℕ)) (texts : List ℕ → List ℕ)
+        → (owed : Owed Status) × IsOwed order named text names texts owed }
+    ensures one { (order : Order) (named : Named) (text : List ℕ) (names : List (List ℕ)) (texts : List ℕ → List ℕ) (first second : Owed Status)
+        → IsOwed order named text names texts first → IsOwed order named text names texts second → first ≡ second }
 {
     each_run_has_inputs();
     inputs_are_unique();
@@ -62,8 +64,8 @@ pub fn each_call_owes_one_thing()
 /// A call over ports that have room for what it owes gives the owed answer and writes all of it, unless memory runs out.
 pub fn calls_with_room_are_answered()
     ensures { (words : List (List ℕ)) (order : Order) (old new : List PortView) (status : Status) → order_of words ≡ Some order → (status ≡ Usage → ⊥)
-        → Headline words old new status → HaveRoom order (source_of words order) old
-        → (status ≡ NoMemory) ⊎ GivesOwed order (source_of words order) old new status }
+        → Headline words old new status → HaveRoom order (named_by words order) old
+        → (status ≡ NoMemory) ⊎ GivesOwed order (named_by words order) old new status }
 {
     each_run_has_inputs();
 }
@@ -72,7 +74,7 @@ pub fn calls_with_room_are_answered()
 /// and the same bytes to each port that had told the same: however their reads cut the texts.
 pub fn equal_calls_end_alike()
     ensures { (words : List (List ℕ)) (order : Order) (old new others later : List PortView) (status other : Status) → order_of words ≡ Some order
-        → (IsSomeAnd (source_of words order) (λ source. place_of source (names old) ≡ None) → ⊥) → HaveSameTexts old others
+        → (IsSomeAnd (named_by words order) (LacksPort (names old)) → ⊥) → HaveSameTexts old others
         → Headline words old new status → Headline words others later other → IsThrough status → IsThrough other
         → (status ≡ other) × ((name had : List ℕ) → bytes_of name old ≡ Some had → bytes_of name others ≡ Some had → bytes_of name new ≡ bytes_of name later) }
 {
@@ -106,21 +108,24 @@ pub fn runs_touch_their_ports()
 /// A fault comes only where a count of one of the call's ports rose. That of a call without a source comes where a write count or a
 /// finish count rose.
 pub fn faults_come_from_their_ports()
-    ensures sourced { (source text : List ℕ) (owed : Owed Status) (old new : List PortView)
-        → Fails (call_few source text) [] (after_reads (source_reads source) owed).acts old new → HasFault source owed old new }
+    ensures sourced { (order : Order) (named : Named) (text : List ℕ) (texts : List ℕ → List ℕ) (owed : Owed Status) (old new : List PortView)
+        → Fails (call_few order named text texts) [] (after_reads (source_reads named.source) owed).acts old new → HasFault named.source owed old new }
     ensures alone { (owed : Owed Status) (old new : List PortView) → Fails never [] owed.acts old new → HasFaultAlone owed old new }
 {}
 
-/// A fault where only finish counts rose came when all was written. One where only the read count of the source's port rose came
-/// when nothing was written.
+/// A fault where only finish counts rose came when all was written. One where only read counts of the source's port and of others that
+/// are read whole rose came when nothing was written.
 pub fn faults_tell_what_was_written()
-    ensures finishes { (order : Order) (source text : List ℕ) (names : List (List ℕ)) (texts : List ℕ → List ℕ) (owed : Owed Status) (old new : List PortView)
-        → IsOwed order source text names texts owed → Fails (call_few source text) [] (after_reads (source_reads source) owed).acts old new
+    ensures finishes { (order : Order) (named : Named) (text : List ℕ) (names : List (List ℕ)) (texts : List ℕ → List ℕ) (owed : Owed Status) (old new : List PortView)
+        → IsOwed order named text names texts owed
+        → Fails (call_few order named text texts) [] (after_reads (source_reads named.source) owed).acts old new
         → NoneRose (λ port. port.read_faults) old new → NoneRose (λ port. port.write_faults) old new → Delivered old new (written owed.acts) }
-    ensures source { (order : Order) (source text : List ℕ) (names : List (List ℕ)) (texts : List ℕ → List ℕ) (owed : Owed Status) (old new : List PortView)
-        → IsOwed order source text names texts owed → Fails (call_few source text) [] (after_reads (source_reads source) owed).acts old new
+    ensures source { (order : Order) (named : Named) (text : List ℕ) (names : List (List ℕ)) (texts : List ℕ → List ℕ) (owed : Owed Status) (old new : List PortView)
+        → IsOwed order named text names texts owed
+        → Fails (call_few order named text texts) [] (after_reads (source_reads named.source) owed).acts old new
         → NoneRose (λ port. port.write_faults) old new → NoneRose (λ port. port.finish_faults) old new
-        → ((name : List ℕ) → bytes_eq name source ≡ false → ReadRose name old new → ⊥) → Delivered old new [] }
+        → ((name : List ℕ) → is_among name (named.source ∷ names_read (further_reads order named)) ≡ false → ReadRose name old new → ⊥)
+        → Delivered old new [] }
     ensures alone { (order : Order) (owed : Owed Status) (old new : List PortView) → OwesAlone order old owed → Fails never [] owed.acts old new
         → NoneRose (λ port. port.read_faults) old new → NoneRose (λ port. port.write_faults) old new → Delivered old new (written owed.acts) }
 {
@@ -131,10 +136,12 @@ pub fn faults_tell_what_was_written()
 /// A fault of a run where only read counts rose, and not that of the source's port, came before a round, when exactly the rounds
 /// before it were written, and some input stream had brought too few values for the round.
 pub fn failed_inputs_tell_their_round()
-    ensures { (source text : List ℕ) (accepted : Accepted) (names : List (List ℕ)) (traced : Bool) (steps : ℕ) (coming : Inputs) (old new : List PortView)
-        → IsAccepted text accepted → unfit_line names source [] (streams accepted.core) ≡ None
-        → Fails (call_few source text) [] (after_reads (source_reads source) (owed_run traced steps accepted.core coming)).acts old new
-        → NoneRose (λ port. port.write_faults) old new → NoneRose (λ port. port.finish_faults) old new → (ReadRose source old new → ⊥)
+    ensures { (workers place : ℕ) (named : Named) (text : List ℕ) (accepted : Accepted) (names : List (List ℕ)) (texts : List ℕ → List ℕ) (traced : Bool)
+        (steps : ℕ) (coming : Inputs) (old new : List PortView)
+        → IsAccepted text accepted → unfit_line names named.source [] (streams accepted.core) ≡ None
+        → Fails (call_few (Run steps workers place traced) named text texts) []
+        (after_reads (source_reads named.source) (owed_run traced steps accepted.core coming)).acts old new
+        → NoneRose (λ port. port.write_faults) old new → NoneRose (λ port. port.finish_faults) old new → (ReadRose named.source old new → ⊥)
         → FailedInput accepted.core coming traced steps old new }
 {
     wants_stand_before_rounds();

@@ -16,6 +16,7 @@
 //! It knows ports, words and what is owed to them. It doesn't know files, command lines or exit statuses.
 #![tactic(auto)]
 
+mod calc;
 mod check;
 mod demo;
 mod laws;

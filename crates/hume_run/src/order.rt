@@ -12,6 +12,13 @@ pub enum Order {
         /// Whether all wires are told after each superstep.
         traced: bool,
     },
+    /// Run what the script makes of the source, whose ports are named by the words at those places.
+    Calc {
+        steps: u32,
+        workers: u32,
+        source: u32,
+        script: u32,
+    },
     /// Say whether the source whose port is named by the word at that place is accepted.
     Check {
         source: u32,
@@ -31,6 +38,7 @@ impl Order {
     {
         match self {
             Order::Run { source, .. } => Some(*source),
+            Order::Calc { source, .. } => Some(*source),
             Order::Check { source } => Some(*source),
             Order::Demo { .. } => None,
         }

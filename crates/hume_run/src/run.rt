@@ -8,7 +8,8 @@
 mod finishes;
 mod making;
 mod opening;
-mod streams;
+pub(crate) mod ready;
+pub(crate) mod streams;
 
 ghost use Rattle.std.specs.Prelude.{◌≡◌, ◌≤◌, ◌⊎◌, ℕ, List, map};
 ghost use Rattle.hume_base.specs.declared.rule.Rule.TheVariants.{C55};
@@ -18,11 +19,14 @@ ghost use Rattle.port_acts.specs.Places.{IsPlaceOf};
 ghost use Rattle.run_rounds.specs.Streams.{ArePlacesOf, ArePortsApart, std_out};
 ghost use Rattle.hume_run.specs.declared.order.Order.TheVariants.{Run};
 ghost use Rattle.hume_base.specs.declared.limits.TheConstants.{MAX_WORKERS};
+ghost use Rattle.hume_run.specs.Words.{source_alone};
+ghost use Rattle.hume_run.specs.inner.Ready.{IsReady};
 ghost use Rattle.hume_run.specs.inner.Ended.{EndsText, RunsOut, RunsCore};
 
 use crate::refuse::{end_unaccepted, refuse};
 use crate::run::making::run_opened;
 use crate::run::opening::open;
+use crate::run::ready::Ready;
 use crate::run::streams::{PlacesError, find_places};
 use crate::status::Status;
 use hume_base::{Refusal, Rule};
@@ -49,25 +53,32 @@ pub fn run_text<R: Threads + Sync, G: Gate>(
 ) -> Status
     requires workers { workers ≤ MAX_WORKERS }
     requires out { IsPlaceOf std_out (names (map view ports.old)) out }
-    ensures { (place : ℕ) → EndsText (Run steps workers place traced) source.now text.now (map view ports.old) (map view ports.new) result }
+    ensures { (place : ℕ) → EndsText (Run steps workers place traced) (source_alone source.now) text.now (map view ports.old) (map view ports.new) result }
 {
     wants_stand_before_rounds();
     let accepted = match accept(alloc, text) {
         Ok(accepted) => accepted,
         Err(error) => return end_unaccepted(alloc, ports, out, error),
     };
-    match find_places(alloc, ports, &accepted.core, source) {
-        Ok(places) => {
-            run_accepted(
-                rt, alloc, ports, steps, workers, traced, accepted, places, out, gate,
-            )
-        },
+    match find_places(alloc, ports, &accepted.core, source, &[]) {
+        Ok(places) => run_ready(
+            rt,
+            alloc,
+            ports,
+            steps,
+            workers,
+            traced,
+            made_ready(accepted),
+            places,
+            out,
+            gate,
+        ),
         Err(PlacesError::Unfit(line)) => refuse(alloc, ports, out, unfit_at(line)),
         Err(PlacesError::NoMemory) => Status::NoMemory,
     }
 }
 
-fn unfit_at(line: u32) -> Refusal
+pub(crate) fn unfit_at(line: u32) -> Refusal
     ensures { result ≡ record { rule = C55; line = line } }
 {
     Refusal {
@@ -76,28 +87,47 @@ fn unfit_at(line: u32) -> Refusal
     }
 }
 
-// Runs an accepted source. The ports of the streams are given by their places, one for each node.
-fn run_accepted<R: Threads + Sync, G: Gate>(
+// An accepted source is ready to run.
+fn made_ready(accepted: Accepted) -> Ready
+    requires { (text : List ℕ) × IsAccepted text accepted }
+    ensures ready { IsReady result }
+    ensures core { result.core ≡ accepted.core }
+{
+    let Accepted {
+        core,
+        wiring,
+        costs,
+        ..
+    } = accepted;
+    Ready {
+        core,
+        wiring,
+        costs,
+    }
+}
+
+/// Runs a core that is ready. The ports of its streams are given by their places, one for each node.
+pub(crate) fn run_ready<R: Threads + Sync, G: Gate>(
     rt: &R,
     alloc: Global,
     ports: &mut [Box<dyn Port>],
     steps: u32,
     workers: u32,
     traced: bool,
-    accepted: Accepted,
+    ready: Ready,
     places: Vec<usize>,
     out: usize,
     gate: &G,
 ) -> Status
     requires workers { workers ≤ MAX_WORKERS }
-    requires accepted { (text : List ℕ) × IsAccepted text accepted }
-    requires places { ArePlacesOf accepted.core (names (map view ports.old)) places.items }
-    requires apart { ArePortsApart accepted.core }
+    requires ready { IsReady ready }
+    requires places { ArePlacesOf ready.core (names (map view ports.old)) places.items }
+    requires apart { ArePortsApart ready.core }
     requires out { IsPlaceOf std_out (names (map view ports.old)) out }
     ensures { RunsOut (map view ports.old) (map view ports.new) result
-        ⊎ RunsCore traced steps accepted.core (map view ports.old) (map view ports.new) result }
+        ⊎ RunsCore traced steps ready.core (map view ports.old) (map view ports.new) result }
 {
-    match open(alloc, accepted, places, out, traced) {
+    match open(alloc, ready, places, out, traced) {
         Ok(opened) => run_opened(rt, opened, ports, steps, workers, out, gate),
         Err(_) => Status::NoMemory,
     }

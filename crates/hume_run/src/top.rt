@@ -1,16 +1,15 @@
-ghost use Rattle.std.specs.Prelude.{◌≡◌, ◌≤◌, ◌↔◌, ◌⊎◌, map, string_bytes, IsSome};
+ghost use Rattle.std.specs.Prelude.{◌≡◌, ◌≤◌, ◌↔◌, ◌⊎◌, ℕ, map, string_bytes, None, IsSome};
 ghost use Rattle.hume_ports.specs.Ports.{names};
-ghost use Rattle.port_acts.specs.Early.{EndsEarly};
 ghost use Rattle.port_acts.specs.Places.{IsPlaceOf};
-ghost use Rattle.hume_run.specs.declared.status.Status.TheVariants.{Fault, NoMemory};
-ghost use Rattle.hume_run.specs.Few.{source_few};
-ghost use Rattle.hume_run.specs.Headline.{Headline, IsUsage, AnswersFrom, source_reads};
-ghost use Rattle.hume_run.specs.inner.Ended.{EndsText};
-ghost use Rattle.hume_run.specs.inner.Places.{source_place};
-ghost use Rattle.hume_run.specs.Words.{workers_of};
+ghost use Rattle.hume_run.specs.Headline.{Headline, IsUsage, AnswersFrom, EndsUntold};
+ghost use Rattle.hume_run.specs.declared.order.Order.TheVariants.{Calc};
+ghost use Rattle.hume_run.specs.inner.Ended.{EndsText, IsScriptAt};
+ghost use Rattle.hume_run.specs.inner.Places.{script_place, source_place};
+ghost use Rattle.hume_run.specs.Words.{source_alone, source_with, workers_of};
 ghost use Rattle.hume_base.specs.declared.limits.TheConstants.{MAX_WORKERS};
 ghost use Rattle.run_rounds.specs.Streams.{std_out};
 
+use crate::calc::calc_text;
 use crate::check::check_text;
 use crate::demo::show_demo;
 use crate::order::Order;
@@ -48,6 +47,24 @@ pub fn hume<R: Threads + Sync, G: Gate>(
             steps,
             workers,
         } => show_demo(rt, alloc, ports, number, steps, workers, out, gate),
+        Order::Calc {
+            steps,
+            workers,
+            source,
+            script,
+        } => {
+            let name = words[source as usize].as_str();
+            let others = &words[script as usize..script as usize + 1];
+            let Some(at) = find(ports, name) else {
+                return Status::Usage;
+            };
+            let Some(script_at) = find(ports, words[script as usize].as_str()) else {
+                return Status::Usage;
+            };
+            answer_calc(
+                rt, alloc, ports, steps, workers, name, others, at, script_at, out, gate,
+            )
+        }
         Order::Run { source, .. } | Order::Check { source } => {
             let name = words[source as usize].as_str();
             let Some(at) = find(ports, name) else {
@@ -55,6 +72,48 @@ pub fn hume<R: Threads + Sync, G: Gate>(
             };
             answer(rt, alloc, ports, order, name, at, out, gate)
         }
+    }
+}
+
+// Reads the source from the port at the place `at`, and goes on with the script, whose port is the one of `others` and stands at the
+// place `script_at`.
+fn answer_calc<R: Threads + Sync, G: Gate>(
+    rt: &R,
+    alloc: Global,
+    ports: &mut [Box<dyn Port>],
+    steps: u32,
+    workers: u32,
+    name: &str,
+    others: &[String],
+    at: usize,
+    script_at: usize,
+    out: usize,
+    gate: &G,
+) -> Status
+    requires workers { workers ≤ MAX_WORKERS }
+    requires source { IsPlaceOf name.now (names (map view ports.old)) at }
+    requires script { IsScriptAt (source_with name.now (map string_bytes others.now)) (names (map view ports.old)) script_at }
+    requires out { IsPlaceOf std_out (names (map view ports.old)) out }
+    ensures { (place script : ℕ)
+        → EndsUntold (Calc steps workers place script) (source_with name.now (map string_bytes others.now)) (map view ports.old) (map view ports.new) result
+        ⊎ AnswersFrom (Calc steps workers place script) (source_with name.now (map string_bytes others.now)) (map view ports.old) (map view ports.new) result }
+{
+    match read_source(alloc, ports, at) {
+        Ok(text) => calc_text(
+            rt,
+            alloc,
+            ports,
+            steps,
+            workers,
+            name.as_bytes(),
+            others,
+            &text,
+            script_at,
+            out,
+            gate,
+        ),
+        Err(SourceError::Failed) => Status::Fault,
+        Err(SourceError::NoMemory) => Status::NoMemory,
     }
 }
 
@@ -70,11 +129,12 @@ fn answer<R: Threads + Sync, G: Gate>(
     gate: &G,
 ) -> Status
     requires sourced { IsSome (source_place order) }
+    requires alone { script_place order ≡ None }
     requires workers { workers_of order ≤ MAX_WORKERS }
     requires source { IsPlaceOf name.now (names (map view ports.old)) at }
     requires out { IsPlaceOf std_out (names (map view ports.old)) out }
-    ensures { EndsEarly (source_few name.now) (source_reads name.now) NoMemory Fault (map view ports.old) (map view ports.new) result
-        ⊎ AnswersFrom order name.now (map view ports.old) (map view ports.new) result }
+    ensures { EndsUntold order (source_alone name.now) (map view ports.old) (map view ports.new) result
+        ⊎ AnswersFrom order (source_alone name.now) (map view ports.old) (map view ports.new) result }
 {
     match read_source(alloc, ports, at) {
         Ok(text) => answer_text(rt, alloc, ports, order, name.as_bytes(), &text, out, gate),
@@ -94,9 +154,10 @@ fn answer_text<R: Threads + Sync, G: Gate>(
     gate: &G,
 ) -> Status
     requires sourced { IsSome (source_place order) }
+    requires alone { script_place order ≡ None }
     requires workers { workers_of order ≤ MAX_WORKERS }
     requires out { IsPlaceOf std_out (names (map view ports.old)) out }
-    ensures { EndsText order source.now text.now (map view ports.old) (map view ports.new) result }
+    ensures { EndsText order (source_alone source.now) text.now (map view ports.old) (map view ports.new) result }
 {
     match order {
         Order::Run {
@@ -108,6 +169,6 @@ fn answer_text<R: Threads + Sync, G: Gate>(
             rt, alloc, ports, steps, workers, traced, source, text, out, gate,
         ),
         Order::Check { .. } => check_text(alloc, ports, text, out),
-        Order::Demo { .. } => unreachable!(),
+        Order::Calc { .. } | Order::Demo { .. } => unreachable!(),
     }
 }

@@ -1,11 +1,20 @@
 -- How the parts of a call end that come after its source was read.
-use Rattle.std.specs.Prelude.{◌≡◌, ◌⊎◌, ℕ, Bool, List, [], ◌∷◌, IfOk, Result}
+use Rattle.std.specs.Prelude.{◌≡◌, ◌⊎◌, ℕ, Bool, false, List, [], ◌∷◌, IfOk, None, Ok, Result}
 use Rattle.std.specs.Option.{is_some}
+use Rattle.std.specs.Str.{bytes_eq}
 use Rattle.hume_base.specs.declared.rule.Refusal.{Refusal}
+use Rattle.hume_base.specs.Least.{IsLeast}
+use Rattle.box_costs.specs.CostRules.{BreaksCosts}
+use Rattle.box_calculus.specs.Scripts.{scripted}
+use Rattle.port_acts.specs.Places.{IsPlaceOf}
+use Rattle.run_rounds.specs.Streams.{streams}
+use Rattle.hume_run.specs.Calc.{IsScriptRefusal}
+use Rattle.hume_run.specs.Streams.{unfit_line}
 use Rattle.hume_ports.specs.declared.port.Failed.{Failed}
 use Rattle.hume_ports.specs.Port.{PortView}
 use Rattle.hume_ports.specs.Ports.{names}
 use Rattle.hume_ports.specs.Delivery.{Pairs}
+use Rattle.port_acts.specs.Early.{Stops, read_each}
 use Rattle.port_acts.specs.Ends.{Few, never, Made, Fails, Ends, Owed}
 use Rattle.hume_model.specs.declared.core_tree.Core.{Core}
 use Rattle.run_rounds.specs.Writes.{span_of, blocked_round}
@@ -14,9 +23,11 @@ use Rattle.run_rounds.specs.Runs.{Comes}
 use Rattle.hume_run.specs.declared.status.Status.{Status}
 use Rattle.hume_run.specs.declared.status.Status.TheVariants.{Fault, NoMemory}
 use Rattle.hume_run.specs.declared.order.Order.{Order}
-use Rattle.hume_front.specs.Accepted.{Breaks}
+use Rattle.hume_front.specs.Accepted.{Breaks, BreaksSoundness}
 use Rattle.hume_run.specs.Owed.{IsOwed, IsOwedDemo, owed_refused, owed_run}
 use Rattle.hume_run.specs.Few.{call_few}
+use Rattle.hume_run.specs.Words.{Named, script_of}
+use Rattle.hume_run.specs.Reading.{further_reads}
 use Rattle.hume_run.specs.Headline.{IsText}
 
 -- Memory ran out, and no port was touched.
@@ -36,17 +47,23 @@ EndsOwed owed old new status = RunsOut old new status ⊎ EndsAfter never [] owe
 abbrev pub EndsRefused : List ℕ → List PortView → List PortView → Status → Type 0
 EndsRefused text old new status = RunsOut old new status ⊎ ((refusal : Refusal) × Breaks text refusal × EndsOwed (owed_refused refusal) old new status)
 
--- The call ends as one that owes what the source's text asks for.
-pub record OwesFor (order : Order) (source text : List ℕ) (old new : List PortView) (status : Status) : Type 0 where
-  pub texts : List ℕ → List ℕ
-  pub told : IsText source old texts
-  pub owed : Owed Status
-  pub owes : IsOwed order source text (names old) texts owed
-  pub ends : EndsAfter (call_few source text) ((source, text) ∷ []) owed old new status
+-- A rule for which the source of that text isn't sound is told, or memory ran out.
+abbrev pub EndsUnsound : List ℕ → List PortView → List PortView → Status → Type 0
+EndsUnsound text old new status =
+    RunsOut old new status ⊎ ((refusal : Refusal) × BreaksSoundness text refusal × EndsOwed (owed_refused refusal) old new status)
 
--- So it ends, or memory ran out before.
-abbrev pub EndsText : Order → List ℕ → List ℕ → List PortView → List PortView → Status → Type 0
-EndsText order source text old new status = RunsOut old new status ⊎ OwesFor order source text old new status
+-- The call ends as one that owes what the source's text asks for.
+pub record OwesFor (order : Order) (named : Named) (text : List ℕ) (old new : List PortView) (status : Status) : Type 0 where
+  pub texts : List ℕ → List ℕ
+  pub told : IsText named.source old texts
+  pub owed : Owed Status
+  pub owes : IsOwed order named text (names old) texts owed
+  pub ends : EndsAfter (call_few order named text texts) ((named.source, text) ∷ []) owed old new status
+
+-- So it ends, or memory ran out before, when nothing was touched but by further reads.
+abbrev pub EndsText : Order → Named → List ℕ → List PortView → List PortView → Status → Type 0
+EndsText order named text old new status =
+    ((status ≡ NoMemory) × Stops (read_each (further_reads order named)) old new) ⊎ OwesFor order named text old new status
 
 -- The demo ends as one that owes the lines of its net, or memory ran out before.
 abbrev pub EndsDemo : ℕ → ℕ → List PortView → List PortView → Status → Type 0
@@ -64,3 +81,19 @@ pub record RunEnds (traced : Bool) (steps : ℕ) (core : Core) (old new : List P
 pub record RunsCore (traced : Bool) (steps : ℕ) (core : Core) (old new : List PortView) (status : Status) : Type 0 where
   pub comes : Comes core old
   pub ends : EndsAfter (run_few core) [] (owed_run traced steps core comes.inputs) old new status
+
+-- What comes of a core once a script of these lines was read from its port: memory ran out; or what is refused is told; or the core
+-- that the script makes is run.
+pub data EndsScript (steps : ℕ) (core : Core) (lines source port : List ℕ) (old new : List PortView) (status : Status) : Type 0 where
+  runs_out : RunsOut old new status → EndsScript steps core lines source port old new status
+  refuses : (refusal : Refusal) → IsScriptRefusal core lines (names old) source port refusal → EndsOwed (owed_refused refusal) old new status
+      → EndsScript steps core lines source port old new status
+  runs : (made : Core) → scripted core lines ≡ Ok made → IsLeast (BreaksCosts made) None
+      → unfit_line (names old) source (port ∷ []) (streams made) ≡ None → RunsCore false steps made old new status
+      → EndsScript steps core lines source port old new status
+
+-- The call names one further port, that of a script, which stands at the place and isn't the source's.
+pub record IsScriptAt (named : Named) (names : List (List ℕ)) (at : ℕ) : Type 0 where
+  pub only : named.others ≡ script_of named ∷ []
+  pub place : IsPlaceOf (script_of named) names at
+  pub apart : bytes_eq (script_of named) named.source ≡ false

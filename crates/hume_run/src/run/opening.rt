@@ -1,11 +1,11 @@
-ghost use Rattle.std.specs.Prelude.{◌≡◌, ℕ, List, length, IfOk, vec_len};
-ghost use Rattle.hume_front.specs.Accepted.{IsAccepted};
+ghost use Rattle.std.specs.Prelude.{◌≡◌, length, IfOk, vec_len};
 ghost use Rattle.run_rounds.specs.Opened.{core_in, traced_in};
 ghost use Rattle.hume_run.specs.inner.Opening.{IsOpen};
+ghost use Rattle.hume_run.specs.inner.Ready.{IsReady};
 
 use crate::run::finishes::finish_places;
+use crate::run::ready::Ready;
 use box_compile::compile;
-use hume_front::Accepted;
 use hume_text::Chunk;
 use run_rounds::Running;
 use space_costs::Costs;
@@ -28,24 +28,23 @@ pub struct Opened {
 /// Takes all memory of a run. The ports of the streams are given by their places, and so is `std_out`.
 pub fn open(
     alloc: Global,
-    accepted: Accepted,
+    ready: Ready,
     places: Vec<usize>,
     out: usize,
     traced: bool,
 ) -> Result<Opened, AllocError>
-    requires accepted { (text : List ℕ) × IsAccepted text accepted }
-    requires places { vec_len places ≡ length accepted.core.nodes }
-    ensures core { IfOk result (λ opened. core_in opened.running ≡ accepted.core) }
+    requires ready { IsReady ready }
+    requires places { vec_len places ≡ length ready.core.nodes }
+    ensures core { IfOk result (λ opened. core_in opened.running ≡ ready.core) }
     ensures traced { IfOk result (λ opened. traced_in opened.running ≡ traced) }
     ensures places { IfOk result (λ opened. opened.places.items ≡ places.items) }
     ensures open { IfOk result (IsOpen out) }
 {
-    let Accepted {
+    let Ready {
         core,
         wiring,
         costs,
-        ..
-    } = accepted;
+    } = ready;
     let finishes = finish_places(alloc, &core, &places, out)?;
     let chunk = Chunk::make(alloc, LINE_BYTES)?;
     let programs = compile(alloc, &core, &costs)?;

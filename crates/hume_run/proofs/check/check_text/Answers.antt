@@ -6,7 +6,7 @@ pub check_accepted-requires-clause-bounds : goal.check_accepted-requires-clause-
 check_accepted-requires-clause-bounds g c = bounded _ _ c.in-Ok.ensures.accepted
 
 pub returns-in-Ok : goal.returns-in-Ok
-returns-in-Ok g c place source = check_text place source _ _ _ _ c.in-Ok.accepted c.in-Ok.ensures.accepted c.check_accepted.ensures
+returns-in-Ok g c place named = check_text place named _ _ _ _ c.in-Ok.accepted c.in-Ok.ensures.accepted c.check_accepted.ensures
 
 pub returns-in-Err : goal.returns-in-Err
-returns-in-Err g c place source = refused_check place source _ _ _ _ (c.end_unaccepted.ensures _ c.in-Err.ensures.error)
+returns-in-Err g c place named = refused_check place named _ _ _ _ (c.end_unaccepted.ensures _ c.in-Err.ensures.error)

@@ -1,6 +1,6 @@
-use Rattle.std.proofs.Common.{rules, refl, sym, ap, ◌∙◌}
-use Rattle.hume_run.specs.Words.{number_of, traced_of}
-use Rattle.hume_run.proofs.Forms.{check_if, two_words, three_words, more_words}
+use Rattle.std.proofs.Common.{rules, sym, ap, ◌∙◌}
+use Rattle.hume_run.specs.Words.{five_of, four_of}
+use Rattle.hume_run.proofs.Forms.{check_if, four_words, more_words, three_words, two_words}
 use Rattle.hume_run.proofs.words.reading.read_words.Goals as goal
 
 pub returns-in-len2-clause-order : goal.returns-in-len2-clause-order
@@ -14,12 +14,15 @@ returns-in_default-2-clause-order c = sym (two_words _ c.args.words.now c.comman
 pub returns-in_default-3-clause-order : goal.returns-in_default-3-clause-order
 returns-in_default-3-clause-order c = sym (three_words _ c.args.words.now (search rules) (search rules))
 
-pub returns-in_ok-number-in-len4-up-2-clause-order : goal.returns-in_ok-number-in-len4-up-2-clause-order
-returns-in_ok-number-in-len4-up-2-clause-order c =
-    c.run_of.ensures ∙ sym (more_words _ c.args.words.now c.command-item-2.result c.steps-item.result c.workers-item.result (search rules)
-    c.command-item-2.is c.steps-item.is c.workers-item.is
-    ∙ rw (
-      ap traced_of (sym c.deref-in-len4-up.ensures) ∙ sym c.traced_of.ensures ∙ c.in_ok-traced_of-in-len4-up.was,
-      ap number_of (sym c.deref-in-len4-up-2.ensures) ∙ sym c.number.ensures ∙ c.in_ok-number-in-len4-up.was,
-      ap number_of (sym c.deref-in-len4-up-3.ensures) ∙ sym c.number-in-len4-up.ensures ∙ c.in_ok-number-in-len4-up-2.was,
-    ) refl)
+pub returns-in-len4-clause-order : goal.returns-in-len4-clause-order
+returns-in-len4-clause-order c =
+    c.four_of.ensures.order ∙ sym (four_words _ c.args.words.now c.command-item-then-words-lt5.result c.first-item.result c.second-item.result c.third-item.result
+    (search rules) (search rules) c.command-item-then-words-lt5.is c.first-item.is c.second-item.is c.third-item.is
+    ∙ (λ i. four_of (sym c.deref.ensures i) (sym c.deref-in-len4.ensures i) (sym c.deref-in-len4-2.ensures i) (sym c.deref-in-len4-3.ensures i)))
+
+pub returns-in-len5-up-clause-order : goal.returns-in-len5-up-clause-order
+returns-in-len5-up-clause-order c =
+    c.five_of.ensures.order ∙ sym (more_words _ c.args.words.now c.command-item-2.result c.first-item-2.result c.second-item-2.result c.source-item.result
+    c.next-item.result (search rules) c.command-item-2.is c.first-item-2.is c.second-item-2.is c.source-item.is c.next-item.is
+    ∙ (λ i. five_of (sym c.deref-in-len5-up.ensures i) (sym c.deref-in-len5-up-2.ensures i) (sym c.deref-in-len5-up-3.ensures i)
+    (sym c.deref-in-len5-up-4.ensures i) (sym c.deref-in-len5-up-5.ensures i)))

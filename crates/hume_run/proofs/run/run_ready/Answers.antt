@@ -1,7 +1,7 @@
 use Rattle.std.proofs.Common.{inl, inr, refl, sym, subst}
 use Rattle.run_rounds.specs.Streams.{ArePortsApart}
 use Rattle.hume_run.proofs.Opening.{runs_opened}
-use Rattle.hume_run.proofs.run.run_accepted.Goals as goal
+use Rattle.hume_run.proofs.run.run_ready.Goals as goal
 
 pub returns-in-Ok : goal.returns-in-Ok
 returns-in-Ok g c = inr (runs_opened _ _ _ _ _ _ _ _ c.in-Ok.ensures.core c.in-Ok.ensures.traced c.run_opened.ensures)
