@@ -7,6 +7,7 @@
 //   INTERRUPTED=1  a signal interrupts each second call
 // NOTES=FD is a file that gets a line for each call and growth:
 //   memory | open NAME FD | read FD COUNT | write FD COUNT | COUNT is -1 where the call fails, and -2 where a signal interrupts it
+// With FAIL_MEMORY only the growth that is refused gets one: a large program grows tens of thousands of times.
 #define _GNU_SOURCE
 #include <errno.h>
 #include <fcntl.h>
@@ -41,8 +42,10 @@ static void note_call(const char *call, int fd, long count) {
 }
 
 static int is_refused(void) {
-    int refused = __atomic_add_fetch(&growths, 1, __ATOMIC_SEQ_CST) == setting("FAIL_MEMORY", -1);
-    note(refused ? "memory refused\n" : "memory\n");
+    long to_refuse = setting("FAIL_MEMORY", -1);
+    int refused = __atomic_add_fetch(&growths, 1, __ATOMIC_SEQ_CST) == to_refuse;
+    if (refused || to_refuse < 0)
+        note("memory\n");
     if (refused)
         errno = ENOMEM;
     return refused;

@@ -9,7 +9,7 @@ ROUND = 64
 WORKERS = 1, 2
 NO_INPUTS = "words", "README.md", "expected.py", "stdin"
 # the place of WORKERS among the words
-WORKERS_AT = {"run": 2, "trace": 2, "demo": 3}
+WORKERS_AT = {"run": 2, "trace": 2, "calc": 2, "demo": 3}
 NO_OUTPUTS = "status", "table", "taken", "stdout", "hints"
 DONE, REFUSED, BAD_VALUE, FAULT, NO_MEMORY = 0, 2, 3, 4, 5
 
@@ -127,6 +127,17 @@ def traced(workers):
     return one_box("a trace", f"trace 3 {workers} p i o", [*acts, *PEAK, *finishes("o", "std_out")], DONE)
 
 
+def rewritten(workers):
+    acts = [wants("steps"), *writes("std_out", "box b heap 0 stack 8 work 9", "total heap 0 stack 8"), wants("i"), *writes("o", 2, 3)]
+    acts += [*writes("std_out", "peak b heap 0 stack 8"), *finishes("o", "std_out")]
+    return one_box("a script", f"calc 4 {workers} p steps i o", acts, DONE, steps=b"name b 1 inc\n")
+
+
+def script_refused(workers):
+    acts = [wants("steps"), *writes("std_out", "refused 93 line 1"), *finishes("std_out")]
+    return one_box("a script that is refused", f"calc 4 {workers} p steps i o", acts, REFUSED, steps=b"swap b 1\n")
+
+
 def checked():
     return one_box("a check", "check p", [*TABLE, *finishes("std_out")], DONE)
 
@@ -153,7 +164,8 @@ def demo(workers):
 def cases(width):
     """All calls. Lines of the inputs of the longest have so many digits."""
     for workers in WORKERS:
-        yield from (add_one(workers), traced(workers), refused(workers), bad_value(workers), *demo(workers), sum_and_difference(150, workers, width))
+        yield from (add_one(workers), traced(workers), refused(workers), bad_value(workers), rewritten(workers), script_refused(workers))
+        yield from (*demo(workers), sum_and_difference(150, workers, width))
     yield checked()
 
 

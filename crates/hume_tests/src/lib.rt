@@ -12,7 +12,11 @@
 mod cells;
 mod front;
 #[cfg(test)]
+mod held_gate;
+#[cfg(test)]
 mod held_gate_tests;
+#[cfg(test)]
+mod held_round_tests;
 #[cfg(test)]
 mod lexing_tests;
 #[cfg(test)]

@@ -1,0 +1,59 @@
+//! A gate that holds a box until the other one has come by.
+use std::sync::atomic::{AtomicBool, AtomicU32, Ordering};
+use turn_workers::Gate;
+
+// After so many looks a gate gives up.
+const MOST_LOOKS: u32 = 200_000_000;
+
+/// A gate that holds each of two boxes, when it first comes by, until the other one has come by so often. With a barrier between the
+/// halves of a superstep such a gate gives up, and on one thread no box comes by.
+#[derive(Drop)]
+pub struct HeldGate {
+    first: AtomicU32,
+    second: AtomicU32,
+    first_waits_for: u32,
+    second_waits_for: u32,
+    gave_up: AtomicBool,
+}
+
+impl HeldGate {
+    pub fn new(first_waits_for: u32, second_waits_for: u32) -> HeldGate {
+        HeldGate {
+            first: AtomicU32::new(0),
+            second: AtomicU32::new(0),
+            first_waits_for,
+            second_waits_for,
+            gave_up: AtomicBool::new(false),
+        }
+    }
+
+    /// Whether each box came by, and none waited in vain.
+    pub fn let_both_by(&self) -> bool {
+        !self.gave_up.load(Ordering::SeqCst)
+            && self.first.load(Ordering::SeqCst) >= 1
+            && self.second.load(Ordering::SeqCst) >= 1
+    }
+}
+
+impl Gate for HeldGate {
+    fn pass(&self, node: u32) {
+        let (own, other, wanted) = match node {
+            0 => (&self.first, &self.second, self.first_waits_for),
+            1 => (&self.second, &self.first, self.second_waits_for),
+            _ => return,
+        };
+        let is_first = own.fetch_add(1, Ordering::SeqCst) == 0;
+        if is_first && !has_come(other, wanted) {
+            self.gave_up.store(true, Ordering::SeqCst);
+        }
+    }
+}
+
+fn has_come(box_count: &AtomicU32, wanted: u32) -> bool {
+    for _ in 0..MOST_LOOKS {
+        if box_count.load(Ordering::SeqCst) >= wanted {
+            return true;
+        }
+    }
+    false
+}
