@@ -29,11 +29,13 @@ mod rounds;
 mod run;
 mod telling;
 
-pub use bad_line::BadLine;
+pub use bad_line::{BadLine, put_bad_line};
 pub use laws::{
     each_run_has_inputs, inputs_are_unique, inputs_have_types, runs_write_their_lines,
     wants_stand_before_rounds,
 };
 pub use members::Member;
+pub use nodes::{is_input, is_output};
 pub use rounds::SPAN;
 pub use run::Running;
+pub use telling::{tell_bad_line, tell_peaks, tell_wires};

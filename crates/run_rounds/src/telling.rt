@@ -48,8 +48,8 @@ pub fn tell_superstep(
     tell_wires(engine, ports, out, chunk)
 }
 
-// Tells what is on each wire.
-fn tell_wires(
+/// Tells what is on each wire.
+pub fn tell_wires(
     engine: &Engine,
     ports: &mut [Box<dyn Port>],
     out: usize,
