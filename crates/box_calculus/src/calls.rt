@@ -11,6 +11,7 @@ use hume_model::{Core, EqC, Expr, PatC};
 use std::alloc::{AllocError, Global};
 
 /// The call of a function on the arguments, unfolded where `scope` variables are in scope; none if it can't be.
+#[inline(never)]
 pub(crate) fn unfold_call(
     alloc: Global,
     core: &Core,

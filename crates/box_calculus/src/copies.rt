@@ -1,8 +1,10 @@
-//! Copies of patterns, expressions and results.
+//! Copies of patterns, expressions and results. The functions of the forms are never inlined, so that a level of depth takes little of the
+//! stack.
 ghost use Rattle.std.specs.Prelude.{◌≡◌, IfOk};
+ghost use Rattle.hume_model.specs.declared.core_tree.Res.TheVariants.{Case as CaseRes, If as IfRes, Let as LetRes};
 
 use crate::renumbering::{Numbers, renumber, renumber_part};
-use hume_base::{Box, List, copy_ty};
+use hume_base::{Box, List, Ty, copy_ty};
 use hume_model::{Expr, PatC, Res};
 use std::alloc::{AllocError, Global};
 
@@ -94,22 +96,45 @@ pub(crate) fn copy_result(alloc: Global, given: &Res) -> Result<Res, AllocError>
 {
     match given {
         Res::Outs(outs) => Ok(Res::Outs(copy_outs(alloc, outs.as_slice())?)),
-        Res::If(test, when_true, when_false) => {
-            let test = copy_expression(alloc, test)?;
-            let when_true = copy_branch(alloc, when_true)?;
-            Ok(Res::If(test, when_true, copy_branch(alloc, when_false)?))
-        }
-        Res::Case(part, ty, arms) => {
-            let part = copy_expression(alloc, part)?;
-            let ty = copy_ty(alloc, ty)?;
-            Ok(Res::Case(part, ty, copy_ways(alloc, arms.as_slice())?))
-        }
-        Res::Let(part, body) => {
-            let part = copy_expression(alloc, part)?;
-            Ok(Res::Let(part, copy_branch(alloc, body)?))
-        }
+        Res::If(test, when_true, when_false) => copy_choice(alloc, test, when_true, when_false),
+        Res::Case(part, ty, arms) => copy_case(alloc, part, ty, arms.as_slice()),
+        Res::Let(part, body) => copy_binding(alloc, part, body),
         Res::Raise(exn, part) => Ok(Res::Raise(*exn, copy_out(alloc, part)?)),
     }
+}
+
+#[cycle(copy_result)]
+#[inline(never)]
+fn copy_choice(
+    alloc: Global,
+    test: &Expr,
+    when_true: &Res,
+    when_false: &Res,
+) -> Result<Res, AllocError>
+    ensures { IfOk result (λ copy. copy ≡ IfRes test.now when_true.now when_false.now) }
+{
+    let when_true = copy_branch(alloc, when_true)?;
+    let when_false = copy_branch(alloc, when_false)?;
+    Ok(Res::If(copy_expression(alloc, test)?, when_true, when_false))
+}
+
+#[cycle(copy_result)]
+#[inline(never)]
+fn copy_case(alloc: Global, part: &Expr, ty: &Ty, arms: &[(PatC, Res)]) -> Result<Res, AllocError>
+    ensures { IfOk result (λ copy. copy ≡ CaseRes part.now ty.now arms.now) }
+{
+    let arms = copy_ways(alloc, arms)?;
+    let ty = copy_ty(alloc, ty)?;
+    Ok(Res::Case(copy_expression(alloc, part)?, ty, arms))
+}
+
+#[cycle(copy_result)]
+#[inline(never)]
+fn copy_binding(alloc: Global, part: &Expr, body: &Res) -> Result<Res, AllocError>
+    ensures { IfOk result (λ copy. copy ≡ LetRes part.now body.now) }
+{
+    let body = copy_branch(alloc, body)?;
+    Ok(Res::Let(copy_expression(alloc, part)?, body))
 }
 
 #[cycle(copy_result)]

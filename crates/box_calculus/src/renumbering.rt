@@ -1,15 +1,19 @@
-//! Copies of expressions, in which variables may get other numbers.
+//! Copies of expressions, in which variables may get other numbers. Each form has a function of its own, which is never inlined: so a level
+//! of depth takes little of the stack.
 ghost use Rattle.std.specs.Prelude.{◌≡◌, IfOk, map};
 ghost use Rattle.std.specs.Option.{option_map};
 ghost use Rattle.hume_model.specs.declared.core_tree.Expr.{Expr as Expression};
+ghost use Rattle.hume_model.specs.declared.core_tree.Expr.TheVariants.{Call as CallExpr, Case as CaseExpr, Con as ConExpr, If as IfExpr};
+ghost use Rattle.hume_model.specs.declared.core_tree.Expr.TheVariants.{Index as IndexExpr, Let as LetExpr, Prim as PrimExpr, Raise as RaiseExpr};
+ghost use Rattle.hume_model.specs.declared.core_tree.Expr.TheVariants.{Tuple as TupleExpr, Update as UpdateExpr, Vect as VectExpr};
 ghost use Rattle.hume_model.specs.declared.core_tree.PatC.{PatC as Pattern};
 ghost use Rattle.calculus_laws.specs.Unfolding.{renumbered};
 ghost use Rattle.box_calculus.specs.inner.Numbers.{kept, new_number};
 
 use crate::copies::copy_pattern;
 use crate::counts::plus;
-use hume_base::{Box, List, copy_ty};
-use hume_model::{Expr, PatC};
+use hume_base::{Box, List, Ty, copy_ty};
+use hume_model::{Expr, Op, PatC};
 use std::alloc::{AllocError, Global};
 
 /// Which numbers the variables of an expression get.
@@ -61,44 +65,181 @@ pub(crate) fn renumber(alloc: Global, numbers: &Numbers, e: &Expr) -> Result<Exp
     match e {
         Expr::Word(word) => Ok(Expr::Word(*word)),
         Expr::Var(number) => Ok(Expr::Var(numbers.of(*number)?)),
-        Expr::Con(place, parts) => Ok(Expr::Con(
-            *place,
-            renumber_parts(alloc, numbers, parts.as_slice())?,
-        )),
-        Expr::Tuple(parts) => Ok(Expr::Tuple(renumber_parts(alloc, numbers, parts.as_slice())?)),
-        Expr::Vect(parts) => Ok(Expr::Vect(renumber_parts(alloc, numbers, parts.as_slice())?)),
-        Expr::Prim(op, ty, parts) => {
-            let parts = renumber_parts(alloc, numbers, parts.as_slice())?;
-            Ok(Expr::Prim(*op, copy_ty(alloc, ty)?, parts))
-        }
-        Expr::Index(count, vector, place) => {
-            let vector = renumber_part(alloc, numbers, vector)?;
-            Ok(Expr::Index(*count, vector, renumber_part(alloc, numbers, place)?))
-        }
+        Expr::Con(place, parts) => renumber_object(alloc, numbers, *place, parts.as_slice()),
+        Expr::Tuple(parts) => renumber_tuple(alloc, numbers, parts.as_slice()),
+        Expr::Vect(parts) => renumber_vector(alloc, numbers, parts.as_slice()),
+        Expr::Prim(op, ty, parts) => renumber_operation(alloc, numbers, *op, ty, parts.as_slice()),
+        Expr::Index(count, vector, place) => renumber_index(alloc, numbers, *count, vector, place),
         Expr::Update(count, vector, place, item) => {
-            let vector = renumber_part(alloc, numbers, vector)?;
-            let place = renumber_part(alloc, numbers, place)?;
-            Ok(Expr::Update(*count, vector, place, renumber_part(alloc, numbers, item)?))
+            renumber_update(alloc, numbers, *count, vector, place, item)
         }
         Expr::If(test, when_true, when_false) => {
-            let test = renumber_part(alloc, numbers, test)?;
-            let when_true = renumber_part(alloc, numbers, when_true)?;
-            Ok(Expr::If(test, when_true, renumber_part(alloc, numbers, when_false)?))
+            renumber_choice(alloc, numbers, test, when_true, when_false)
         }
-        Expr::Case(part, ty, arms) => {
-            let part = renumber_part(alloc, numbers, part)?;
-            let ty = copy_ty(alloc, ty)?;
-            Ok(Expr::Case(part, ty, renumber_arms(alloc, numbers, arms.as_slice())?))
-        }
-        Expr::Let(part, body) => {
-            let part = renumber_part(alloc, numbers, part)?;
-            Ok(Expr::Let(part, renumber_part(alloc, numbers, body)?))
-        }
-        Expr::Call(function, parts) => {
-            Ok(Expr::Call(*function, renumber_parts(alloc, numbers, parts.as_slice())?))
-        }
-        Expr::Raise(exn, part) => Ok(Expr::Raise(*exn, renumber_if_there(alloc, numbers, part)?)),
+        Expr::Case(part, ty, arms) => renumber_case(alloc, numbers, part, ty, arms.as_slice()),
+        Expr::Let(part, body) => renumber_binding(alloc, numbers, part, body),
+        Expr::Call(function, parts) => renumber_call(alloc, numbers, *function, parts.as_slice()),
+        Expr::Raise(exn, part) => renumber_raise(alloc, numbers, *exn, part),
     }
+}
+
+#[cycle(renumber)]
+#[inline(never)]
+#[tactic(auto, using(crate::proofs::NumberForms::number_steps))]
+fn renumber_object(
+    alloc: Global,
+    numbers: &Numbers,
+    place: u32,
+    parts: &[Expr],
+) -> Result<Expr, AllocError>
+    ensures { IfOk result (λ new. new ≡ renumbered (new_number numbers.now) (ConExpr place parts.now)) }
+{
+    Ok(Expr::Con(place, renumber_parts(alloc, numbers, parts)?))
+}
+
+#[cycle(renumber)]
+#[inline(never)]
+#[tactic(auto, using(crate::proofs::NumberForms::number_steps))]
+fn renumber_tuple(alloc: Global, numbers: &Numbers, parts: &[Expr]) -> Result<Expr, AllocError>
+    ensures { IfOk result (λ new. new ≡ renumbered (new_number numbers.now) (TupleExpr parts.now)) }
+{
+    Ok(Expr::Tuple(renumber_parts(alloc, numbers, parts)?))
+}
+
+#[cycle(renumber)]
+#[inline(never)]
+#[tactic(auto, using(crate::proofs::NumberForms::number_steps))]
+fn renumber_vector(alloc: Global, numbers: &Numbers, parts: &[Expr]) -> Result<Expr, AllocError>
+    ensures { IfOk result (λ new. new ≡ renumbered (new_number numbers.now) (VectExpr parts.now)) }
+{
+    Ok(Expr::Vect(renumber_parts(alloc, numbers, parts)?))
+}
+
+#[cycle(renumber)]
+#[inline(never)]
+#[tactic(auto, using(crate::proofs::NumberForms::number_steps))]
+fn renumber_operation(
+    alloc: Global,
+    numbers: &Numbers,
+    op: Op,
+    ty: &Ty,
+    parts: &[Expr],
+) -> Result<Expr, AllocError>
+    ensures { IfOk result (λ new. new ≡ renumbered (new_number numbers.now) (PrimExpr op ty.now parts.now)) }
+{
+    let parts = renumber_parts(alloc, numbers, parts)?;
+    Ok(Expr::Prim(op, copy_ty(alloc, ty)?, parts))
+}
+
+#[cycle(renumber)]
+#[inline(never)]
+#[tactic(auto, using(crate::proofs::NumberForms::number_steps))]
+fn renumber_index(
+    alloc: Global,
+    numbers: &Numbers,
+    count: u32,
+    vector: &Expr,
+    place: &Expr,
+) -> Result<Expr, AllocError>
+    ensures { IfOk result (λ new. new ≡ renumbered (new_number numbers.now) (IndexExpr count vector.now place.now)) }
+{
+    let vector = renumber_part(alloc, numbers, vector)?;
+    Ok(Expr::Index(count, vector, renumber_part(alloc, numbers, place)?))
+}
+
+#[cycle(renumber)]
+#[inline(never)]
+#[tactic(auto, using(crate::proofs::NumberForms::number_steps))]
+fn renumber_update(
+    alloc: Global,
+    numbers: &Numbers,
+    count: u32,
+    vector: &Expr,
+    place: &Expr,
+    item: &Expr,
+) -> Result<Expr, AllocError>
+    ensures { IfOk result (λ new. new ≡ renumbered (new_number numbers.now) (UpdateExpr count vector.now place.now item.now)) }
+{
+    let vector = renumber_part(alloc, numbers, vector)?;
+    let place = renumber_part(alloc, numbers, place)?;
+    Ok(Expr::Update(count, vector, place, renumber_part(alloc, numbers, item)?))
+}
+
+#[cycle(renumber)]
+#[inline(never)]
+#[tactic(auto, using(crate::proofs::NumberForms::number_steps))]
+fn renumber_choice(
+    alloc: Global,
+    numbers: &Numbers,
+    test: &Expr,
+    when_true: &Expr,
+    when_false: &Expr,
+) -> Result<Expr, AllocError>
+    ensures { IfOk result (λ new. new ≡ renumbered (new_number numbers.now) (IfExpr test.now when_true.now when_false.now)) }
+{
+    let test = renumber_part(alloc, numbers, test)?;
+    let when_true = renumber_part(alloc, numbers, when_true)?;
+    Ok(Expr::If(test, when_true, renumber_part(alloc, numbers, when_false)?))
+}
+
+#[cycle(renumber)]
+#[inline(never)]
+#[tactic(auto, using(crate::proofs::NumberForms::number_steps))]
+fn renumber_case(
+    alloc: Global,
+    numbers: &Numbers,
+    part: &Expr,
+    ty: &Ty,
+    arms: &[(PatC, Expr)],
+) -> Result<Expr, AllocError>
+    ensures { IfOk result (λ new. new ≡ renumbered (new_number numbers.now) (CaseExpr part.now ty.now arms.now)) }
+{
+    let part = renumber_part(alloc, numbers, part)?;
+    let arms = renumber_arms(alloc, numbers, arms)?;
+    Ok(Expr::Case(part, copy_ty(alloc, ty)?, arms))
+}
+
+#[cycle(renumber)]
+#[inline(never)]
+#[tactic(auto, using(crate::proofs::NumberForms::number_steps))]
+fn renumber_binding(
+    alloc: Global,
+    numbers: &Numbers,
+    part: &Expr,
+    body: &Expr,
+) -> Result<Expr, AllocError>
+    ensures { IfOk result (λ new. new ≡ renumbered (new_number numbers.now) (LetExpr part.now body.now)) }
+{
+    let part = renumber_part(alloc, numbers, part)?;
+    Ok(Expr::Let(part, renumber_part(alloc, numbers, body)?))
+}
+
+#[cycle(renumber)]
+#[inline(never)]
+#[tactic(auto, using(crate::proofs::NumberForms::number_steps))]
+fn renumber_call(
+    alloc: Global,
+    numbers: &Numbers,
+    function: u32,
+    parts: &[Expr],
+) -> Result<Expr, AllocError>
+    ensures { IfOk result (λ new. new ≡ renumbered (new_number numbers.now) (CallExpr function parts.now)) }
+{
+    Ok(Expr::Call(function, renumber_parts(alloc, numbers, parts)?))
+}
+
+#[cycle(renumber)]
+#[inline(never)]
+#[tactic(auto, using(crate::proofs::NumberForms::number_steps))]
+fn renumber_raise(
+    alloc: Global,
+    numbers: &Numbers,
+    exn: u32,
+    part: &Option<Box<Expr>>,
+) -> Result<Expr, AllocError>
+    ensures { IfOk result (λ new. new ≡ renumbered (new_number numbers.now) (RaiseExpr exn part.now)) }
+{
+    Ok(Expr::Raise(exn, renumber_if_there(alloc, numbers, part)?))
 }
 
 #[cycle(renumber)]

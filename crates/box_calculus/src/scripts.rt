@@ -1,5 +1,5 @@
 //! Scripts: lines that each ask for a step.
-ghost use Rattle.std.specs.Prelude.{◌≡◌, ◌⊎◌, ◌≤◌, ◌<◌, ◌∷◌, Err, IfErr, IfOk, IfSome, Ok, OnOk, length};
+ghost use Rattle.std.specs.Prelude.{◌≡◌, ◌⊎◌, ◌≤◌, ◌<◌, ◌∷◌, ◌||◌, Err, IfErr, IfOk, IfSome, IsFalse, Ok, OnOk, length, nat_lt};
 ghost use Rattle.std.specs.List.{position};
 ghost use Rattle.box_calculus.specs.declared.scripts.ScriptError.TheVariants.{NoMemory as OutOfMemory};
 ghost use Rattle.box_calculus.specs.Scripts.{is_newline, line_scripted, script_lines, scripted};
@@ -69,6 +69,14 @@ fn newline_place(bytes: &[u8]) -> Option<usize>
     bytes.iter().position(|byte| *byte == b'\n')
 }
 
+// Whether the line is one too many, or too long.
+fn is_too_much(number: u32, line: &[u8]) -> bool
+    ensures same { result ≡ (nat_lt MAX_SCRIPT_LINES number || nat_lt MAX_SCRIPT_LINE_BYTES (length line.now)) }
+    ensures few { IsFalse result → number ≤ MAX_SCRIPT_LINES }
+{
+    number > MAX_SCRIPT_LINES || line.len() > MAX_SCRIPT_LINE_BYTES
+}
+
 // The core that the step of one line makes.
 #[tactic(auto, using(crate::proofs::OnRules::on_rule, crate::proofs::KeptByLines::line_nodes))]
 fn make_line(alloc: Global, core: Core, number: u32, line: &[u8]) -> Result<Core, ScriptError>
@@ -78,7 +86,7 @@ fn make_line(alloc: Global, core: Core, number: u32, line: &[u8]) -> Result<Core
     ensures nodes { IfOk result (λ new. length new.nodes ≤ MAX_NODES) }
     ensures refused { IfErr result (λ error. (error ≡ OutOfMemory) ⊎ (line_scripted number core line.now ≡ Err error)) }
 {
-    if number > MAX_SCRIPT_LINES || line.len() > MAX_SCRIPT_LINE_BYTES {
+    if is_too_much(number, line) {
         return Err(ScriptError::Bad { line: number });
     }
     let step = match read_step(alloc, &core, line) {

@@ -1,9 +1,11 @@
-//! Expressions in which the first call that can be unfolded is.
+//! Expressions in which the first call that can be unfolded is. Each form has a function of its own, which is never inlined: so a level of
+//! depth takes little of the stack.
 ghost use Rattle.std.specs.Prelude.{◌≡◌, ◌<◌, ◌+◌, ◌++◌, ◌∷◌, IfOk, length, map, get_or, take, drop};
 ghost use Rattle.std.specs.Option.{option_and_then};
 ghost use Rattle.hume_model.specs.declared.core_tree.Expr.{Expr as Expression};
-ghost use Rattle.hume_model.specs.declared.core_tree.Expr.TheVariants.{Call as CallExpr, Case as CaseExpr, If as IfExpr};
-ghost use Rattle.hume_model.specs.declared.core_tree.Expr.TheVariants.{Index as IndexExpr, Let as LetExpr, Update as UpdateExpr};
+ghost use Rattle.hume_model.specs.declared.core_tree.Expr.TheVariants.{Call as CallExpr, Case as CaseExpr, Con as ConExpr, If as IfExpr};
+ghost use Rattle.hume_model.specs.declared.core_tree.Expr.TheVariants.{Index as IndexExpr, Let as LetExpr, Prim as PrimExpr, Raise as RaiseExpr};
+ghost use Rattle.hume_model.specs.declared.core_tree.Expr.TheVariants.{Tuple as TupleExpr, Update as UpdateExpr, Vect as VectExpr};
 ghost use Rattle.hume_model.specs.declared.core_tree.PatC.{PatC as Pattern};
 ghost use Rattle.hume_model.specs.declared.core_tree.PatC.TheVariants.{Any as AnyPattern};
 ghost use Rattle.calculus_laws.specs.Unfolding.{arms_unfolded, looked, parts_unfolded};
@@ -13,7 +15,7 @@ use crate::calls::unfold_call;
 use crate::copies::{copy_arms, copy_part, copy_parts, copy_pattern};
 use crate::counts::{count_variables, plus};
 use hume_base::{Box, List, Ty, copy_ty};
-use hume_model::{Core, Expr, PatC};
+use hume_model::{Core, Expr, Op, PatC};
 use std::alloc::{AllocError, Global};
 
 /// The expression with the first call unfolded that can be, where `scope` variables are in scope; none if there is no such call.
@@ -29,22 +31,12 @@ pub(crate) fn unfold(
 {
     match e {
         Expr::Word(_) | Expr::Var(_) => Ok(None),
-        Expr::Con(place, parts) => match unfold_parts(alloc, core, parts.as_slice(), scope)? {
-            None => Ok(None),
-            Some(parts) => Ok(Some(Expr::Con(*place, parts))),
-        },
-        Expr::Tuple(parts) => match unfold_parts(alloc, core, parts.as_slice(), scope)? {
-            None => Ok(None),
-            Some(parts) => Ok(Some(Expr::Tuple(parts))),
-        },
-        Expr::Vect(parts) => match unfold_parts(alloc, core, parts.as_slice(), scope)? {
-            None => Ok(None),
-            Some(parts) => Ok(Some(Expr::Vect(parts))),
-        },
-        Expr::Prim(op, ty, parts) => match unfold_parts(alloc, core, parts.as_slice(), scope)? {
-            None => Ok(None),
-            Some(parts) => Ok(Some(Expr::Prim(*op, copy_ty(alloc, ty)?, parts))),
-        },
+        Expr::Con(place, parts) => unfold_object(alloc, core, *place, parts.as_slice(), scope),
+        Expr::Tuple(parts) => unfold_tuple(alloc, core, parts.as_slice(), scope),
+        Expr::Vect(parts) => unfold_vector(alloc, core, parts.as_slice(), scope),
+        Expr::Prim(op, ty, parts) => {
+            unfold_operation(alloc, core, *op, ty, parts.as_slice(), scope)
+        }
         Expr::Index(count, vector, place) => {
             unfold_index(alloc, core, *count, vector, place, scope)
         }
@@ -59,10 +51,96 @@ pub(crate) fn unfold(
         Expr::Call(function, parts) => {
             unfold_in_call(alloc, core, *function, parts.as_slice(), scope)
         }
-        Expr::Raise(exn, part) => match unfold_if_there(alloc, core, part, scope)? {
-            None => Ok(None),
-            Some(part) => Ok(Some(Expr::Raise(*exn, Some(part)))),
-        },
+        Expr::Raise(exn, part) => unfold_raise(alloc, core, *exn, part, scope),
+    }
+}
+
+#[cycle(unfold)]
+#[inline(never)]
+#[tactic(auto, using(crate::proofs::UnfoldForms::form_steps))]
+fn unfold_object(
+    alloc: Global,
+    core: &Core,
+    place: u32,
+    parts: &[Expr],
+    scope: u32,
+) -> Result<Option<Expr>, AllocError>
+    ensures { IfOk result (λ new. new ≡ (looked core.now (ConExpr place parts.now)).unfolded scope) }
+{
+    match unfold_parts(alloc, core, parts, scope)? {
+        None => Ok(None),
+        Some(parts) => Ok(Some(Expr::Con(place, parts))),
+    }
+}
+
+#[cycle(unfold)]
+#[inline(never)]
+#[tactic(auto, using(crate::proofs::UnfoldForms::form_steps))]
+fn unfold_tuple(
+    alloc: Global,
+    core: &Core,
+    parts: &[Expr],
+    scope: u32,
+) -> Result<Option<Expr>, AllocError>
+    ensures { IfOk result (λ new. new ≡ (looked core.now (TupleExpr parts.now)).unfolded scope) }
+{
+    match unfold_parts(alloc, core, parts, scope)? {
+        None => Ok(None),
+        Some(parts) => Ok(Some(Expr::Tuple(parts))),
+    }
+}
+
+#[cycle(unfold)]
+#[inline(never)]
+#[tactic(auto, using(crate::proofs::UnfoldForms::form_steps))]
+fn unfold_vector(
+    alloc: Global,
+    core: &Core,
+    parts: &[Expr],
+    scope: u32,
+) -> Result<Option<Expr>, AllocError>
+    ensures { IfOk result (λ new. new ≡ (looked core.now (VectExpr parts.now)).unfolded scope) }
+{
+    match unfold_parts(alloc, core, parts, scope)? {
+        None => Ok(None),
+        Some(parts) => Ok(Some(Expr::Vect(parts))),
+    }
+}
+
+#[cycle(unfold)]
+#[inline(never)]
+#[tactic(auto, using(crate::proofs::UnfoldForms::form_steps))]
+fn unfold_operation(
+    alloc: Global,
+    core: &Core,
+    op: Op,
+    ty: &Ty,
+    parts: &[Expr],
+    scope: u32,
+) -> Result<Option<Expr>, AllocError>
+    ensures { IfOk result (λ new. new ≡ (looked core.now (PrimExpr op ty.now parts.now)).unfolded scope) }
+{
+    match unfold_parts(alloc, core, parts, scope)? {
+        None => Ok(None),
+        Some(parts) => Ok(Some(Expr::Prim(op, copy_ty(alloc, ty)?, parts))),
+    }
+}
+
+#[cycle(unfold)]
+#[inline(never)]
+#[tactic(auto, using(crate::proofs::UnfoldForms::form_steps))]
+fn unfold_raise(
+    alloc: Global,
+    core: &Core,
+    exn: u32,
+    part: &Option<Box<Expr>>,
+    scope: u32,
+) -> Result<Option<Expr>, AllocError>
+    ensures { IfOk result (λ new. new ≡ (looked core.now (RaiseExpr exn part.now)).unfolded scope) }
+{
+    match unfold_if_there(alloc, core, part, scope)? {
+        None => Ok(None),
+        Some(part) => Ok(Some(Expr::Raise(exn, Some(part)))),
     }
 }
 
@@ -97,6 +175,7 @@ fn unfold_if_there(
 }
 
 #[cycle(unfold)]
+#[inline(never)]
 #[tactic(auto, using(crate::proofs::UnfoldForms::form_steps))]
 fn unfold_index(
     alloc: Global,
@@ -118,6 +197,7 @@ fn unfold_index(
 }
 
 #[cycle(unfold)]
+#[inline(never)]
 #[tactic(auto, using(crate::proofs::UnfoldForms::form_steps))]
 fn unfold_update(
     alloc: Global,
@@ -146,6 +226,7 @@ fn unfold_update(
 }
 
 #[cycle(unfold)]
+#[inline(never)]
 #[tactic(auto, using(crate::proofs::UnfoldForms::form_steps))]
 fn unfold_choice(
     alloc: Global,
@@ -173,6 +254,7 @@ fn unfold_choice(
 }
 
 #[cycle(unfold)]
+#[inline(never)]
 #[tactic(auto, using(crate::proofs::UnfoldForms::form_steps))]
 fn unfold_binding(
     alloc: Global,
@@ -193,6 +275,7 @@ fn unfold_binding(
 }
 
 #[cycle(unfold)]
+#[inline(never)]
 #[tactic(auto, using(crate::proofs::UnfoldForms::form_steps))]
 fn unfold_in_call(
     alloc: Global,
@@ -246,6 +329,7 @@ fn find_part(
     Ok(None)
 }
 
+#[inline(never)]
 #[tactic(auto, using(crate::proofs::Parts::slice_steps))]
 fn with_part(
     alloc: Global,
@@ -263,6 +347,7 @@ fn with_part(
 }
 
 #[cycle(unfold)]
+#[inline(never)]
 #[tactic(auto, using(crate::proofs::UnfoldForms::form_steps))]
 fn unfold_case(
     alloc: Global,
@@ -274,12 +359,13 @@ fn unfold_case(
 ) -> Result<Option<Expr>, AllocError>
     ensures { IfOk result (λ new. new ≡ (looked core.now (CaseExpr part.now ty.now arms.now)).unfolded scope) }
 {
-    let ty = copy_ty(alloc, ty)?;
     if let Some(new) = unfold_part(alloc, core, part, scope)? {
-        return Ok(Some(Expr::Case(new, ty, copy_arms(alloc, arms)?)));
+        let arms = copy_arms(alloc, arms)?;
+        return Ok(Some(Expr::Case(new, copy_ty(alloc, ty)?, arms)));
     }
     if let Some(news) = unfold_arms(alloc, core, arms, scope)? {
-        return Ok(Some(Expr::Case(copy_part(alloc, part)?, ty, news)));
+        let part = copy_part(alloc, part)?;
+        return Ok(Some(Expr::Case(part, copy_ty(alloc, ty)?, news)));
     }
     Ok(None)
 }
@@ -320,6 +406,7 @@ fn find_arm(
 }
 
 // The arms with another branch in a place.
+#[inline(never)]
 #[tactic(auto, using(crate::proofs::Parts::slice_steps))]
 fn with_arm(
     alloc: Global,

@@ -1,9 +1,10 @@
-//! Results of rules in which the first call that can be unfolded is.
+//! Results of rules in which the first call that can be unfolded is. The functions of the forms are never inlined, so that a level of depth
+//! takes little of the stack.
 ghost use Rattle.std.specs.Prelude.{◌≡◌, ◌<◌, ◌+◌, ◌++◌, ◌∷◌, IfOk, Some, length, map, get_or, take, drop};
 ghost use Rattle.hume_model.specs.declared.core_tree.PatC.{PatC as Pattern};
 ghost use Rattle.hume_model.specs.declared.core_tree.PatC.TheVariants.{Any as AnyPattern};
 ghost use Rattle.hume_model.specs.declared.core_tree.Res.{Res as Outcome};
-ghost use Rattle.hume_model.specs.declared.core_tree.Res.TheVariants.{Case as CaseRes, If as IfRes, Let as LetRes};
+ghost use Rattle.hume_model.specs.declared.core_tree.Res.TheVariants.{Case as CaseRes, If as IfRes, Let as LetRes, Outs as OutsRes, Raise as RaiseRes};
 ghost use Rattle.calculus_laws.specs.Unfolding.{arms_unfolded, looked, looked_result, outs_unfolded};
 ghost use Rattle.box_calculus.specs.inner.Parts.{first_branch, first_out, out_unfolded};
 
@@ -26,19 +27,46 @@ pub(crate) fn unfold_result(
     ensures { IfOk result (λ new. new ≡ (looked_result core.now given.now).unfolded scope) }
 {
     match given {
-        Res::Outs(outs) => match unfold_outs(alloc, core, outs.as_slice(), scope)? {
-            None => Ok(None),
-            Some(outs) => Ok(Some(Res::Outs(outs))),
-        },
+        Res::Outs(outs) => unfold_outputs(alloc, core, outs.as_slice(), scope),
         Res::If(test, when_true, when_false) => {
             unfold_choice(alloc, core, test, when_true, when_false, scope)
         }
         Res::Case(part, ty, arms) => { unfold_case(alloc, core, part, ty, arms.as_slice(), scope) }
         Res::Let(part, body) => unfold_binding(alloc, core, part, body, scope),
-        Res::Raise(exn, part) => match unfold_out(alloc, core, part, scope)? {
-            None => Ok(None),
-            Some(part) => Ok(Some(Res::Raise(*exn, Some(part)))),
-        },
+        Res::Raise(exn, part) => unfold_raise(alloc, core, *exn, part, scope),
+    }
+}
+
+#[inline(never)]
+#[tactic(auto, using(crate::proofs::ResultForms::form_steps))]
+fn unfold_outputs(
+    alloc: Global,
+    core: &Core,
+    outs: &[Option<Expr>],
+    scope: u32,
+) -> Result<Option<Res>, AllocError>
+    ensures { IfOk result (λ new. new ≡ (looked_result core.now (OutsRes outs.now)).unfolded scope) }
+{
+    match unfold_outs(alloc, core, outs, scope)? {
+        None => Ok(None),
+        Some(outs) => Ok(Some(Res::Outs(outs))),
+    }
+}
+
+#[inline(never)]
+#[tactic(auto, using(crate::proofs::ResultForms::form_steps))]
+fn unfold_raise(
+    alloc: Global,
+    core: &Core,
+    exn: u32,
+    part: &Option<Expr>,
+    scope: u32,
+) -> Result<Option<Res>, AllocError>
+    ensures { IfOk result (λ new. new ≡ (looked_result core.now (RaiseRes exn part.now)).unfolded scope) }
+{
+    match unfold_out(alloc, core, part, scope)? {
+        None => Ok(None),
+        Some(part) => Ok(Some(Res::Raise(exn, Some(part)))),
     }
 }
 
@@ -58,6 +86,7 @@ fn unfold_branch(
 }
 
 #[cycle(unfold_result)]
+#[inline(never)]
 #[tactic(auto, using(crate::proofs::ResultForms::form_steps))]
 fn unfold_choice(
     alloc: Global,
@@ -70,21 +99,19 @@ fn unfold_choice(
     ensures { IfOk result (λ new. new ≡ (looked_result core.now (IfRes test.now when_true.now when_false.now)).unfolded scope) }
 {
     if let Some(new) = unfold(alloc, core, test, scope)? {
-        let when_true = copy_branch(alloc, when_true)?;
-        return Ok(Some(Res::If(new, when_true, copy_branch(alloc, when_false)?)));
+        return with_test(alloc, new, when_true, when_false);
     }
     if let Some(new) = unfold_branch(alloc, core, when_true, scope)? {
-        let test = copy_expression(alloc, test)?;
-        return Ok(Some(Res::If(test, new, copy_branch(alloc, when_false)?)));
+        return with_branch(alloc, test, new, when_false);
     }
     if let Some(new) = unfold_branch(alloc, core, when_false, scope)? {
-        let test = copy_expression(alloc, test)?;
-        return Ok(Some(Res::If(test, copy_branch(alloc, when_true)?, new)));
+        return with_other_branch(alloc, test, when_true, new);
     }
     Ok(None)
 }
 
 #[cycle(unfold_result)]
+#[inline(never)]
 #[tactic(auto, using(crate::proofs::ResultForms::form_steps))]
 fn unfold_binding(
     alloc: Global,
@@ -96,15 +123,16 @@ fn unfold_binding(
     ensures { IfOk result (λ new. new ≡ (looked_result core.now (LetRes part.now body.now)).unfolded scope) }
 {
     if let Some(new) = unfold(alloc, core, part, scope)? {
-        return Ok(Some(Res::Let(new, copy_branch(alloc, body)?)));
+        return with_part(alloc, new, body);
     }
     if let Some(new) = unfold_branch(alloc, core, body, plus(scope, 1)?)? {
-        return Ok(Some(Res::Let(copy_expression(alloc, part)?, new)));
+        return with_body(alloc, part, new);
     }
     Ok(None)
 }
 
 #[cycle(unfold_result)]
+#[inline(never)]
 #[tactic(auto, using(crate::proofs::ResultForms::form_steps))]
 fn unfold_case(
     alloc: Global,
@@ -116,12 +144,11 @@ fn unfold_case(
 ) -> Result<Option<Res>, AllocError>
     ensures { IfOk result (λ new. new ≡ (looked_result core.now (CaseRes part.now ty.now arms.now)).unfolded scope) }
 {
-    let ty = copy_ty(alloc, ty)?;
     if let Some(new) = unfold(alloc, core, part, scope)? {
-        return Ok(Some(Res::Case(new, ty, copy_ways(alloc, arms)?)));
+        return with_subject(alloc, new, ty, arms);
     }
     if let Some(news) = unfold_ways(alloc, core, arms, scope)? {
-        return Ok(Some(Res::Case(copy_expression(alloc, part)?, ty, news)));
+        return with_ways(alloc, part, ty, news);
     }
     Ok(None)
 }
@@ -161,7 +188,96 @@ fn find_way(
     Ok(None)
 }
 
+// The choice with another test.
+#[inline(never)]
+fn with_test(
+    alloc: Global,
+    new: Expr,
+    when_true: &Res,
+    when_false: &Res,
+) -> Result<Option<Res>, AllocError>
+    ensures { IfOk result (λ res. res ≡ Some (IfRes new when_true.now when_false.now)) }
+{
+    let when_true = copy_branch(alloc, when_true)?;
+    let when_false = copy_branch(alloc, when_false)?;
+    Ok(Some(Res::If(new, when_true, when_false)))
+}
+
+// The choice with another first branch.
+#[inline(never)]
+fn with_branch(
+    alloc: Global,
+    test: &Expr,
+    new: Box<Res>,
+    when_false: &Res,
+) -> Result<Option<Res>, AllocError>
+    ensures { IfOk result (λ res. res ≡ Some (IfRes test.now new when_false.now)) }
+{
+    let when_false = copy_branch(alloc, when_false)?;
+    Ok(Some(Res::If(copy_expression(alloc, test)?, new, when_false)))
+}
+
+// The choice with another second branch.
+#[inline(never)]
+fn with_other_branch(
+    alloc: Global,
+    test: &Expr,
+    when_true: &Res,
+    new: Box<Res>,
+) -> Result<Option<Res>, AllocError>
+    ensures { IfOk result (λ res. res ≡ Some (IfRes test.now when_true.now new)) }
+{
+    let when_true = copy_branch(alloc, when_true)?;
+    Ok(Some(Res::If(copy_expression(alloc, test)?, when_true, new)))
+}
+
+// The binding with another value.
+#[inline(never)]
+fn with_part(alloc: Global, new: Expr, body: &Res) -> Result<Option<Res>, AllocError>
+    ensures { IfOk result (λ res. res ≡ Some (LetRes new body.now)) }
+{
+    let body = copy_branch(alloc, body)?;
+    Ok(Some(Res::Let(new, body)))
+}
+
+// The binding with another body.
+#[inline(never)]
+fn with_body(alloc: Global, part: &Expr, new: Box<Res>) -> Result<Option<Res>, AllocError>
+    ensures { IfOk result (λ res. res ≡ Some (LetRes part.now new)) }
+{
+    Ok(Some(Res::Let(copy_expression(alloc, part)?, new)))
+}
+
+// The case with something else that is matched.
+#[inline(never)]
+fn with_subject(
+    alloc: Global,
+    new: Expr,
+    ty: &Ty,
+    arms: &[(PatC, Res)],
+) -> Result<Option<Res>, AllocError>
+    ensures { IfOk result (λ res. res ≡ Some (CaseRes new ty.now arms.now)) }
+{
+    let arms = copy_ways(alloc, arms)?;
+    Ok(Some(Res::Case(new, copy_ty(alloc, ty)?, arms)))
+}
+
+// The case with other arms.
+#[inline(never)]
+fn with_ways(
+    alloc: Global,
+    part: &Expr,
+    ty: &Ty,
+    news: List<(PatC, Res)>,
+) -> Result<Option<Res>, AllocError>
+    ensures { IfOk result (λ res. res ≡ Some (CaseRes part.now ty.now news)) }
+{
+    let part = copy_expression(alloc, part)?;
+    Ok(Some(Res::Case(part, copy_ty(alloc, ty)?, news)))
+}
+
 // The arms with another branch in a place.
+#[inline(never)]
 #[tactic(auto, using(crate::proofs::Parts::slice_steps))]
 fn with_way(
     alloc: Global,
@@ -178,6 +294,7 @@ fn with_way(
 }
 
 // The arms with another arm in a place.
+#[inline(never)]
 #[tactic(auto, using(crate::proofs::Parts::slice_steps))]
 fn put_way(
     alloc: Global,
@@ -208,6 +325,7 @@ fn unfold_out(
     }
 }
 
+#[inline(never)]
 #[tactic(auto, using(crate::proofs::ResultParts::place_steps))]
 fn unfold_outs(
     alloc: Global,
@@ -240,6 +358,7 @@ fn find_out(
     Ok(None)
 }
 
+#[inline(never)]
 #[tactic(auto, using(crate::proofs::Parts::slice_steps))]
 fn with_out(
     alloc: Global,

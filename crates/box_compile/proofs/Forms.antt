@@ -10,7 +10,7 @@ use Rattle.box_code.specs.declared.instr.Scalar.{Scalar}
 use Rattle.box_code.specs.declared.instr.Instr.{Instr}
 use Rattle.box_code.specs.declared.instr.Instr.TheVariants.{Push, Load, Make, Index, Update, Jump, JumpFalse, Slide, Call, Raise}
 use Rattle.box_code.specs.Words.{StandsAt}
-use Rattle.box_code.specs.Paths.{Spot, Test, root, tests_at, spots_at}
+use Rattle.box_code.specs.Paths.{root, tests_at, spots_at}
 use Rattle.box_code.specs.Machine.{type_of}
 use Rattle.box_code.specs.Represents.{depth_of, instr_of_op, counted, Represents, AllRepresent, ArmsStand, TestsStand, FieldsStand}
 use Rattle.box_compile.proofs.Lists.{append_nil}
@@ -193,29 +193,25 @@ module _ {entry : ℕ → Option ℕ} {places : List ℕ} {high : ℕ} where
         (append_nil arms) all);
   }
 
-  pub arm_done : {a b c d f g : List ℕ} (top variables inside slid end other : ℕ) (inner : List ℕ) (p : PatC) (body : Expr) (tests : List Test)
-      (spots : List Spot)
-      → top ≡ high + 1 → tests ≡ tests_at p (root high) → spots ≡ spots_at p (root high) → variables ≡ length spots → inside ≡ top + variables
-      → slid ≡ 1 + variables
+  pub arm_done : {a b c d f g : List ℕ} (top variables inside slid end other : ℕ) (inner : List ℕ) (p : PatC) (body : Expr)
+      → top ≡ high + 1 → variables ≡ length (spots_at p (root high)) → inside ≡ top + variables → slid ≡ 1 + variables
       → inner ≡ places ++ counted top variables
-      → Emitted a b (λ code from to. TestsStand code top other from to tests) → Emitted b c (λ code from to. FieldsStand code top from to spots)
+      → Emitted a b (λ code from to. TestsStand code top other from to (tests_at p (root high)))
+      → Emitted b c (λ code from to. FieldsStand code top from to (spots_at p (root high)))
       → Done entry inner inside c d body → Added d f (Slide slid) → Added f g (Jump end) → other ≡ length g
       → ArmsBegun entry places high end a g ((p, body) ∷ [])
-  arm_done {a = a} {b = b} {c = c} {d = d} {f = f} {g = g} top variables inside slid end other inner p body tests spots top_is tests_is spots_is many
-      inside_is slid_is inner_is et ef eb es ej other_is =
+  arm_done {a = a} {b = b} {c = c} {d = d} {f = f} {g = g} top variables inside slid end other inner p body top_is count inside_is slid_is inner_is
+      et ef eb es ej other_is =
       let after_slid = ej.grown in
       let after_body = grows_more es.grown after_slid in
       let after_fields = grows_more eb.grown after_body in
       let after_tests = grows_more ef.grown after_fields in
-      let count : variables ≡ length (spots_at p (root high)) = many ∙ ap length spots_is in
       record {
         grown = grows_more et.grown after_tests;
         stands = λ code grows. record {
           followed = λ others s. ArmsStand.one_arm (length b) (length c) (length d) (length f) other
-              (subst (λ k. TestsStand code k other (length a) (length b) (tests_at p (root high))) top_is (subst (λ k. TestsStand code top other (length a)
-              (length b) k) tests_is (still et after_tests code grows)))
-              (subst (λ k. FieldsStand code k (length b) (length c) (spots_at p (root high))) top_is (subst (λ k. FieldsStand code top (length b)
-              (length c) k) spots_is (still ef after_fields code grows)))
+              (subst (λ k. TestsStand code k other (length a) (length b) (tests_at p (root high))) top_is (still et after_tests code grows))
+              (subst (λ k. FieldsStand code k (length b) (length c) (spots_at p (root high))) top_is (still ef after_fields code grows))
               (let x : inner ≡ places ++ counted (high + 1) (length (spots_at p (root high))) = inner_is ∙ (λ i. places ++ counted (top_is i) (count i)) in
               let y : inside ≡ high + 1 + length (spots_at p (root high)) = inside_is ∙ (λ i. top_is i + count i) in
               subst (λ k. Represents code entry k (high + 1 + length (spots_at p (root high))) (length c) (length d) body) x

@@ -11,7 +11,7 @@ use Rattle.hume_model.specs.declared.exceptions.TheConstants.{NO_CASE}
 use Rattle.box_costs.specs.Bounds.{given_outs}
 use Rattle.box_code.specs.declared.instr.Instr.TheVariants.{Push, JumpFalse, Raise, Finish}
 use Rattle.box_code.specs.Words.{StandsAt}
-use Rattle.box_code.specs.Paths.{Spot, Test, root, tests_at, spots_at}
+use Rattle.box_code.specs.Paths.{root, tests_at, spots_at}
 use Rattle.box_code.specs.Represents.{counted, mask_of, AllRepresent, ResultStands, ResultArmsStand, TestsStand, FieldsStand}
 use Rattle.box_compile.proofs.Lists.{append_nil}
 use Rattle.box_compile.specs.inner.Emitted.{Emitted}
@@ -134,25 +134,21 @@ module _ {entry : ℕ → Option ℕ} {places : List ℕ} {high : ℕ} where
         ((still e f.grown code grows).followed (length c) [] (ResultArmsStand.no_arm (f.stands code grows)));
   }
 
-  pub arm_done : {a b c d : List ℕ} (top variables inside other : ℕ) (inner : List ℕ) (p : PatC) (body : Res) (tests : List Test) (spots : List Spot)
-      → top ≡ high + 1 → tests ≡ tests_at p (root high) → spots ≡ spots_at p (root high) → variables ≡ length spots → inside ≡ top + variables
-      → inner ≡ places ++ counted top variables
-      → Emitted a b (λ code from to. TestsStand code top other from to tests) → Emitted b c (λ code from to. FieldsStand code top from to spots)
+  pub arm_done : {a b c d : List ℕ} (top variables inside other : ℕ) (inner : List ℕ) (p : PatC) (body : Res)
+      → top ≡ high + 1 → variables ≡ length (spots_at p (root high)) → inside ≡ top + variables → inner ≡ places ++ counted top variables
+      → Emitted a b (λ code from to. TestsStand code top other from to (tests_at p (root high)))
+      → Emitted b c (λ code from to. FieldsStand code top from to (spots_at p (root high)))
       → ResultDone entry inner inside c d body → other ≡ length d
       → ResultArmsBegun entry places high a d ((p, body) ∷ [])
-  arm_done {a = a} {b = b} {c = c} {d = d} top variables inside other inner p body tests spots top_is tests_is spots_is many inside_is inner_is et ef eb
-      other_is =
+  arm_done {a = a} {b = b} {c = c} {d = d} top variables inside other inner p body top_is count inside_is inner_is et ef eb other_is =
       let after_fields = eb.grown in
       let after_tests = grows_more ef.grown after_fields in
-      let count : variables ≡ length (spots_at p (root high)) = many ∙ ap length spots_is in
       record {
         grown = grows_more et.grown after_tests;
         stands = λ code grows. record {
           followed = λ end others s. ResultArmsStand.one_arm (length b) (length c) other
-              (subst (λ k. TestsStand code k other (length a) (length b) (tests_at p (root high))) top_is (subst (λ k. TestsStand code top other (length a)
-              (length b) k) tests_is (still et after_tests code grows)))
-              (subst (λ k. FieldsStand code k (length b) (length c) (spots_at p (root high))) top_is (subst (λ k. FieldsStand code top (length b)
-              (length c) k) spots_is (still ef after_fields code grows)))
+              (subst (λ k. TestsStand code k other (length a) (length b) (tests_at p (root high))) top_is (still et after_tests code grows))
+              (subst (λ k. FieldsStand code k (length b) (length c) (spots_at p (root high))) top_is (still ef after_fields code grows))
               (let x : inner ≡ places ++ counted (high + 1) (length (spots_at p (root high))) = inner_is ∙ (λ i. places ++ counted (top_is i) (count i)) in
               let y : inside ≡ high + 1 + length (spots_at p (root high)) = inside_is ∙ (λ i. top_is i + count i) in
               subst (λ k. ResultStands code entry (places ++ counted (high + 1) (length (spots_at p (root high)))) (high + 1 + length (spots_at p

@@ -1,4 +1,4 @@
-//! The code of expressions.
+//! The code of expressions. The functions of the forms are never inlined, so that a level of depth takes little of the stack.
 ghost use Rattle.std.specs.Prelude.{◌≡◌, ◌++◌, ◌+◌, ◌∷◌, [], length, None, Some, IfOk, OnOk};
 ghost use Rattle.hume_model.specs.declared.core_tree.Expr.TheVariants as expr;
 ghost use Rattle.box_code.specs.declared.instr.Instr.TheVariants.{Make};
@@ -10,9 +10,8 @@ ghost use Rattle.box_compile.specs.inner.Entries.{entry_in};
 ghost use Rattle.box_compile.specs.inner.Parts.{PartsThen};
 
 use crate::counts::{count, plus};
-use crate::finding::found_at;
 use crate::leaves::{operation, scalar};
-use crate::pattern_code::{depth, emit_fields, emit_tests};
+use crate::pattern_code::{depth, emit_pattern};
 use crate::places::with_places;
 use crate::sizes::{arm_words, arms_words, expression_words, pattern_words};
 use crate::writer::Writer;
@@ -122,6 +121,7 @@ fn emit_variable(
 }
 
 #[cycle(expression)]
+#[inline(never)]
 fn emit_object(
     alloc: Global,
     writer: &mut Writer,
@@ -147,6 +147,7 @@ fn emit_object(
 }
 
 #[cycle(expression)]
+#[inline(never)]
 fn emit_operation(
     alloc: Global,
     writer: &mut Writer,
@@ -173,6 +174,7 @@ fn emit_operation(
 }
 
 #[cycle(expression)]
+#[inline(never)]
 fn emit_call(
     alloc: Global,
     writer: &mut Writer,
@@ -258,6 +260,7 @@ pub(crate) fn emit_parts(
 }
 
 #[cycle(expression)]
+#[inline(never)]
 fn emit_index(
     alloc: Global,
     writer: &mut Writer,
@@ -277,6 +280,7 @@ fn emit_index(
 }
 
 #[cycle(expression)]
+#[inline(never)]
 fn emit_update(
     alloc: Global,
     writer: &mut Writer,
@@ -298,6 +302,7 @@ fn emit_update(
 }
 
 #[cycle(expression)]
+#[inline(never)]
 fn emit_choice(
     alloc: Global,
     writer: &mut Writer,
@@ -324,6 +329,7 @@ fn emit_choice(
 }
 
 #[cycle(expression)]
+#[inline(never)]
 fn emit_binding(
     alloc: Global,
     writer: &mut Writer,
@@ -343,6 +349,7 @@ fn emit_binding(
 }
 
 #[cycle(expression)]
+#[inline(never)]
 fn emit_raise(
     alloc: Global,
     writer: &mut Writer,
@@ -372,6 +379,7 @@ fn emit_raise(
 
 // The alternatives for the word that stands above so many others.
 #[cycle(expression)]
+#[inline(never)]
 fn emit_arms(
     alloc: Global,
     writer: &mut Writer,
@@ -396,6 +404,7 @@ fn emit_arms(
 
 // An alternative, which ends at a place.
 #[cycle(expression)]
+#[inline(never)]
 fn emit_arm(
     alloc: Global,
     writer: &mut Writer,
@@ -409,12 +418,9 @@ fn emit_arm(
         (λ code from to. ArmsBegin code (entry_in entries.now) places.now high end from to (arm.now ∷ []))) }
 {
     let top = plus(high, 1)?;
-    let found = found_at(alloc, &arm.0, high)?;
-    let variables = count(found.spots.len())?;
     let words = arm_words(pattern_words(&arm.0, 0), expression_words(&arm.1));
     let other = plus(writer.len(), words)?;
-    emit_tests(writer, top, other, found.tests.as_slice())?;
-    emit_fields(writer, top, found.spots.as_slice())?;
+    let variables = emit_pattern(alloc, writer, high, top, other, &arm.0)?;
     let inner = with_places(alloc, places, top, variables)?;
     emit_expression(
         alloc,

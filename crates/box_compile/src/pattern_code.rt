@@ -5,13 +5,36 @@ ghost use Rattle.box_code.specs.Represents.{depth_of, instr_of_test, FieldsStand
 ghost use Rattle.box_code.specs.Words.{path_of, words_of};
 ghost use Rattle.box_compile.specs.inner.Emitted.{Emitted};
 ghost use Rattle.box_compile.specs.inner.Parts.{FieldStands, TestStands};
+ghost use Rattle.box_compile.specs.inner.Patterns.{PatternWritten};
 ghost use Rattle.box_compile.specs.inner.Tests.{test_of};
 
 use crate::counts::{count, plus};
+use crate::finding::found_at;
 use crate::spots::{Spot, Test, Wanted};
 use crate::writer::Writer;
 use box_code::{Instr, Path};
-use std::alloc::AllocError;
+use hume_model::PatC;
+use std::alloc::{AllocError, Global};
+
+/// The tests of a pattern whose value is the word at a place, and then the words of its variables, on a stack of so many words. It gives how
+/// many variables there are. It is never inlined, so that a level of nested alternatives takes little of the stack.
+#[inline(never)]
+pub(crate) fn emit_pattern(
+    alloc: Global,
+    writer: &mut Writer,
+    place: u32,
+    high: u32,
+    other: u32,
+    pat: &PatC,
+) -> Result<u32, AllocError>
+    ensures { IfOk result (λ count. PatternWritten writer.old writer.new place high other pat.now count) }
+{
+    let found = found_at(alloc, pat, place)?;
+    let count = count(found.spots.len())?;
+    emit_tests(writer, high, other, found.tests.as_slice())?;
+    emit_fields(writer, high, found.spots.as_slice())?;
+    Ok(count)
+}
 
 /// Tests that jump to a place if they fail, on a stack of so many words.
 pub(crate) fn emit_tests(

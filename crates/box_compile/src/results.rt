@@ -9,8 +9,7 @@ ghost use Rattle.box_compile.specs.inner.ResultArms.{ResultArmsBegin};
 
 use crate::counts::{count, plus};
 use crate::expressions::emit_expression;
-use crate::finding::found_at;
-use crate::pattern_code::{emit_fields, emit_tests};
+use crate::pattern_code::emit_pattern;
 use crate::places::with_places;
 use crate::sizes::{pattern_words, result_words};
 use crate::writer::Writer;
@@ -158,6 +157,7 @@ fn emit_raise(
 }
 
 #[cycle(result)]
+#[inline(never)]
 fn emit_choice(
     alloc: Global,
     writer: &mut Writer,
@@ -181,6 +181,7 @@ fn emit_choice(
 }
 
 #[cycle(result)]
+#[inline(never)]
 fn emit_binding(
     alloc: Global,
     writer: &mut Writer,
@@ -200,6 +201,7 @@ fn emit_binding(
 
 // The alternatives for the word that stands above so many others.
 #[cycle(result)]
+#[inline(never)]
 fn emit_arms(
     alloc: Global,
     writer: &mut Writer,
@@ -221,6 +223,7 @@ fn emit_arms(
 }
 
 #[cycle(result)]
+#[inline(never)]
 fn emit_arm(
     alloc: Global,
     writer: &mut Writer,
@@ -233,12 +236,9 @@ fn emit_arm(
         (λ code from to. ResultArmsBegin code (entry_in entries.now) places.now high from to (arm.now ∷ []))) }
 {
     let top = plus(high, 1)?;
-    let found = found_at(alloc, &arm.0, high)?;
-    let variables = count(found.spots.len())?;
     let words = pattern_words(&arm.0, 0).saturating_add(result_words(&arm.1));
     let other = plus(writer.len(), words)?;
-    emit_tests(writer, top, other, found.tests.as_slice())?;
-    emit_fields(writer, top, found.spots.as_slice())?;
+    let variables = emit_pattern(alloc, writer, high, top, other, &arm.0)?;
     let inner = with_places(alloc, places, top, variables)?;
     emit_result(
         alloc,

@@ -1,11 +1,20 @@
 use Rattle.std.proofs.Common.{◌≡◌, take}
-use Rattle.std.specs.Prelude.{◌+◌, ◌*◌}
+use Rattle.std.specs.Prelude.{◌+◌, ◌*◌, max}
 use Rattle.hume_model.specs.declared.core_tree.Res.{size-Res}
 use Rattle.box_calculus.proofs.Measures.{ways_size}
 use Rattle.box_calculus.proofs.copies.+copy_result.Given as goal
 
 abbrev pub decreases-copy_result : goal.decreases-copy_result
 decreases-copy_result l = 3 * size-Res l.given.now
+
+abbrev pub decreases-copy_choice : goal.decreases-copy_choice
+decreases-copy_choice l = 3 * max (size-Res l.when_true.now) (size-Res l.when_false.now) + 2
+
+abbrev pub decreases-copy_case : goal.decreases-copy_case
+decreases-copy_case l = 3 * ways_size l.arms.now + 2
+
+abbrev pub decreases-copy_binding : goal.decreases-copy_binding
+decreases-copy_binding l = 3 * size-Res l.body.now + 2
 
 abbrev pub decreases-copy_branch : goal.decreases-copy_branch
 decreases-copy_branch l = 3 * size-Res l.given.now + 1

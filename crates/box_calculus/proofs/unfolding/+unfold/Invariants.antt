@@ -19,6 +19,21 @@ decreases-unfold_part l = 4 * size-Expr l.e.now + 1
 abbrev pub decreases-unfold_if_there : goal.decreases-unfold_if_there
 decreases-unfold_if_there l = 4 * part_size l.part.now + 2
 
+abbrev pub decreases-unfold_object : goal.decreases-unfold_object
+decreases-unfold_object l = 4 * most size-Expr l.parts.now + 3
+
+abbrev pub decreases-unfold_tuple : goal.decreases-unfold_tuple
+decreases-unfold_tuple l = 4 * most size-Expr l.parts.now + 3
+
+abbrev pub decreases-unfold_vector : goal.decreases-unfold_vector
+decreases-unfold_vector l = 4 * most size-Expr l.parts.now + 3
+
+abbrev pub decreases-unfold_operation : goal.decreases-unfold_operation
+decreases-unfold_operation l = 4 * most size-Expr l.parts.now + 3
+
+abbrev pub decreases-unfold_raise : goal.decreases-unfold_raise
+decreases-unfold_raise l = 4 * part_size l.part.now + 3
+
 abbrev pub decreases-unfold_index : goal.decreases-unfold_index
 decreases-unfold_index l = 4 * max (size-Expr l.vector.now) (size-Expr l.place.now) + 2
 

@@ -1,4 +1,4 @@
-use Rattle.std.proofs.Common.{List, length, take, OnOk, ap, sym, ◌∙◌, subst}
+use Rattle.std.proofs.Common.{List, take, OnOk, sym, subst}
 use Rattle.hume_model.specs.declared.core_tree.PatC.{PatC}
 use Rattle.hume_model.specs.declared.core_tree.Res.{Res}
 use Rattle.box_compile.specs.inner.Entries.{entry_in}
@@ -49,10 +49,8 @@ emit_arms-returns t c =
 
 pub emit_arm-returns : goal.emit_arm-returns
 emit_arm-returns t c =
-    let f = c.in_ok-found.ensures in
+    let w = c.in_ok-variables.ensures in
     on_ok c.reach.result
     (arm_done c.in_ok-top.top c.in_ok-variables.variables c.in_ok-plus.field-0 c.in_ok-other.other c.in_ok-inner.inner c.args.arm.now.0 c.args.arm.now.1
-    c.as_slice.result.now c.as_slice-2.result.now c.in_ok-top.ensures (c.as_slice.ensures ∙ f.0) (c.as_slice-2.ensures ∙ f.1)
-    (c.in_ok-variables.ensures ∙ c.len.ensures ∙ ap length (sym c.as_slice-2.ensures)) c.in_ok-plus.ensures c.in_ok-inner.ensures
-    c.in_ok-emit_tests.ensures c.in_ok-emit_fields.ensures c.in_ok-emit_result.ensures)
+    c.in_ok-top.ensures w.all c.in_ok-plus.ensures c.in_ok-inner.ensures w.tests w.fields c.in_ok-emit_result.ensures)
     c.reach.ensures
