@@ -1,5 +1,5 @@
 -- An engine of which the queue of an input stream was filled.
-use Rattle.std.proofs.Common.{◌≡◌, ◌<◌, ℕ, true, List, [], ◌++◌, map, length, Option, None, Some, Result, Ok, Err, slice_get, slice_set, refl, ap, sym, ◌∙◌, subst, arith, inl, inr}
+use Rattle.std.proofs.Common.{◌≡◌, ◌+◌, ◌-◌, ◌<◌, ◌≤◌, max, ℕ, true, List, [], ◌++◌, map, length, Option, None, Some, Result, Ok, Err, slice_get, slice_set, refl, ap, sym, ◌∙◌, subst, arith, inl, inr, length-append}
 use Rattle.std.specs.List.{list_all}
 use Rattle.std.specs.Option.{unwrap_or}
 use Rattle.std.proofs.lemmas.Bool.{cases_eq, cases_lt}
@@ -54,6 +54,9 @@ coming_typed core run state typed n is =
     ap (λ ty. list_all (is_value core.types ty) (part_of state n).coming) (input_type core run n found.0 wire.0 wire.1 is wire.2)
     ∙ typed.coming n node.0 found.0 wire.0 node.1 wire.1 wire.2
 
+few_gained : (want before after had gained : ℕ) → after ≤ max want before → after ≡ had + gained → before ≡ had → gained ≤ want - had
+few_gained want before after had gained bound all was = omega (arith, bound, all, was)
+
 module _ (core bare : Core) (sides : Sides) (span : ℕ) (state : State) (nodes : List BoxCell) (home : List (Option CellView)) (count room : ℕ)
     (whole : IsWhole core bare sides span state nodes home count room) (node : ℕ) (is : IsInputStream core node) (cell new : BoxCell)
     (at : slice_get nodes node ≡ Some cell) (queue later : InQueue) (had : queue_in cell.kind ≡ Some queue)
@@ -97,6 +100,15 @@ module _ (core bare : Core) (sides : Sides) (span : ℕ) (state : State) (nodes 
 
     all_typed : list_all (is_value types ty) (coming ++ fill.gained) ≡ true
     all_typed = list_all-append (is_value types ty) coming fill.gained ∙ rw (coming_typed core whole.runnable state whole.opens.typed node is) fill.typed
+
+    -- no more values come than are wanted
+    pub gained_few : length fill.gained ≤ want - length coming
+    gained_few =
+        let all : length (queue_view later).values ≡ length (coming ++ fill.gained) = ap length all_words ∙ length-map (coming ++ fill.gained) (flat types ty) in
+        let had_all : length (queue_view queue).values ≡ length coming =
+        ap length (queue_holds core bare sides span state nodes home count room whole node is cell new at queue later had new_is) ∙ length-map coming (flat types ty) in
+        few_gained want (length (queue_view queue).values) (length (queue_view later).values) (length coming) (length fill.gained)
+        fill.gains.bound (all ∙ length-append coming fill.gained) had_all
 
     more : came ≡ coming ++ fill.gained
     more =

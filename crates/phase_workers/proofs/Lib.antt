@@ -12,6 +12,6 @@ mod OneCell
 mod LogCells
 mod QueueCells
 mod FilledCells
-mod NodeFilled
+pub mod NodeFilled
 mod MadeCells
 mod FirstEngine

@@ -22,7 +22,7 @@ use Rattle.phase_workers.specs.NodeFills.{FillsNode}
 use Rattle.phase_workers.specs.RightQueues.{IsRightBehind}
 use Rattle.phase_workers.specs.StreamTypes.{type_at}
 use Rattle.phase_workers.specs.inner.Whole.{IsWhole, engine_view}
-use Rattle.phase_workers.proofs.FilledCells.{ends_fill, next, next_is_fed, parts_kept}
+use Rattle.phase_workers.proofs.FilledCells.{ends_fill, gained_few, next, next_is_fed, parts_kept}
 use Rattle.phase_workers.proofs.QueueCells.{is_queue, queues_elsewhere, was_queue}
 
 pub not_failed : (result : Result (Unit {0}) FillError) → NoReadFails result → IsErrOf result Failed → ⊥
@@ -63,6 +63,8 @@ module _ (core bare : Core) (sides : Sides) (span : ℕ) (state : State) (nodes 
     values = from.fills.gained;
     reads = from.reads;
     state = state_is ∙ next_is_fed core bare sides span state nodes home count room whole node is cell new at queue later had new_is want
+        from.before from.after result from.fills;
+    bound = gained_few core bare sides span state nodes home count room whole node is cell new at queue later had new_is want
         from.before from.after result from.fills;
     others = λ other apart. ap without_values (queues_elsewhere core bare sides span state nodes home count room whole node is cell new at queue later had
         new_is (next core bare sides span state nodes home count room whole node is cell new at queue later had new_is) refl

@@ -1,5 +1,5 @@
 -- What a fill of an input stream does: to its queue, to the net, and to all ports.
-use Rattle.std.specs.Prelude.{◌≡◌, ◌⊎◌, ℕ, ◌<◌, ◌≤◌, min, true, false, List, [], ◌++◌, length, Some, None, Result, Ok, Err, slice_set, slice_index_or}
+use Rattle.std.specs.Prelude.{◌≡◌, ◌⊎◌, ℕ, ◌-◌, ◌<◌, ◌≤◌, min, true, false, List, [], ◌++◌, length, Some, None, Result, Ok, Err, slice_set, slice_index_or}
 use Rattle.std.specs.Io.KnownBytes.{IsAtEnd}
 use Rattle.hume_base.specs.declared.types.Value.{Value}
 use Rattle.hume_net.specs.declared.state.State.{State}
@@ -55,6 +55,8 @@ pub record FillsNode (want : ℕ) (old new : EngineView) (node : ℕ) (name : Li
   pub values : List Value
   pub reads : ReadsBytes name bytes olds news result
   pub state : state_of new ≡ fed_at node values (state_of old)
+  -- no more come than are wanted
+  pub bound : length values ≤ want - length (coming_at old node)
   pub others : (other : ℕ) → (other ≡ node → ⊥) → queue_at new other ≡ queue_at old other
   -- it never reads on once a read gave nothing, and where the port tells what it has left there is then nothing
   pub stays : (queue_at old node).ended ≡ true → (bytes ≡ []) × ((queue_at new node).ended ≡ true)
