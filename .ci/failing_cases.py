@@ -9,9 +9,9 @@ ROUND = 64
 WORKERS = 1, 2
 NO_INPUTS = "words", "README.md", "expected.py", "stdin"
 # the place of WORKERS among the words
-WORKERS_AT = {"run": 2, "trace": 2, "calc": 2, "demo": 3}
+WORKERS_AT = {"run": 2, "trace": 2, "calc": 2, "union": 2, "demo": 3}
 NO_OUTPUTS = "status", "table", "taken", "stdout", "hints"
-DONE, REFUSED, BAD_VALUE, FAULT, NO_MEMORY = 0, 2, 3, 4, 5
+DONE, REFUSED, BAD_VALUE, FAULT, NO_MEMORY, LOG_FAILS = 0, 2, 3, 4, 5, 6
 
 
 @dataclass(frozen=True)
@@ -138,6 +138,16 @@ def script_refused(workers):
     return one_box("a script that is refused", f"calc 4 {workers} p steps i o", acts, REFUSED, steps=b"swap b 1\n")
 
 
+def united(workers):
+    """Two programs of one box, the second of which reads `j` and writes `r`."""
+    first, second = ["program 1 p"], ["program 2 q"]
+    box, peak = ["box b heap 0 stack 4 work 5"], ["peak b heap 0 stack 4"]
+    acts = [wants("p"), wants("q"), *writes("std_out", *first, *box, *second, *box, "total heap 0 stack 8"), wants("i"), wants("j")]
+    acts += [*writes("o", 2, 3), *writes("r", 8), *writes("std_out", *first, *peak, *second, *peak), *finishes("o", "r", "std_out")]
+    files = {"p": ADD_ONE, "q": ADD_ONE.replace(b'"i"', b'"j"').replace(b'"o"', b'"r"'), "i": b"1\n2\n", "j": b"7\n"}
+    return Case("two programs in one run", f"union 4 {workers} 2 p q i j o r", files, acts, DONE, ["o", "r"])
+
+
 def checked():
     return one_box("a check", "check p", [*TABLE, *finishes("std_out")], DONE)
 
@@ -152,6 +162,40 @@ def bad_value(workers):
     return one_box("a bad line", f"run 4 {workers} p i o", acts, BAD_VALUE, i=b"1\nx\n")
 
 
+# The log of two supersteps of ADD_ONE on 1 and 2, block by block.
+LOG = [
+    ["end 0", "wire s to b.x empty", "wire b.y to t empty"],
+    ["mid 1", "wire s to b.x empty", "wire b.y to t empty"],
+    ["end 1", "wire s to b.x 1", "wire b.y to t empty"],
+    ["mid 2", "wire s to b.x empty", "wire b.y to t empty"],
+    ["end 2", "wire s to b.x 2", "wire b.y to t 2"],
+]
+
+
+def log_of(blocks):
+    return "".join(f"{line}\n" for block in blocks for line in block).encode()
+
+
+def recorded():
+    start, first, second, third, last = (writes("l", *block) for block in LOG)
+    acts = [wants("p"), *start, wants("i"), *first, *second, wants("i"), *third, *last, *finishes("l", "std_out")]
+    return Case("a run that is recorded", "record 2 p l i o", {"p": ADD_ONE, "i": b"1\n2\n"}, acts, DONE, ["l", "o"])
+
+
+def verified(name, log, line, status, supersteps=2):
+    """So many supersteps are compared, and then this line is told."""
+    acts = [wants("p"), wants("l"), *(supersteps * [wants("i"), wants("l")]), *writes("std_out", line), *finishes("std_out")]
+    return Case(name, "verify 2 p l i o", {"p": ADD_ONE, "l": log, "i": b"1\n2\n"}, acts, status, ["o"])
+
+
+def logs():
+    """A log that is written, one that holds, and two that don't."""
+    yield recorded()
+    yield verified("a log that holds", log_of(LOG), "log holds", DONE)
+    yield verified("a log whose last line is wrong", log_of(LOG)[:-2] + b"3\n", "log fails line 15 box b", LOG_FAILS)
+    yield verified("a log that is wrong at once", b"end 1\n" + log_of(LOG)[6:], "log fails line 1", LOG_FAILS, 0)
+
+
 def demo(workers):
     """The form `demo` by an example, if there is one: it reads nothing, and each of its lines goes to the standard output."""
     folder = os.path.join(TOP, "examples", "demo", "first_value")
@@ -164,9 +208,10 @@ def demo(workers):
 def cases(width):
     """All calls. Lines of the inputs of the longest have so many digits."""
     for workers in WORKERS:
-        yield from (add_one(workers), traced(workers), refused(workers), bad_value(workers), rewritten(workers), script_refused(workers))
+        yield from (add_one(workers), traced(workers), refused(workers), bad_value(workers), rewritten(workers), script_refused(workers), united(workers))
         yield from (*demo(workers), sum_and_difference(150, workers, width))
     yield checked()
+    yield from logs()
 
 
 def example(folder, workers):

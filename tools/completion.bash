@@ -17,7 +17,7 @@ _hume_files() {
 _hume() {
     local word=${COMP_WORDS[COMP_CWORD]} kind='' ports=''
     if ((COMP_CWORD == 1)); then
-        mapfile -t COMPREPLY < <(compgen -W 'check run trace calc demo why bounds net hints test go watch vcd waves page install uninstall --help --version --rebuild' -- "$word")
+        mapfile -t COMPREPLY < <(compgen -W 'check run trace calc union record verify demo why bounds net hints test go watch vcd waves page install uninstall --help --version --rebuild' -- "$word")
         return
     fi
     # Where the SOURCE stands, and from where on there are ports.
@@ -25,13 +25,18 @@ _hume() {
     case ${COMP_WORDS[1]} in
     check | why | bounds | net | hints) source=2 ;;
     run | trace | calc) source=4 ;;
+    union) source=5 ;;
     watch | vcd | page) source=3 ;;
+    record | verify)
+        source=3
+        ((COMP_CWORD != 4)) || kind=file
+        ;;
     go) kind=source ;;
     waves) [ "$COMP_CWORD" -eq 2 ] && kind=file || kind=source ;;
     test | install | uninstall) kind=folder ;;
     esac
     ((source == 0 || COMP_CWORD != source)) || kind=source
-    if ((source > 2 && COMP_CWORD > source)); then
+    if [ -z "$kind" ] && ((source > 2 && COMP_CWORD > source)); then
         ports=$(_hume_ports "${COMP_WORDS[source]}")
         mapfile -t COMPREPLY < <(compgen -W "$ports" -- "$word")
         return

@@ -15,7 +15,7 @@ from program import TOP, Usage, built, call
 NOT_INPUTS = ("words", "README.md", "expected.py", "expected", "stdin")
 NOT_OUTPUTS = ("status", "table", "taken", "stdout")
 # which word of a call is WORKERS, and the numbers that are tried
-WORKERS_AT = {"run": 2, "trace": 2, "calc": 2, "demo": 3}
+WORKERS_AT = {"run": 2, "trace": 2, "calc": 2, "union": 2, "demo": 3}
 WORKERS = ("1", "2", "3", "16")
 
 
@@ -138,9 +138,9 @@ def compare_workers(example):
 
 
 def compare_check(example):
-    """A check of the same source writes the table, and nothing else. What a script makes of a source has a table of its own."""
+    """A check of the same source writes the table, and nothing else. What a script makes of a source, or a union, has a table of its own."""
     words, table = words_of(example), read(example, "expected", "table")
-    if not table or words[0] == "calc":
+    if not table or words[0] in ("calc", "union"):
         return None
     with Room(example) as room:
         files = room.files()

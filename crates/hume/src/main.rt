@@ -1,5 +1,6 @@
-//! The program: `hume check SOURCE`, `hume run STEPS WORKERS SOURCE PORT..`, or `hume trace` with the words of a run, where the
-//! words from SOURCE on name the files that are ports; or `hume demo NUMBER STEPS WORKERS`.
+//! The program: `hume check SOURCE`, `hume run STEPS WORKERS SOURCE PORT..`, `hume trace` with the words of a run, or
+//! `hume union STEPS WORKERS COUNT SOURCE.. PORT..`, where the words from SOURCE on name the files that are ports; or
+//! `hume demo NUMBER STEPS WORKERS`.
 //!
 //! The ports `std_in` and `std_out` are always there.
 //!

@@ -1,5 +1,7 @@
 -- Calls whose ports have room, and calls over ports with the same texts.
-use Rattle.std.proofs.Common.{◌≡◌, ◌⊎◌, ℕ, false, List, [], ◌∷◌, Option, Some, None, IfSome, IsSomeAnd, slice_get, refl, sym, ap, ◌∙◌, subst, inl, inr}
+use Rattle.std.proofs.Common.{◌≡◌, ◌⊎◌, ℕ, Bool, true, false, if◌then◌else◌, List, [], ◌∷◌, map, Option, Some, None, IfSome, IsSomeAnd, slice_get, refl, sym, ap, ◌∙◌, subst, inl, inr}
+use Rattle.std.specs.List.{list_any}
+use Rattle.std.proofs.lemmas.Bool.{cases_Bool, or_parts}
 use Rattle.std.specs.Option.{is_none}
 use Rattle.std.specs.Str.{bytes_eq}
 use Rattle.hume_base.specs.declared.types.Value.{Value}
@@ -21,18 +23,21 @@ use Rattle.run_rounds.specs.Streams.{streams}
 use Rattle.hume_run.specs.declared.status.Status.{Status}
 use Rattle.hume_run.specs.declared.status.Status.TheVariants.{Usage, Fault, NoMemory}
 use Rattle.hume_run.specs.declared.order.Order.{Order}
-use Rattle.hume_run.specs.declared.order.Order.TheVariants.{Run, Calc, Check, Demo}
+use Rattle.hume_run.specs.declared.order.Order.TheVariants.{Run, Calc, Log, Check, Union, Demo}
 use Rattle.hume_run.specs.Streams.{unfit_line}
-use Rattle.hume_run.specs.Owed.{IsOwed, IsOwedScript}
-use Rattle.hume_run.specs.Words.{Named, order_of, named_by, script_of, source_alone}
+use Rattle.hume_run.specs.Owed.{IsOwed, IsOwedLogged, IsOwedScript}
+use Rattle.hume_run.specs.Words.{Named, order_of, named_by, further_of, source_alone}
 use Rattle.hume_run.specs.Reading.{script_text, source_reads, source_text}
 use Rattle.hume_run.specs.Few.{call_few}
 use Rattle.hume_run.specs.Headline.{Answers, AnswersAlone, AnswersFrom, Headline, IsText, LacksPort, OwesAlone}
 use Rattle.hume_run.specs.Calls.{OwesOver, HaveRoom, GivesOwed, HaveSameTexts, IsThrough}
+use Rattle.hume_run.specs.Unions.{IsUnionRefusal, MayUnite, text_of, union_core, union_texts}
 use Rattle.hume_run.proofs.Answering.{Ended}
-use Rattle.hume_run.proofs.OneOwed.{some_owed, one_owed}
+use Rattle.hume_run.proofs.PortsApart.{union_fit}
+use Rattle.hume_run.proofs.Programs.{many_programs}
+use Rattle.hume_run.proofs.OneOwed.{OneOutcome, SomeOutcome, some_owed, one_owed}
 use Rattle.hume_run.proofs.OneScript.{OneInputs, SomeInputs}
-use Rattle.hume_run.proofs.ScriptWords.{NamesScript, script_there}
+use Rattle.hume_run.proofs.ScriptWords.{NamesFurther, further_there}
 use Rattle.hume_run.proofs.Texts.{told_texts, told_by_all}
 use Rattle.hume_run.proofs.Wanting.{fit_inputs}
 
@@ -47,9 +52,9 @@ text_told None = tt
 text_told (Some left) = refl
 
 -- a call owes something over any ports
-owes_something : SomeInputs → (order : Order) (named : Named) (ports : List PortView) → (owed : Owed Status) × OwesOver order named ports owed
-owes_something has_inputs order named ports =
-    let some = some_owed has_inputs order named (text_in (left_of named.source ports)) (names ports) (told_texts ports) in (
+owes_something : SomeInputs → SomeOutcome → (order : Order) (named : Named) (ports : List PortView) → (owed : Owed Status) × OwesOver order named ports owed
+owes_something has_inputs some_outcome order named ports =
+    let some = some_owed has_inputs some_outcome order named (text_in (left_of named.source ports)) (names ports) (told_texts ports) in (
       some.0,
       record {
         text = text_in (left_of named.source ports);
@@ -64,13 +69,13 @@ module _ (order : Order) (named : Named) (olds news : List PortView) (status : S
   owes_of : (a : AnswersFrom order named olds news status) → OwesOver order named olds a.owed
   owes_of a = record { text = a.text; told = a.told; texts = a.texts; texts_told = a.texts_told; owes = a.owes }
 
-  sourced_with_room : SomeInputs → Ended order named olds news status → HaveRoom order (Some named) olds
+  sourced_with_room : SomeInputs → SomeOutcome → Ended order named olds news status → HaveRoom order (Some named) olds
       → (status ≡ NoMemory) ⊎ GivesOwed order (Some named) olds news status
-  sourced_with_room has_inputs (inl (inl (is, stops))) room = inl is
-  sourced_with_room has_inputs (inl (inr (is, fails))) room =
-      let some = owes_something has_inputs order named olds in
+  sourced_with_room has_inputs some_outcome (inl (inl (is, stops))) room = inl is
+  sourced_with_room has_inputs some_outcome (inl (inr (is, fails))) room =
+      let some = owes_something has_inputs some_outcome order named olds in
       absurd (fails.no_room (Roomy-nothing olds (written some.0.acts) (room some.0 some.1)))
-  sourced_with_room has_inputs (inr a) room = elim a.ends [
+  sourced_with_room has_inputs some_outcome (inr a) room = elim a.ends [
     | inl made ↦ inr (record { owed = a.owed; owes = owes_of a; answer = made.0; delivered = made.2.progress.delivered })
     | inr fails ↦ absurd (fails.1.no_room (room a.owed (owes_of a)))
   ]
@@ -83,10 +88,10 @@ module _ (order : Order) (olds news : List PortView) (status : Status) where
     | inr fails ↦ absurd (fails.1.no_room (room owed owes))
   ]
 
-  pub answered_with_room : SomeInputs → (named : Option Named) → Answers order named olds news status → HaveRoom order named olds
+  pub answered_with_room : SomeInputs → SomeOutcome → (named : Option Named) → Answers order named olds news status → HaveRoom order named olds
       → (status ≡ NoMemory) ⊎ GivesOwed order named olds news status
-  answered_with_room has_inputs None answers room = alone_with_room answers room
-  answered_with_room has_inputs (Some named) answers room = sourced_with_room order named olds news status has_inputs answers room
+  answered_with_room has_inputs some_outcome None answers room = alone_with_room answers room
+  answered_with_room has_inputs some_outcome (Some named) answers room = sourced_with_room order named olds news status has_inputs some_outcome answers room
 
 -- calls over the same texts
 
@@ -128,14 +133,38 @@ module _ (named : Named) (olds others : List PortView) (same : HaveSameTexts old
       each = λ n. comes_alike n (slice_get core.nodes n) refl (listed coming.good n) (coming.bad n) (are.each n);
     }
 
+  -- each port that the words name has one text
+  source_alike : (text : List ℕ) (other : List ℕ) → is_none (place_of other (names olds)) ≡ false
+      → text_of named.source text first other ≡ text_of named.source text second other
+  source_alike text other here = elim (cases_Bool (bytes_eq other named.source)) [
+    | inl is ↦ rw is refl
+    | inr isnt ↦ ap (λ (left : List ℕ). if bytes_eq other named.source then text else source_text left) (one_text other here isnt)
+  ]
+
+  sources_alike : (text : List ℕ) (others : List (List ℕ)) → list_any (λ name. is_none (place_of name (names olds))) others ≡ false
+      → map (text_of named.source text first) others ≡ map (text_of named.source text second) others
+  sources_alike text [] here = refl
+  sources_alike text (other ∷ others) here =
+      let parts = or_parts (is_none (place_of other (names olds))) (list_any (λ name. is_none (place_of name (names olds))) others) here in
+      λ i. source_alike text other parts.0 i ∷ sources_alike text others parts.1 i
+
+  all_there : (LacksPort (names olds) named → ⊥) → (lacks : Bool) → list_any (λ name. is_none (place_of name (names olds))) named.others ≡ lacks → lacks ≡ false
+  all_there there true is = absurd (there (inr is))
+  all_there there false is = refl
+
+  union_texts_alike : (text : List ℕ) → (LacksPort (names olds) named → ⊥) → union_texts text named first ≡ union_texts text named second
+  union_texts_alike text there =
+      let here = all_there there (list_any (λ name. is_none (place_of name (names olds))) named.others) refl in
+      λ i. text ∷ sources_alike text named.others here i
+
   script_alike : (steps : ℕ) (core : Core) (lines : List ℕ) (later : Owed Status)
-      → IsOwedScript steps core lines named.source (script_of named) (names olds) first later
-      → IsOwedScript steps core lines named.source (script_of named) (names olds) second later
+      → IsOwedScript steps core lines named.source (further_of named) (names olds) first later
+      → IsOwedScript steps core lines named.source (further_of named) (names olds) second later
   script_alike steps core lines later (inl refused) = inl refused
   script_alike steps core lines later (inr (new, made, within, fit, coming, are, owes)) =
-      inr (new, made, within, fit, coming, inputs_alike new (script_of named ∷ []) fit coming are, owes)
+      inr (new, made, within, fit, coming, inputs_alike new (further_of named ∷ []) fit coming are, owes)
 
-  owed_alike : (order : Order) (text : List ℕ) (owed : Owed Status) → NamesScript order named → (LacksPort (names olds) named → ⊥)
+  owed_alike : (order : Order) (text : List ℕ) (owed : Owed Status) → NamesFurther order named → (LacksPort (names olds) named → ⊥)
       → IsOwed order named text (names olds) first owed → IsOwed order named text (names olds) second owed
   owed_alike (Check place) text owed its there owes = owes
   owed_alike (Demo number steps workers) text owed its there owes = owes
@@ -144,11 +173,30 @@ module _ (named : Named) (olds others : List PortView) (same : HaveSameTexts old
       inr (accepted, is, fit, coming, inputs_alike accepted.core [] fit coming are, owes)
   owed_alike (Calc steps workers place script) text owed its there (inl refused) = inl refused
   owed_alike (Calc steps workers place script) text owed its there (inr (sound, is, later, owes, same)) =
-      let one : first (script_of named) ≡ second (script_of named) = one_text (script_of named) (script_there named (names olds) its there) its.apart in
-      let now : IsOwedScript steps sound.core (script_text (second (script_of named))) named.source (script_of named) (names olds) second later =
-      subst (λ (all : List ℕ). IsOwedScript steps sound.core (script_text all) named.source (script_of named) (names olds) second later) one
-      (script_alike steps sound.core (script_text (first (script_of named))) later owes) in
+      let one : first (further_of named) ≡ second (further_of named) = one_text (further_of named) (further_there named (names olds) its there) its.apart in
+      let now : IsOwedScript steps sound.core (script_text (second (further_of named))) named.source (further_of named) (names olds) second later =
+      subst (λ (all : List ℕ). IsOwedScript steps sound.core (script_text all) named.source (further_of named) (names olds) second later) one
+      (script_alike steps sound.core (script_text (first (further_of named))) later owes) in
       inr (sound, is, later, now, same)
+  owed_alike (Log steps place log verify) text owed its there (inl refused) = inl refused
+  owed_alike (Log steps place log verify) text owed its there (inr (accepted, is, fit, coming, are, owes)) =
+      let one : first (further_of named) ≡ second (further_of named) = one_text (further_of named) (further_there named (names olds) its there) its.apart in
+      let now : IsOwedLogged verify steps accepted.core coming (further_of named) (second (further_of named)) owed =
+      subst (λ (all : List ℕ). IsOwedLogged verify steps accepted.core coming (further_of named) all owed) one owes in
+      inr (accepted, is, fit, coming, inputs_alike accepted.core (further_of named ∷ []) fit coming are, now)
+  owed_alike (Union steps workers count place) text owed its there (inl refused) = inl (
+    refused.0,
+    subst (λ ts. IsUnionRefusal (names olds) (named.source ∷ named.others) ts refused.0) (union_texts_alike text there) refused.1,
+    refused.2,
+  )
+  owed_alike (Union steps workers count place) text owed its there (inr runs) = inr (
+    runs.0,
+    subst (λ ts. MayUnite (names olds) (named.source ∷ named.others) ts runs.0) (union_texts_alike text there) runs.1,
+    runs.2,
+    inputs_alike (union_core runs.0) []
+        (union_fit (names olds) named.source named.others runs.0 (many_programs named text first runs.0 runs.1.accepted) runs.1.fit runs.1.apart) runs.2 runs.3,
+    runs.4,
+  )
 
 -- a call that came to its end has read its source
 read_through : (order : Order) (named : Named) (olds news : List PortView) (status : Status) → Ended order named olds news status → IsThrough status
@@ -172,9 +220,9 @@ module _ (order : Order) (named : Named) (olds news others later : List PortView
   abbrev SameBytes : Type 0
   SameBytes = EndAlike olds news others later status other
 
-  calls_alike : OneInputs → NamesScript order named → (LacksPort (names olds) named → ⊥) → HaveSameTexts olds others → (a : AnswersFrom order named olds news status)
+  calls_alike : OneInputs → OneOutcome → NamesFurther order named → (LacksPort (names olds) named → ⊥) → HaveSameTexts olds others → (a : AnswersFrom order named olds news status)
       → (b : AnswersFrom order named others later other) → IsThrough status → IsThrough other → SameBytes
-  calls_alike one_inputs its there same a b through too =
+  calls_alike one_inputs one_outcome its there same a b through too =
       let tells = same.tell named.source (λ none. there (inl none)) in
       let text : b.text ≡ a.text = same_source (left_of named.source others) b.text tells.0 tells.2 b.told
       ∙ sym (same_source (left_of named.source olds) a.text tells.0 tells.1 a.told) in
@@ -183,7 +231,7 @@ module _ (order : Order) (named : Named) (olds news others later : List PortView
       let second : IsOwed order named a.text (names olds) b.texts b.owed =
       subst (λ (ns : List (List ℕ)). IsOwed order named a.text ns b.texts b.owed) (sym same.same_names)
       (subst (λ (t : List ℕ). IsOwed order named t (names others) b.texts b.owed) text b.owes) in
-      let one : b.owed ≡ a.owed = one_owed one_inputs order named a.text (names olds) b.texts b.owed a.owed second first in
+      let one : b.owed ≡ a.owed = one_owed one_inputs one_outcome order named a.text (names olds) b.texts b.owed a.owed second first in
       let few : Few = call_few order named a.text a.texts in
       let whole : Owed Status = after_reads (source_reads named.source) a.owed in
       end_alike few whole Fault olds news others later status other a.ends
@@ -192,10 +240,10 @@ module _ (order : Order) (named : Named) (olds news others later : List PortView
       too.1)
       through.1 too.1
 
-  pub ended_alike : OneInputs → NamesScript order named → (LacksPort (names olds) named → ⊥) → HaveSameTexts olds others → Ended order named olds news status
+  pub ended_alike : OneInputs → OneOutcome → NamesFurther order named → (LacksPort (names olds) named → ⊥) → HaveSameTexts olds others → Ended order named olds news status
       → Ended order named others later other → IsThrough status → IsThrough other → SameBytes
-  ended_alike one_inputs its there same x y through too =
-      calls_alike one_inputs its there same (read_through order named olds news status x through) (read_through order named others later other y too) through too
+  ended_alike one_inputs one_outcome its there same x y through too =
+      calls_alike one_inputs one_outcome its there same (read_through order named olds news status x through) (read_through order named others later other y too) through too
 
 -- a call without a source that came to its end ends as what it owes
 module _ (order : Order) (olds news : List PortView) (status : Status) where
@@ -206,21 +254,21 @@ module _ (order : Order) (olds news : List PortView) (status : Status) where
   alone_through (inl (is, same)) through = absurd (through.2 is)
   alone_through (inr ends) through = ends
 
-module _ (order : Order) (olds news others later : List PortView) (status other : Status) (one_inputs : OneInputs) (same : HaveSameTexts olds others) where
+module _ (order : Order) (olds news others later : List PortView) (status other : Status) (one_inputs : OneInputs) (one_outcome : OneOutcome) (same : HaveSameTexts olds others) where
   alone_alike : EndsAlone order olds news status → EndsAlone order others later other → IsThrough status → IsThrough other
       → EndAlike olds news others later status other
   alone_alike (owed, owes, ends) (its, also, too) through so =
-      let one : its ≡ owed = one_owed one_inputs order (source_alone []) [] (names olds) (λ name. []) its owed
+      let one : its ≡ owed = one_owed one_inputs one_outcome order (source_alone []) [] (names olds) (λ name. []) its owed
       (subst (λ (ns : List (List ℕ)). IsOwed order (source_alone []) [] ns (λ name. []) its) (sym same.same_names) also) owes in
       end_alike never owed Fault olds news others later status other ends
       (subst (λ (o : Owed Status). EndsAs never o Fault others later other) one too) through.1 so.1
 
-  pub answers_alike : (named : Option Named) → IfSome named (NamesScript order) → (IsSomeAnd named (LacksPort (names olds)) → ⊥) → Answers order named olds news status
+  pub answers_alike : (named : Option Named) → IfSome named (NamesFurther order) → (IsSomeAnd named (LacksPort (names olds)) → ⊥) → Answers order named olds news status
       → Answers order named others later other → IsThrough status → IsThrough other → EndAlike olds news others later status other
   answers_alike None its there x y through too =
       alone_alike (alone_through order olds news status x through) (alone_through order others later other y too) through too
   answers_alike (Some named) its there x y through too =
-      ended_alike order named olds news others later status other one_inputs its there same x y through too
+      ended_alike order named olds news others later status other one_inputs one_outcome its there same x y through too
 
 -- words of a form
 

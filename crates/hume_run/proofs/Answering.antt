@@ -87,7 +87,7 @@ owed_text order named text olds news status owed owes (inr ends) = inr (record {
 abbrev TellsBroken : Order → Named → List ℕ → List PortView → Type 0
 TellsBroken order named text olds = (refusal : Refusal) → Breaks text refusal → IsOwed order named text (names olds) (told_texts olds) (owed_refused refusal)
 
-refused_text : (order : Order) (named : Named) (text : List ℕ) (olds news : List PortView) (status : Status) → TellsBroken order named text olds
+pub refused_text : (order : Order) (named : Named) (text : List ℕ) (olds news : List PortView) (status : Status) → TellsBroken order named text olds
     → EndsRefused text olds news status → EndsText order named text olds news status
 refused_text order named text olds news status tells (inl out) = out_of_memory order named text olds news status out
 refused_text order named text olds news status tells (inr (refusal, breaks, ends)) =
@@ -110,8 +110,8 @@ pub unfit_text : (steps workers place : ℕ) (traced : Bool) (named : Named) (te
     → refusal ≡ record { rule = C55; line = line } → EndsOwed (owed_refused refusal) olds news status
     → EndsText (Run steps workers place traced) named text olds news status
 unfit_text steps workers place traced named text olds news status refusal accepted line is_accepted found is ends =
-    let refuses : IsRefusal text (names olds) named.source refusal =
-    subst (IsRefusal text (names olds) named.source) (sym is) (unfit accepted is_accepted line
+    let refuses : IsRefusal text (names olds) named.source [] refusal =
+    subst (IsRefusal text (names olds) named.source []) (sym is) (unfit accepted is_accepted line
     found) in
     owed_text (Run steps workers place traced) named text olds news status (owed_refused refusal) (inl (refusal, refuses, refl)) ends
 
@@ -154,7 +154,8 @@ module _ (steps workers place : ℕ) (traced : Bool) (named : Named) (text : Lis
       record {
         of_source = λ here. absurd (true≢false (sym here ∙ other));
         of_further = λ among. absurd (true≢false (sym among));
-        of_streams = λ other core run.
+        of_log = λ among. absurd (true≢false (sym among));
+        of_streams = λ unread core run.
             let one : accepted.core ≡ core = one_accepted_core text accepted run.0 is_accepted run.1 ∙ sym run.2 in
             subst (λ (c : Core). run_few c name count (bytes_for name ((named.source, text) ∷ taken))) one
             (subst (λ (bytes : List ℕ). run_few accepted.core name count bytes) same is);

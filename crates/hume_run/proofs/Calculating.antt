@@ -42,7 +42,7 @@ use Rattle.hume_run.specs.Headline.{IsText}
 use Rattle.hume_run.specs.Owed.{IsOwedScript, owed_refused, owed_run}
 use Rattle.hume_run.specs.Reading.{script_reads, script_text}
 use Rattle.hume_run.specs.Streams.{unfit_line}
-use Rattle.hume_run.specs.Words.{Named, script_of}
+use Rattle.hume_run.specs.Words.{Named, further_of}
 use Rattle.hume_run.specs.inner.Ended.{EndsAfter, EndsScript, EndsText, EndsUnsound, RunsCore, RunsOut, refuses, runs, runs_out}
 use Rattle.hume_run.proofs.Answering.{WantsTell, meant, out_of_memory, owed_text, wants_apart}
 use Rattle.hume_run.proofs.OneScript.{SomeInputs, some_script}
@@ -57,7 +57,7 @@ module _ (steps workers place script : ℕ) (named : Named) (text : List ℕ) wh
   order = Calc steps workers place script
 
   abbrev port : List ℕ
-  port = script_of named
+  port = further_of named
 
   -- a source that isn't sound
   pub unsound_text : (olds news : List PortView) (status : Status) → EndsUnsound text olds news status → EndsText order named text olds news status
@@ -92,6 +92,7 @@ module _ (steps workers place script : ℕ) (named : Named) (text : List ℕ) wh
               record {
                 of_source = λ same. absurd (true≢false (sym same ∙ apart));
                 of_further = λ among. short;
+                of_log = λ among. absurd (true≢false (sym among));
                 of_streams = λ other core run. absurd (true≢false (sym (ap (λ b. b) (whole (bytes_eq-self port))) ∙ other));
               }
             where
@@ -251,6 +252,7 @@ module _ (steps workers place script : ℕ) (named : Named) (text : List ℕ) wh
           record {
             of_source = λ here. absurd (true≢false (sym here ∙ other.0));
             of_further = λ among. absurd (true≢false (sym among ∙ rw other.1 refl));
+            of_log = λ among. absurd (true≢false (sym among));
             of_streams = λ none its run.
                 let one : scripted sound.core lines ≡ Ok its =
                 (λ i. scripted (one_sound_core text sound run.0 is_sound run.1 i) (sym (script_is texts) i)) ∙ run.2 in

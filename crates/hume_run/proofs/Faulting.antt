@@ -1,5 +1,5 @@
 -- What a fault of a call tells by the counts that rose.
-use Rattle.std.proofs.Common.{◌≡◌, ◌⊎◌, None, ℕ, ◌<◌, ◌-◌, Bool, true, false, List, [], ◌∷◌, ◌++◌, length, refl, ap, sym, ◌∙◌, subst, inl, inr, append_assoc}
+use Rattle.std.proofs.Common.{◌≡◌, ◌⊎◌, None, ℕ, ◌<◌, ◌-◌, Bool, true, false, List, [], ◌∷◌, ◌++◌, length, refl, ap, sym, ◌∙◌, subst, inl, inr, append_assoc, append-nil}
 use Rattle.std.specs.Str.{bytes_eq}
 use Rattle.std.proofs.lemmas.Bool.{true≢false, cases_Bool}
 use Rattle.std.proofs.lemmas.Grind.{flat_map-append}
@@ -11,31 +11,39 @@ use Rattle.hume_ports.specs.Port.{PortView, Rose}
 use Rattle.hume_ports.specs.Ports.{is_among, names, of_first}
 use Rattle.hume_ports.specs.Delivery.{Pairs, Delivered, bytes_for}
 use Rattle.hume_ports.proofs.Names.{bytes_eq-self, same_name}
-use Rattle.port_acts.specs.Acts.{Act, wants, name_of, count_of, written, finished, finished_by, write_each, finish_each, FinishesLast}
-use Rattle.port_acts.specs.Early.{after_reads, names_read}
+use Rattle.port_acts.specs.Acts.{Act, wants, finishes, name_of, count_of, written, finished, finished_by, write_each, finish_each, FinishesLast}
+use Rattle.port_acts.specs.Early.{Reads, after_reads, names_read, read_each}
 use Rattle.port_acts.specs.Ends.{Fails, NoneRose, Owed, never}
 use Rattle.port_acts.proofs.ActLists.{written-append}
-use Rattle.port_acts.proofs.Each.{all_written, finishes_write_nothing, writes_finish_nothing, finishes_are_last}
+use Rattle.port_acts.proofs.Each.{all_written, finishes_write_nothing, writes_finish_nothing, finishes_are_last, reads_finish_nothing}
 use Rattle.port_acts.proofs.Failing.{failure_since, read_tells, finish_tells}
 use Rattle.hume_front.specs.declared.acceptance.Accepted.{Accepted}
 use Rattle.hume_front.specs.Accepted.{IsAccepted}
 use Rattle.phase_workers.specs.StreamTypes.{type_at}
 use Rattle.run_rounds.specs.Inputs.{Inputs}
 use Rattle.run_rounds.specs.Streams.{std_out, streams}
-use Rattle.run_rounds.specs.Writes.{writes, rounds_writes}
+use Rattle.run_rounds.specs.Members.{members_acts}
+use Rattle.run_rounds.specs.Writes.{writes, rounds_writes, told}
 use Rattle.run_rounds.specs.RunActs.{run_acts}
 use Rattle.hume_run.specs.declared.order.Order.{Order}
-use Rattle.hume_run.specs.declared.order.Order.TheVariants.{Run, Calc, Check, Demo}
+use Rattle.hume_run.specs.declared.order.Order.TheVariants.{Run, Calc, Log, Check, Union, Demo}
 use Rattle.hume_run.specs.declared.status.Status.{Status}
-use Rattle.hume_run.specs.Owed.{IsOwed, IsOwedScript, owed_check, owed_demo, owed_refused, owed_run, refused_line, table_writes, demo_writes, run_finishes}
+use Rattle.hume_run.specs.Owed.{IsOwed, IsOwedScript, owed_check, owed_demo, owed_program_refused, owed_record, owed_refused, owed_run, owed_union, owed_verify, program_refused_line, refused_line, table_writes, demo_writes, run_finishes}
 use Rattle.hume_run.specs.Streams.{unfit_line}
-use Rattle.hume_run.specs.Words.{Named, script_of, source_alone}
+use Rattle.hume_run.specs.Words.{Named, further_of, source_alone}
 use Rattle.hume_run.specs.Few.{call_few}
-use Rattle.hume_run.specs.Reading.{further_reads, script_text, source_reads}
+use Rattle.hume_run.specs.Reading.{read_first, reads_whole, script_text, source_reads}
+use Rattle.hume_run.specs.Unions.{program_members, union_core, union_table, union_texts}
 use Rattle.hume_run.specs.Headline.{OwesAlone}
 use Rattle.hume_run.specs.Faults.{FailedInput, ReadRose}
 use Rattle.hume_run.proofs.Answering.{WantsTell, wants_apart}
-use Rattle.hume_run.proofs.Wanting.{want_of_run, no_want_of_writes}
+use Rattle.log_rounds.specs.RecordActs.{record_acts}
+use Rattle.log_rounds.specs.Outcomes.{Outcome}
+use Rattle.log_rounds.specs.VerifyActs.{outcome_line, verify_acts, verify_reads}
+use Rattle.hume_run.proofs.Logging.{RecordReads, input_apart, record_reads}
+use Rattle.hume_run.proofs.Programs.{many_programs}
+use Rattle.hume_run.proofs.UnionWants.{members_finish_nothing, nothing_before, union_wants_apart, unwritten_before, whole_names}
+use Rattle.hume_run.proofs.Wanting.{split, want_of_run, no_want_of_writes}
 
 -- what a call writes
 
@@ -76,6 +84,13 @@ run_written runs core coming traced steps =
     nil [] = refl
     nil (pair ∷ pairs) = ap (λ (others : Pairs). pair ∷ others) (nil pairs)
 
+-- What is known of runs that are logged.
+pub record LogFacts : Type 0 where
+  pub record_finishes : (core : Core) (coming : Inputs) (log : List ℕ) (steps : ℕ) → finished (record_acts core coming log steps) ≡ []
+  pub verify_finishes : (core : Core) (coming : Inputs) (log : List ℕ) (steps : ℕ) (outcome : Outcome) → finished (verify_acts core coming log steps outcome) ≡ []
+  pub unwritten : (core : Core) (coming : Inputs) (log : List ℕ) (steps : ℕ) (outcome : Outcome) → written (verify_reads core coming log steps outcome) ≡ []
+  pub reads : RecordReads
+
 -- finishes come last
 
 run_finishes_last : RunsFinishNothing → (core : Core) (coming : Inputs) (traced : Bool) (steps : ℕ) → FinishesLast (owed_run traced steps core coming).acts
@@ -92,6 +107,27 @@ check_finishes_last core = finishes_are_last (write_each (table_writes core)) (s
 demo_finishes_last : (steps : ℕ) (core : Core) → FinishesLast (owed_demo steps core).acts
 demo_finishes_last steps core = finishes_are_last (write_each (demo_writes steps core)) (std_out ∷ []) (writes_finish_nothing (demo_writes steps core))
 
+-- finishes behind reads
+behind_reads : (reads : Reads) (acts : List Act) (names : List (List ℕ)) → finished acts ≡ [] → FinishesLast (read_each reads ++ (acts ++ finish_each names))
+behind_reads reads acts names none =
+    let nothing : finished (read_each reads ++ acts) ≡ [] =
+    flat_map-append finished_by (read_each reads) acts ∙ rw (reads_finish_nothing reads, none) refl in
+    subst FinishesLast (append_assoc (read_each reads) acts (finish_each names)) (finishes_are_last (read_each reads ++ acts) names nothing)
+
+union_finishes_last : RunsFinishNothing → (reads : Reads) (steps : ℕ) (sources : List (List ℕ)) (programs : List Accepted) (coming : Inputs)
+    → FinishesLast (read_each reads ++ (owed_union steps sources programs coming).acts)
+union_finishes_last none reads steps sources programs coming =
+    let core : Core = union_core programs in
+    let table : List Act = write_each (told (union_table sources programs)) in
+    let run : List Act = members_acts core (program_members sources programs 1) coming false steps in
+    let nothing : finished (table ++ run) ≡ [] =
+    flat_map-append finished_by table run ∙ rw (
+      writes_finish_nothing (told (union_table sources programs)),
+      members_finish_nothing core (program_members sources programs 1) coming false steps (none core coming false steps),
+    ) refl in
+    subst (λ (acts : List Act). FinishesLast (read_each reads ++ acts)) (append_assoc table run (finish_each (run_finishes core)))
+    (behind_reads reads (table ++ run) (run_finishes core) nothing)
+
 abbrev Last : Owed Status → Type 0
 Last owed = FinishesLast owed.acts
 
@@ -101,34 +137,45 @@ script_finishes_last none steps core lines source port names texts later (inl (r
 script_finishes_last none steps core lines source port names texts later (inr (new, made, within, fit, coming, are, same)) =
     subst Last (sym same) (run_finishes_last none new coming false steps)
 
-owed_finishes_last : RunsFinishNothing → (order : Order) (named : Named) (text : List ℕ) (names : List (List ℕ)) (texts : List ℕ → List ℕ) (owed : Owed Status)
+owed_finishes_last : RunsFinishNothing → LogFacts → (order : Order) (named : Named) (text : List ℕ) (names : List (List ℕ)) (texts : List ℕ → List ℕ) (owed : Owed Status)
     → IsOwed order named text names texts owed → Last owed
-owed_finishes_last none (Run steps workers place traced) named text names texts owed (inl (refusal, is, same)) = subst Last (sym same) (refl, tt)
-owed_finishes_last none (Run steps workers place traced) named text names texts owed (inr (accepted, is, fit, coming, are, same)) =
+owed_finishes_last none logs (Run steps workers place traced) named text names texts owed (inl (refusal, is, same)) = subst Last (sym same) (refl, tt)
+owed_finishes_last none logs (Run steps workers place traced) named text names texts owed (inr (accepted, is, fit, coming, are, same)) =
     subst Last (sym same) (run_finishes_last none accepted.core coming traced steps)
-owed_finishes_last none (Calc steps workers place script) named text names texts owed (inl (refusal, is, same)) = subst Last (sym same) (refl, tt)
-owed_finishes_last none (Calc steps workers place script) named text names texts owed (inr (sound, is, later, owes, same)) =
+owed_finishes_last none logs (Calc steps workers place script) named text names texts owed (inl (refusal, is, same)) = subst Last (sym same) (refl, tt)
+owed_finishes_last none logs (Calc steps workers place script) named text names texts owed (inr (sound, is, later, owes, same)) =
     subst Last (sym same)
-    (script_finishes_last none steps sound.core (script_text (texts (script_of named))) named.source (script_of named) names texts later owes)
-owed_finishes_last none (Check place) named text names texts owed (inl (refusal, is, same)) = subst Last (sym same) (refl, tt)
-owed_finishes_last none (Check place) named text names texts owed (inr (accepted, is, same)) = subst Last (sym same) (check_finishes_last accepted.core)
-owed_finishes_last none (Demo number steps workers) named text names texts owed (inl (refusal, is, same)) = subst Last (sym same) (refl, tt)
-owed_finishes_last none (Demo number steps workers) named text names texts owed (inr (accepted, is, same)) =
+    (script_finishes_last none steps sound.core (script_text (texts (further_of named))) named.source (further_of named) names texts later owes)
+owed_finishes_last none logs (Log steps place log verify) named text names texts owed (inl (refusal, is, same)) = subst Last (sym same) (refl, tt)
+owed_finishes_last none logs (Log steps place log false) named text names texts owed (inr (accepted, is, fit, coming, are, same)) =
+    subst Last (sym same) (finishes_are_last (record_acts accepted.core coming (further_of named) steps) (further_of named ∷ std_out ∷ [])
+    (logs.record_finishes accepted.core coming (further_of named) steps))
+owed_finishes_last none logs (Log steps place log true) named text names texts owed (inr (accepted, is, fit, coming, are, (outcome, held, same))) =
+    subst Last (sym same) (finishes_are_last (verify_acts accepted.core coming (further_of named) steps outcome) (std_out ∷ [])
+    (logs.verify_finishes accepted.core coming (further_of named) steps outcome))
+owed_finishes_last none logs (Check place) named text names texts owed (inl (refusal, is, same)) = subst Last (sym same) (refl, tt)
+owed_finishes_last none logs (Check place) named text names texts owed (inr (accepted, is, same)) = subst Last (sym same) (check_finishes_last accepted.core)
+owed_finishes_last none logs (Union steps workers count place) named text names texts owed (inl (refusal, is, same)) =
+    subst Last (sym same) (behind_reads (reads_whole named.others) (write_each ((std_out, program_refused_line refusal) ∷ [])) (std_out ∷ []) refl)
+owed_finishes_last none logs (Union steps workers count place) named text names texts owed (inr (programs, may, coming, are, same)) =
+    subst Last (sym same) (union_finishes_last none (reads_whole named.others) steps (named.source ∷ named.others) programs coming)
+owed_finishes_last none logs (Demo number steps workers) named text names texts owed (inl (refusal, is, same)) = subst Last (sym same) (refl, tt)
+owed_finishes_last none logs (Demo number steps workers) named text names texts owed (inr (accepted, is, same)) =
     subst Last (sym same) (demo_finishes_last steps accepted.core)
 
-pub all_was_written : RunsFinishNothing → (order : Order) (named : Named) (text : List ℕ) (names : List (List ℕ)) (texts : List ℕ → List ℕ)
+pub all_was_written : RunsFinishNothing → LogFacts → (order : Order) (named : Named) (text : List ℕ) (names : List (List ℕ)) (texts : List ℕ → List ℕ)
     (owed : Owed Status) (olds news : List PortView) → IsOwed order named text names texts owed
     → Fails (call_few order named text texts) [] (after_reads (source_reads named.source) owed).acts olds news
     → NoneRose (λ port. port.read_faults) olds news → NoneRose (λ port. port.write_faults) olds news → Delivered olds news (written owed.acts)
-all_was_written none order named text names texts owed olds news owes f no_read no_write =
+all_was_written none logs order named text names texts owed olds news owes f no_read no_write =
     finish_tells (call_few order named text texts) [] (after_reads (source_reads named.source) owed).acts olds news f no_read no_write
-    (owed_finishes_last none order named text names texts owed owes)
+    (owed_finishes_last none logs order named text names texts owed owes)
 
-pub all_was_written_alone : RunsFinishNothing → (order : Order) (owed : Owed Status) (olds news : List PortView) → OwesAlone order olds owed
+pub all_was_written_alone : RunsFinishNothing → LogFacts → (order : Order) (owed : Owed Status) (olds news : List PortView) → OwesAlone order olds owed
     → Fails never [] owed.acts olds news → NoneRose (λ port. port.read_faults) olds news → NoneRose (λ port. port.write_faults) olds news
     → Delivered olds news (written owed.acts)
-all_was_written_alone none order owed olds news owes f no_read no_write =
-    finish_tells never [] owed.acts olds news f no_read no_write (owed_finishes_last none order (source_alone []) [] (names olds) (λ name. []) owed owes)
+all_was_written_alone none logs order owed olds news owes f no_read no_write =
+    finish_tells never [] owed.acts olds news f no_read no_write (owed_finishes_last none logs order (source_alone []) [] (names olds) (λ name. []) owed owes)
 
 -- wants
 
@@ -167,27 +214,67 @@ script_apart tell steps core lines source port names texts later (inl (refusal, 
 script_apart tell steps core lines source port names texts later (inr (new, made, within, fit, coming, are, same)) =
     subst (WantsApart (source ∷ port ∷ [])) (sym same) (run_apart source (port ∷ []) new names fit false steps coming (tell new coming false steps))
 
--- what a call reads whole
-abbrev read_whole : Order → Named → List (List ℕ)
-read_whole order named = named.source ∷ names_read (further_reads order named)
+-- acts behind the reads of further sources
+behind_apart : (named : Named) (owed : Owed Status)
+    → ((before later : List Act) (name : List ℕ) (wanted : ℕ) → owed.acts ≡ before ++ wants name wanted ∷ later → is_among name (named.source ∷ named.others) ≡ false)
+    → WantsApart (named.source ∷ (names_read (reads_whole named.others) ++ [])) (after_reads (reads_whole named.others) owed)
+behind_apart named owed apart before later name wanted e = elim (split (read_each (reads_whole named.others)) owed.acts before (wants name wanted) later e) [
+  | inl here ↦ inr (unwritten_before (reads_whole named.others) before here.0 (wants name wanted) here.1)
+  | inr there ↦ inl (subst (λ (names : List (List ℕ)). is_among name (named.source ∷ names) ≡ false)
+      (sym (append-nil (names_read (reads_whole named.others)) ∙ whole_names named.others)) (apart there.0 later name wanted there.2))
+]
 
-owed_apart : AllWantsTell → (order : Order) (named : Named) (text : List ℕ) (names : List (List ℕ)) (texts : List ℕ → List ℕ) (owed : Owed Status)
-    → IsOwed order named text names texts owed → WantsApart (read_whole order named) owed
-owed_apart tell (Run steps workers place traced) named text names texts owed (inl (refusal, is, same)) =
+-- a log is verified before anything is written
+verify_apart : LogFacts → (whole : List (List ℕ)) (core : Core) (coming : Inputs) (log : List ℕ) (steps : ℕ) (outcome : Outcome)
+    → WantsApart whole (owed_verify steps core coming log outcome)
+verify_apart logs whole core coming log steps outcome before later name count e =
+    elim (split (verify_acts core coming log steps outcome) (finishes std_out ∷ []) before (wants name count) later e) [
+      | inl here ↦ elim (split (verify_reads core coming log steps outcome) (write_each ((std_out, outcome_line core coming steps outcome) ∷ [])) before
+          (wants name count) here.0 here.1) [
+            | inl read ↦ inr (nothing_before (written before) (written (wants name count ∷ read.0))
+                (sym (written-append before (wants name count ∷ read.0)) ∙ ap written (sym read.1) ∙ logs.unwritten core coming log steps outcome))
+            | inr told ↦ absurd (no_want_of_writes ((std_out, outcome_line core coming steps outcome) ∷ []) [] told.0 here.0 name count told.2)
+          ]
+      | inr last ↦ absurd (no_want_of_writes [] (std_out ∷ []) last.0 later name count last.2)
+    ]
+
+record_apart : LogFacts → (source log : List ℕ) (core : Core) (names : List (List ℕ)) → unfit_line names source (log ∷ []) (streams core) ≡ None
+    → (steps : ℕ) (coming : Inputs) → WantsApart (source ∷ []) (owed_record steps core coming log)
+record_apart logs source log core names fit steps coming before later name count e =
+    let apart = (input_apart core names source log fit name (record_reads logs.reads core coming log steps before later name count e)).0 in inl (rw apart refl)
+
+owed_apart : AllWantsTell → LogFacts → (order : Order) (named : Named) (text : List ℕ) (names : List (List ℕ)) (texts : List ℕ → List ℕ) (owed : Owed Status)
+    → IsOwed order named text names texts owed → WantsApart (read_first order named) owed
+owed_apart tell logs (Run steps workers place traced) named text names texts owed (inl (refusal, is, same)) =
     refused_apart (named.source ∷ []) owed refusal same
-owed_apart tell (Run steps workers place traced) named text names texts owed (inr (accepted, is, fit, coming, are, same)) =
+owed_apart tell logs (Run steps workers place traced) named text names texts owed (inr (accepted, is, fit, coming, are, same)) =
     subst (WantsApart (named.source ∷ [])) (sym same)
     (run_apart named.source [] accepted.core names fit traced steps coming (tell accepted.core coming traced steps))
-owed_apart tell (Calc steps workers place script) named text names texts owed (inl (refusal, is, same)) =
-    refused_apart (named.source ∷ script_of named ∷ []) owed refusal same
-owed_apart tell (Calc steps workers place script) named text names texts owed (inr (sound, is, later, owes, same)) =
-    script_first (script_of named) 65793 (named.source ∷ script_of named ∷ []) later owed same
-    (script_apart tell steps sound.core (script_text (texts (script_of named))) named.source (script_of named) names texts later owes)
-owed_apart tell (Check place) named text names texts owed (inl (refusal, is, same)) = refused_apart (named.source ∷ []) owed refusal same
-owed_apart tell (Check place) named text names texts owed (inr (accepted, is, same)) =
+owed_apart tell logs (Calc steps workers place script) named text names texts owed (inl (refusal, is, same)) =
+    refused_apart (named.source ∷ further_of named ∷ []) owed refusal same
+owed_apart tell logs (Calc steps workers place script) named text names texts owed (inr (sound, is, later, owes, same)) =
+    script_first (further_of named) 65793 (named.source ∷ further_of named ∷ []) later owed same
+    (script_apart tell steps sound.core (script_text (texts (further_of named))) named.source (further_of named) names texts later owes)
+owed_apart tell logs (Log steps place log verify) named text names texts owed (inl (refusal, is, same)) =
+    refused_apart (read_first (Log steps place log verify) named) owed refusal same
+owed_apart tell logs (Log steps place log false) named text names texts owed (inr (accepted, is, fit, coming, are, same)) =
+    subst (WantsApart (named.source ∷ [])) (sym same) (record_apart logs named.source (further_of named) accepted.core names fit steps coming)
+owed_apart tell logs (Log steps place log true) named text names texts owed (inr (accepted, is, fit, coming, are, (outcome, held, same))) =
+    subst (WantsApart (named.source ∷ further_of named ∷ [])) (sym same)
+    (verify_apart logs (named.source ∷ further_of named ∷ []) accepted.core coming (further_of named) steps outcome)
+owed_apart tell logs (Check place) named text names texts owed (inl (refusal, is, same)) = refused_apart (named.source ∷ []) owed refusal same
+owed_apart tell logs (Check place) named text names texts owed (inr (accepted, is, same)) =
     no_wants (named.source ∷ []) owed (table_writes accepted.core) (std_out ∷ []) (ap (λ (o : Owed Status). o.acts) same)
-owed_apart tell (Demo number steps workers) named text names texts owed (inl (refusal, is, same)) = refused_apart (named.source ∷ []) owed refusal same
-owed_apart tell (Demo number steps workers) named text names texts owed (inr (accepted, is, same)) =
+owed_apart tell logs (Union steps workers count place) named text names texts owed (inl (refusal, is, same)) =
+    subst (WantsApart (read_first (Union steps workers count place) named)) (sym same) (behind_apart named (owed_program_refused refusal)
+    (λ before later name wanted e. absurd (no_want_of_writes ((std_out, program_refused_line refusal) ∷ []) (std_out ∷ []) before later name wanted e)))
+owed_apart tell logs (Union steps workers count place) named text names texts owed (inr (programs, may, coming, are, same)) =
+    subst (WantsApart (read_first (Union steps workers count place) named)) (sym same)
+    (behind_apart named (owed_union steps (named.source ∷ named.others) programs coming)
+    (union_wants_apart names named.source named.others programs (many_programs named text texts programs may.accepted) (union_texts text named texts) may steps coming
+    (tell (union_core programs) coming false steps)))
+owed_apart tell logs (Demo number steps workers) named text names texts owed (inl (refusal, is, same)) = refused_apart (named.source ∷ []) owed refusal same
+owed_apart tell logs (Demo number steps workers) named text names texts owed (inr (accepted, is, same)) =
     no_wants (named.source ∷ []) owed (demo_writes steps accepted.core) (std_out ∷ []) (ap (λ (o : Owed Status). o.acts) same)
 
 -- A want behind the source's read: one of the owed acts.
@@ -217,19 +304,19 @@ HasRisen act olds news = Rose (of_first 0 (count_of act) (name_of act) olds) (of
 want_rose : (act : Act) (name : List ℕ) (count : ℕ) (olds news : List PortView) → act ≡ wants name count → HasRisen act olds news → ReadRose name olds news
 want_rose act name count olds news is rose = subst (λ (a : Act). HasRisen a olds news) is rose
 
-pub nothing_was_written : AllWantsTell → (order : Order) (named : Named) (text : List ℕ) (names : List (List ℕ)) (texts : List ℕ → List ℕ)
+pub nothing_was_written : AllWantsTell → LogFacts → (order : Order) (named : Named) (text : List ℕ) (names : List (List ℕ)) (texts : List ℕ → List ℕ)
     (owed : Owed Status) (olds news : List PortView) → IsOwed order named text names texts owed
     → Fails (call_few order named text texts) [] (after_reads (source_reads named.source) owed).acts olds news
     → NoneRose (λ port. port.write_faults) olds news → NoneRose (λ port. port.finish_faults) olds news
-    → ((name : List ℕ) → is_among name (named.source ∷ names_read (further_reads order named)) ≡ false → ReadRose name olds news → ⊥)
+    → ((name : List ℕ) → is_among name (read_first order named) ≡ false → ReadRose name olds news → ⊥)
     → Delivered olds news []
-nothing_was_written tell order named text names texts owed olds news owes f no_write no_finish only =
+nothing_was_written tell logs order named text names texts owed olds news owes f no_write no_finish only =
     let acts : List Act = (after_reads (source_reads named.source) owed).acts in
     let want = read_tells (call_few order named text texts) [] acts olds news f no_write no_finish in
     let rose = want_rose f.act want.0 want.1 olds news want.2 (failure_since (call_few order named text texts) [] acts olds news f).rose in
     let order_is : acts ≡ f.before ++ wants want.0 want.1 ∷ f.later = f.in_order ∙ ap (λ (act : Act). f.before ++ act ∷ f.later) want.2 in
     let places = first_or_behind named.source 262145 owed.acts f.before f.later want.0 want.1 order_is in
-    let apart = owed_apart tell order named text names texts owed owes in
+    let apart = owed_apart tell logs order named text names texts owed owes in
     let none : written f.before ≡ [] = places.1 (λ rest e. elim (apart rest f.later want.0 want.1 e) [
       | inl other ↦ absurd (only want.0 other rose)
       | inr wrote ↦ wrote

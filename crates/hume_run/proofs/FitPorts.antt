@@ -11,7 +11,7 @@ found_within name (first ∷ others) zero found = omega arith
 found_within name (first ∷ others) (suc at) found =
     let later = found_within name others at (place-suc (bytes_eq first name) (place_of name others) at found).1 in omega (arith, later)
 
-found_named : (name : List ℕ) (names : List (List ℕ)) (at : ℕ) → place_of name names ≡ Some at → name_at names at ≡ name
+pub found_named : (name : List ℕ) (names : List (List ℕ)) (at : ℕ) → place_of name names ≡ Some at → name_at names at ≡ name
 found_named name [] at found = cc
 found_named name (first ∷ others) zero found = same_name first name (place-zero (bytes_eq first name) (place_of name others) found)
 found_named name (first ∷ others) (suc at) found = found_named name others at (place-suc (bytes_eq first name) (place_of name others) at found).1
@@ -25,3 +25,7 @@ found_place name names at found =
       place = record { within = found_within name names at found; first = subst P (sym named) found };
       named = named;
     }
+
+-- by another copy of the name
+pub found_by : (copy name : List ℕ) (names : List (List ℕ)) (at : ℕ) → copy ≡ name → place_of copy names ≡ Some at → IsPlaceOf name names at
+found_by copy name names at same found = found_place name names at (subst (λ (n : List ℕ). place_of n names ≡ Some at) same found)

@@ -1,37 +1,39 @@
 -- The port of a script among the words.
-use Rattle.std.proofs.Common.{◌≡◌, ℕ, Bool, true, false, not, ◌&&◌, ◌||◌, List, [], ◌∷◌, Option, None, Some, IfSome, IsSome, IsTrue, if◌then◌else◌, codes, slice_index_or, refl, sym, ap, ◌∙◌, subst, inr}
+use Rattle.std.proofs.Common.{◌≡◌, ℕ, Bool, true, false, not, ◌&&◌, ◌||◌, List, [], ◌∷◌, Option, None, Some, IsTrue, if◌then◌else◌, codes, slice_index_or, refl, sym, subst, inr}
 use Rattle.std.specs.Bool.{⊤}
 use Rattle.std.specs.List.{list_any}
 use Rattle.std.specs.Option.{is_none}
 use Rattle.std.specs.Str.{bytes_eq}
-use Rattle.std.proofs.lemmas.Bool.{true≢false}
+use Rattle.std.proofs.Math.Dec.{leb}
+use Rattle.hume_base.specs.declared.limits.TheConstants.{MAX_SUPERSTEPS}
 use Rattle.hume_ports.specs.Ports.{place_of}
 use Rattle.hume_run.specs.declared.order.Order.{Order}
-use Rattle.hume_run.specs.declared.order.Order.TheVariants.{Run, Calc, Check, Demo}
+use Rattle.hume_run.specs.declared.order.Order.TheVariants.{Run, Calc, Log, Check, Union, Demo}
 use Rattle.hume_run.specs.Headline.{LacksPort}
-use Rattle.hume_run.specs.inner.Places.{script_place, source_place}
-use Rattle.hume_run.specs.Words.{Named, calc_of, demo_of, is_run, is_script, named_by, number_of, order_of, run_of, script_of, traced_of}
+use Rattle.hume_run.specs.Words.{Named, calc_of, demo_of, further_of, is_own, is_run, is_union, log_order, number_of, order_of, run_of, runs_of, traced_of, union_of, verify_of}
 
--- A script's port is the one further port, and isn't the source's.
-pub record NamesOneScript (named : Named) : Type 0 where
-  pub only : named.others ≡ script_of named ∷ []
-  pub apart : bytes_eq (script_of named) named.source ≡ false
+-- There is one further port, that of a script or of a log, and it isn't the source's.
+pub record NamesOneFurther (named : Named) : Type 0 where
+  pub only : named.others ≡ further_of named ∷ []
+  pub apart : bytes_eq (further_of named) named.source ≡ false
 
--- So it is of a call with a script.
-abbrev pub NamesScript : Order → Named → Type 0
-NamesScript (Run steps workers source traced) named = ⊤
-NamesScript (Calc steps workers source script) named = NamesOneScript named
-NamesScript (Check source) named = ⊤
-NamesScript (Demo number steps workers) named = ⊤
+-- So it is of a call with a script, and of one with a log.
+abbrev pub NamesFurther : Order → Named → Type 0
+NamesFurther (Run steps workers source traced) named = ⊤
+NamesFurther (Calc steps workers source script) named = NamesOneFurther named
+NamesFurther (Log steps source log verify) named = NamesOneFurther named
+NamesFurther (Check source) named = ⊤
+NamesFurther (Union steps workers count sources) named = ⊤
+NamesFurther (Demo number steps workers) named = ⊤
 
 neither : (a b : Bool) → not (a || b) ≡ true → a ≡ false
 neither true b is = cc
 neither false b is = refl
 
-script_apart : (source script : List ℕ) → is_script source script ≡ true → bytes_eq script source ≡ false
-script_apart source script is = neither (bytes_eq script source) _ is
+pub own_apart : (source script : List ℕ) → is_own source script ≡ true → bytes_eq script source ≡ false
+own_apart source script is = neither (bytes_eq script source) _ is
 
-both_hold : (run script : Bool) (order other : Order) → (if run && script then Some order else None) ≡ Some other → (script ≡ true) × (order ≡ other)
+pub both_hold : (run script : Bool) (order other : Order) → (if run && script then Some order else None) ≡ Some other → (script ≡ true) × (order ≡ other)
 both_hold true true order other is = (let same : order ≡ other = cc in (refl, same))
 both_hold true false order other is = cc
 both_hold false true order other is = cc
@@ -73,23 +75,50 @@ module _ (steps workers place at : ℕ) where
   no_demo (Some n) None w is = cc
   no_demo None s w is = cc
 
-  no_four : (test : Bool) (n s w : Option ℕ) (t : Option Bool) (a b : Option ℕ) → (if test then demo_of n s w else run_of t a b) ≡ Some order → ⊥
-  no_four true n s w t a b is = no_demo n s w is
-  no_four false n s w t a b is = no_run t a b is
+  log_apart : (s p q : ℕ) (v : Bool) → Log s p q v ≡ order → ⊥
+  log_apart s p q v is = cc
 
-  calc_is : (source script : List ℕ) (s w : Option ℕ) → calc_of source script s w ≡ Some order → (bytes_eq script source ≡ false) × ((3 ≡ place) × (4 ≡ at))
-  calc_is source script (Some s) (Some w) is =
-      let b = both_hold (is_run s w) (is_script source script) (Calc s w 3 4) order is in (
-        script_apart source script b.0,
+  no_log : (v : Bool) (s : Option ℕ) (source log : List ℕ) → log_order v s source log ≡ Some order → ⊥
+  no_log v (Some s) source log is = not_one (leb s MAX_SUPERSTEPS && is_own source log) (Log s 2 3 v) (log_apart s 2 3 v) is
+  no_log v None source log is = cc
+
+  no_runs : (v : Option Bool) (command first second third : List ℕ) → runs_of v command first second third ≡ Some order → ⊥
+  no_runs (Some v) command first second third is = no_log v (number_of first) second third is
+  no_runs None command first second third is = no_run (traced_of command) (number_of first) (number_of second) is
+
+  no_four : (test : Bool) (command first second third : List ℕ)
+      → (if test then demo_of (number_of first) (number_of second) (number_of third) else runs_of (verify_of command) command first second third) ≡ Some order → ⊥
+  no_four true command first second third is = no_demo (number_of first) (number_of second) (number_of third) is
+  no_four false command first second third is = no_runs (verify_of command) command first second third is
+
+  union_apart : (s w c p : ℕ) → Union s w c p ≡ order → ⊥
+  union_apart s w c p is = cc
+
+  no_union : (s w c : Option ℕ) (words : List (List ℕ)) → union_of s w c words ≡ Some order → ⊥
+  no_union (Some s) (Some w) (Some c) words is = not_one (is_run s w && is_union c words) (Union s w c 4) (union_apart s w c 4) is
+  no_union (Some s) (Some w) None words is = cc
+  no_union (Some s) None c words is = cc
+  no_union None w c words is = cc
+
+  calc_is : (s w : Option ℕ) (source script : List ℕ) (ports : List (List ℕ)) → calc_of s w source (script ∷ ports) ≡ Some order
+      → (bytes_eq script source ≡ false) × ((3 ≡ place) × (4 ≡ at))
+  calc_is (Some s) (Some w) source script ports is =
+      let b = both_hold (is_run s w) (is_own source script) (Calc s w 3 4) order is in (
+        own_apart source script b.0,
         (same_source s w 3 4 steps workers place at b.1, same_script s w 3 4 steps workers place at b.1),
       )
-  calc_is source script (Some s) None is = cc
-  calc_is source script None w is = cc
+  calc_is (Some s) None source script ports is = cc
+  calc_is None w source script ports is = cc
 
-  five_is : (test : Bool) (source script : List ℕ) (s w : Option ℕ) (t : Option Bool) (a b : Option ℕ)
-      → (if test then calc_of source script s w else run_of t a b) ≡ Some order → (bytes_eq script source ≡ false) × ((3 ≡ place) × (4 ≡ at))
-  five_is true source script s w t a b is = calc_is source script s w is
-  five_is false source script s w t a b is = absurd (no_run t a b is)
+  more_is : (calc union : Bool) (command first second third next : List ℕ) (ports : List (List ℕ))
+      → (if calc then calc_of (number_of first) (number_of second) third (next ∷ ports)
+      else if union then union_of (number_of first) (number_of second) (number_of third) (next ∷ ports)
+      else runs_of (verify_of command) command first second third) ≡ Some order
+      → (bytes_eq next third ≡ false) × ((3 ≡ place) × (4 ≡ at))
+  more_is true union command first second third next ports is = calc_is (number_of first) (number_of second) third next ports is
+  more_is false true command first second third next ports is =
+      absurd (no_union (number_of first) (number_of second) (number_of third) (next ∷ ports) is)
+  more_is false false command first second third next ports is = absurd (no_runs (verify_of command) command first second third is)
 
   abbrev Apart : List (List ℕ) → Type 0
   Apart words = bytes_eq (slice_index_or words at []) (slice_index_or words place []) ≡ false
@@ -101,17 +130,11 @@ module _ (steps workers place at : ℕ) where
   words_apart (a ∷ b ∷ []) is = absurd (no_check (bytes_eq a (codes "check")) is)
   words_apart (a ∷ b ∷ c ∷ []) is = cc
   words_apart (a ∷ b ∷ c ∷ d ∷ []) is =
-      absurd (no_four (bytes_eq a (codes "demo")) (number_of b) (number_of c) (number_of d) (traced_of a) (number_of b) (number_of c) is)
+      absurd (no_four (bytes_eq a (codes "demo")) a b c d is)
   words_apart (a ∷ b ∷ c ∷ d ∷ e ∷ words) is =
-      let f = five_is (bytes_eq a (codes "calc")) d e (number_of b) (number_of c) (traced_of a) (number_of b) (number_of c) is in
+      let f = more_is (bytes_eq a (codes "calc")) (bytes_eq a (codes "union")) a b c d e words is in
       subst (λ (n : ℕ). bytes_eq (slice_index_or (a ∷ b ∷ c ∷ d ∷ e ∷ words) n []) (slice_index_or (a ∷ b ∷ c ∷ d ∷ e ∷ words) place []) ≡ false) f.1.1
       (subst (λ (n : ℕ). bytes_eq e (slice_index_or (a ∷ b ∷ c ∷ d ∷ e ∷ words) n []) ≡ false) f.1.0 f.0)
-
-pub calls_name_scripts : (words : List (List ℕ)) (order : Order) → order_of words ≡ Some order → IfSome (named_by words order) (NamesScript order)
-calls_name_scripts words (Run steps workers source traced) is = tt
-calls_name_scripts words (Check source) is = tt
-calls_name_scripts words (Demo number steps workers) is = tt
-calls_name_scripts words (Calc steps workers source script) is = record { only = refl; apart = words_apart steps workers source script words is }
 
 -- a further port that isn't missing is there
 
@@ -119,19 +142,8 @@ all_there : (none : Bool) → (IsTrue (none || false) → ⊥) → none ≡ fals
 all_there true lacks = absurd (lacks refl)
 all_there false lacks = refl
 
-pub script_there : (named : Named) (names : List (List ℕ)) → NamesOneScript named → (LacksPort names named → ⊥)
-    → is_none (place_of (script_of named) names) ≡ false
-script_there named names its there =
-    all_there (is_none (place_of (script_of named) names))
+pub further_there : (named : Named) (names : List (List ℕ)) → NamesOneFurther named → (LacksPort names named → ⊥)
+    → is_none (place_of (further_of named) names) ≡ false
+further_there named names its there =
+    all_there (is_none (place_of (further_of named) names))
     (λ lacks. there (inr (subst (λ (others : List (List ℕ)). IsTrue (list_any (λ name. is_none (place_of name names)) others)) (sym its.only) lacks)))
-
--- orders that name a source alone
-
-pub no_script : (order : Order) (steps workers source script : ℕ) → order ≡ Calc steps workers source script → script_place order ≡ None → ⊥
-no_script order steps workers source script is none = some_or_none script (sym (ap script_place is) ∙ none)
-  where
-    some_or_none : (place : ℕ) → ◌≡◌ {A = Option ℕ} (Some place) None → ⊥
-    some_or_none place is = cc
-
-pub some_source : (order : Order) (number steps workers : ℕ) → order ≡ Demo number steps workers → IsSome (source_place order) → ⊥
-some_source other number steps workers is some = true≢false (sym (subst (λ (o : Order). IsSome (source_place o)) is some))

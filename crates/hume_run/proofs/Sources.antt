@@ -18,11 +18,13 @@ kept count len buf rest text is whole =
     is ∙ ap (take count) all
 
 -- no more is kept than the buffer holds
+pub source_short : (most : ℕ) (olds : List PortView) (at count : ℕ) (buf text : List ℕ) → text ≡ take count buf → length buf ≡ most
+    → ForNameAt at olds (λ name. IfSome (left_of name olds) (λ bytes. take count buf ≡ take (length buf) bytes)) → length text ≤ most
+source_short most olds at count buf text is long front = let n = length-take count buf in let same = ap length is in omega (arith, n, same, long)
+
 pub kept_whole : (most : ℕ) (olds : List PortView) (at count : ℕ) (buf text : List ℕ) → text ≡ take count buf → length buf ≡ most
     → ForNameAt at olds (λ name. IfSome (left_of name olds) (λ bytes. take count buf ≡ take (length buf) bytes)) → take most text ≡ text
-kept_whole most olds at count buf text is long front =
-    let few : length (take count buf) ≤ most = let n = length-take count buf in omega (arith, n, long) in
-    take_all most text (subst (λ (all : List ℕ). length all ≤ most) (sym is) few)
+kept_whole most olds at count buf text is long front = take_all most text (source_short most olds at count buf text is long front)
 
 pub source_made : (most : ℕ) (olds news : List PortView) (at count : ℕ) (buf text : List ℕ) → text ≡ take count buf
     → ForNameAt at olds (λ name. Progress olds news ((name, take count buf) ∷ []) []) → ForNameAt at olds (λ name. Untouched (name ∷ []) olds news)

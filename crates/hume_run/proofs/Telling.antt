@@ -13,7 +13,8 @@ use Rattle.port_acts.proofs.Failing.{Fails-stop, Ends-on}
 use Rattle.run_rounds.specs.Streams.{std_out}
 use Rattle.trace_print.specs.table.Table.{space_table}
 use Rattle.hume_run.specs.declared.status.Status.TheVariants.{Done, Refused, Fault}
-use Rattle.hume_run.specs.Owed.{owed_refused, owed_check, refused_line, table_writes}
+use Rattle.hume_run.specs.declared.program_refusal.ProgramRefusal.{ProgramRefusal}
+use Rattle.hume_run.specs.Owed.{owed_program_refused, owed_refused, owed_check, program_refused_line, refused_line, table_writes}
 use Rattle.hume_run.specs.inner.Ended.{EndsOwed}
 use Rattle.hume_run.proofs.Answering.{meant}
 
@@ -29,6 +30,20 @@ module _ (olds : List PortView) (out : ℕ) (place : IsPlaceOf std_out (names ol
   pub refusal_failed : (news : List PortView) (refusal : Refusal) (line : List ℕ) → line ≡ refused_line refusal
       → ForNameAt out olds (λ name. Fails never [] (writes name line ∷ finishes name ∷ []) olds news) → EndsOwed (owed_refused refusal) olds news Fault
   refusal_failed news refusal line is fails =
+      let P : List ℕ → Type 0 = λ bytes. Fails never [] (writes std_out bytes ∷ finishes std_out ∷ []) olds news in
+      inr (inr (refl, subst P is (fails std_out (meant std_out (names olds) out place))))
+
+  -- that of one of several programs
+
+  pub program_told : (news : List PortView) (refusal : ProgramRefusal) (line : List ℕ) → line ≡ program_refused_line refusal
+      → ForNameAt out olds (λ name. Made (writes name line ∷ finishes name ∷ []) [] olds news) → EndsOwed (owed_program_refused refusal) olds news Refused
+  program_told news refusal line is made =
+      let P : List ℕ → Type 0 = λ bytes. Made (writes std_out bytes ∷ finishes std_out ∷ []) [] olds news in
+      inr (inl (refl, [], subst P is (made std_out (meant std_out (names olds) out place))))
+
+  pub program_failed : (news : List PortView) (refusal : ProgramRefusal) (line : List ℕ) → line ≡ program_refused_line refusal
+      → ForNameAt out olds (λ name. Fails never [] (writes name line ∷ finishes name ∷ []) olds news) → EndsOwed (owed_program_refused refusal) olds news Fault
+  program_failed news refusal line is fails =
       let P : List ℕ → Type 0 = λ bytes. Fails never [] (writes std_out bytes ∷ finishes std_out ∷ []) olds news in
       inr (inr (refl, subst P is (fails std_out (meant std_out (names olds) out place))))
 

@@ -63,7 +63,7 @@ each_among names (pair ∷ pairs) all name among = elim (cases_Bool (bytes_eq na
   | inr isnt ↦ each_among names pairs all.1 name (rw isnt at among)
 ]
 
-right_true : (a b : Bool) → b ≡ true → (a || b) ≡ true
+pub right_true : (a b : Bool) → b ≡ true → (a || b) ≡ true
 right_true true b is = refl
 right_true false b is = is
 
@@ -71,7 +71,7 @@ left_true : (a b : Bool) → a ≡ true → (a || b) ≡ true
 left_true true b is = refl
 left_true false b is = cc
 
-first_among : (name : List ℕ) (names : List (List ℕ)) → is_among name (name ∷ names) ≡ true
+pub first_among : (name : List ℕ) (names : List (List ℕ)) → is_among name (name ∷ names) ≡ true
 first_among name names = left_true (bytes_eq name name) (is_among name names) (bytes_eq-self name)
 
 module _ (core : Core) where
@@ -103,7 +103,7 @@ module _ (core : Core) where
   outputs_among (To other ∷ nodes) (suc n) stream at =
       right_true (bytes_eq stream.port other.port) (is_among stream.port (ports_of (filter_map output_of nodes))) (outputs_among nodes n stream at)
 
-  inputs_among : (nodes : List NodeC) (n : ℕ) (stream : StreamC) → slice_get nodes n ≡ Some (From stream)
+  pub inputs_among : (nodes : List NodeC) (n : ℕ) (stream : StreamC) → slice_get nodes n ≡ Some (From stream)
       → is_among stream.port (ports_of (filter_map input_of nodes)) ≡ true
   inputs_among [] n stream at = cc
   inputs_among (Rules b ∷ nodes) zero stream at = cc
@@ -169,7 +169,7 @@ module _ (core : Core) where
 
   -- what is read is an input stream's port
 
-  among_want : (acts : List Act) (name : List ℕ) → is_among name (wanted acts) ≡ true
+  pub among_want : (acts : List Act) (name : List ℕ) → is_among name (wanted acts) ≡ true
       → (before : List Act) × (count : ℕ) × (later : List Act) × (acts ≡ before ++ wants name count ∷ later)
   among_want [] name among = cc
   among_want (wants other count ∷ acts) name among = elim (cases_Bool (bytes_eq name other)) [
@@ -195,7 +195,7 @@ module _ (core : Core) where
 
   -- finishes
 
-  all_finished : (names : List (List ℕ)) → finished (finish_each names) ≡ names
+  pub all_finished : (names : List (List ℕ)) → finished (finish_each names) ≡ names
   all_finished [] = refl
   all_finished (name ∷ names) = ap (λ (others : List (List ℕ)). name ∷ others) (all_finished names)
 

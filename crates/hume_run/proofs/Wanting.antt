@@ -6,6 +6,7 @@ use Rattle.std.specs.Str.{bytes_eq}
 use Rattle.std.proofs.lemmas.Bool.{or_parts}
 use Rattle.std.proofs.lemmas.Grind.{flat_map-append}
 use Rattle.std.proofs.lemmas.List.Folds.{list_any-append}
+use Rattle.hume_model.specs.declared.core_tree.BoxC.{BoxC}
 use Rattle.hume_model.specs.declared.core_tree.NodeC.{NodeC}
 use Rattle.hume_model.specs.declared.core_tree.NodeC.TheVariants.{Rules, From, To}
 use Rattle.hume_model.specs.declared.core_tree.StreamC.{StreamC}
@@ -146,6 +147,38 @@ module _ (names : List (List ℕ)) (source : List ℕ) where
       let f = fit_first (is_unfit names source earlier other.port) other.line
       (unfit_line names source (earlier ++ other.port ∷ []) (filter_map stream_of nodes)) fit in
       fewer stream.port earlier (other.port ∷ []) (apart_from_earlier nodes (earlier ++ other.port ∷ []) f.1 n stream at)
+
+  -- and none of any stream is
+  no_stream : (b : BoxC) (node : NodeC) (stream : StreamC) → Rules b ≡ node → stream_of node ≡ Some stream → ⊥
+  no_stream b node stream same is = let none : ◌≡◌ {A = Option StreamC} None (Some stream) = ap stream_of same ∙ is in cc
+
+  its_stream : (node other : NodeC) (stream first : StreamC) → node ≡ other → stream_of node ≡ Some first → stream_of other ≡ Some stream → first ≡ stream
+  its_stream node other stream first same has is =
+      let both : ◌≡◌ {A = Option StreamC} (Some first) (Some stream) = sym has ∙ ap stream_of same ∙ is in cc
+
+  pub stream_apart : (nodes : List NodeC) (earlier : List (List ℕ)) → unfit_line names source earlier (filter_map stream_of nodes) ≡ None → (n : ℕ)
+      (node : NodeC) (stream : StreamC) → slice_get nodes n ≡ Some node → stream_of node ≡ Some stream → is_among stream.port earlier ≡ false
+  stream_apart [] earlier fit n node stream at is = cc
+  stream_apart (Rules b ∷ nodes) earlier fit zero node stream at is = let same : Rules b ≡ node = cc in absurd (no_stream b node stream same is)
+  stream_apart (Rules b ∷ nodes) earlier fit (suc n) node stream at is = stream_apart nodes earlier fit n node stream at is
+  stream_apart (To other ∷ nodes) earlier fit zero node stream at is =
+      let f = fit_first (is_unfit names source earlier other.port) other.line
+      (unfit_line names source (earlier ++ other.port ∷ []) (filter_map stream_of nodes)) fit in
+      let same : To other ≡ node = cc in
+      subst (λ (s : StreamC). is_among s.port earlier ≡ false) (its_stream (To other) node stream other same refl is) (not_earlier earlier other.port f.0)
+  stream_apart (To other ∷ nodes) earlier fit (suc n) node stream at is =
+      let f = fit_first (is_unfit names source earlier other.port) other.line
+      (unfit_line names source (earlier ++ other.port ∷ []) (filter_map stream_of nodes)) fit in
+      fewer stream.port earlier (other.port ∷ []) (stream_apart nodes (earlier ++ other.port ∷ []) f.1 n node stream at is)
+  stream_apart (From other ∷ nodes) earlier fit zero node stream at is =
+      let f = fit_first (is_unfit names source earlier other.port) other.line
+      (unfit_line names source (earlier ++ other.port ∷ []) (filter_map stream_of nodes)) fit in
+      let same : From other ≡ node = cc in
+      subst (λ (s : StreamC). is_among s.port earlier ≡ false) (its_stream (From other) node stream other same refl is) (not_earlier earlier other.port f.0)
+  stream_apart (From other ∷ nodes) earlier fit (suc n) node stream at is =
+      let f = fit_first (is_unfit names source earlier other.port) other.line
+      (unfit_line names source (earlier ++ other.port ∷ []) (filter_map stream_of nodes)) fit in
+      fewer stream.port earlier (other.port ∷ []) (stream_apart nodes (earlier ++ other.port ∷ []) f.1 n node stream at is)
 
   -- so no input stream's is the source's
   pub apart_from_source : (nodes : List NodeC) (earlier : List (List ℕ)) → unfit_line names source earlier (filter_map stream_of nodes) ≡ None → (n : ℕ)

@@ -3,6 +3,7 @@ pub mod Words
 pub mod Reading
 pub mod Streams
 pub mod Calc
+pub mod Unions
 pub mod Owed
 pub mod Few
 pub mod Headline

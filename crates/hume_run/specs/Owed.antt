@@ -1,5 +1,5 @@
 -- What a call owes once it has read its source: acts, in order, and its answer.
-use Rattle.std.specs.Prelude.{◌≡◌, ◌⊎◌, ℕ, Bool, false, List, [], ◌∷◌, ◌++◌, map, Option, None, Some, Ok, codes, decimal}
+use Rattle.std.specs.Prelude.{◌≡◌, ◌⊎◌, ℕ, Bool, true, false, List, [], ◌∷◌, ◌++◌, map, Option, None, Some, Ok, codes, decimal}
 use Rattle.hume_base.specs.declared.rule.Refusal.{Refusal}
 use Rattle.hume_base.specs.declared.rule.Rule.TheVariants.{C55}
 use Rattle.hume_base.specs.Rules.{code_of}
@@ -7,8 +7,8 @@ use Rattle.hume_model.specs.declared.core_tree.Core.{Core}
 use Rattle.hume_ports.specs.Ports.{other_names}
 use Rattle.hume_ports.specs.Delivery.{Pairs}
 use Rattle.port_acts.specs.Acts.{writes, finishes, write_each, finish_each}
+use Rattle.port_acts.specs.Early.{Reads, after_reads}
 use Rattle.port_acts.specs.Ends.{Owed}
-use Rattle.port_acts.specs.Early.{after_reads}
 use Rattle.hume_front.specs.declared.acceptance.Accepted.{Accepted}
 use Rattle.hume_front.specs.declared.acceptance.Sound.{Sound}
 use Rattle.hume_front.specs.Accepted.{IsAccepted, IsSound, Breaks, BreaksSoundness}
@@ -17,27 +17,36 @@ use Rattle.box_costs.specs.CostRules.{BreaksCosts}
 use Rattle.box_calculus.specs.Scripts.{scripted}
 use Rattle.run_rounds.specs.Streams.{std_out, streams, outputs, ports_of}
 use Rattle.run_rounds.specs.Inputs.{Inputs, AreInputs}
-use Rattle.run_rounds.specs.Writes.{span_of, blocked_round}
+use Rattle.run_rounds.specs.Writes.{span_of, blocked_round, told}
 use Rattle.run_rounds.specs.RunActs.{run_acts}
+use Rattle.run_rounds.specs.Members.{members_acts}
+use Rattle.log_rounds.specs.declared.verdict.Verdict.{Verdict}
+use Rattle.log_rounds.specs.declared.verdict.Verdict.TheVariants.{Holds, Fails, Blocked}
+use Rattle.log_rounds.specs.Supersteps.{blocked_superstep}
+use Rattle.log_rounds.specs.RecordActs.{record_acts}
+use Rattle.log_rounds.specs.Outcomes.{Outcome, IsOutcome, verdict_of}
+use Rattle.log_rounds.specs.VerifyActs.{verify_acts}
 use Rattle.demo_rounds.specs.Chains.{demo_lines}
 use Rattle.trace_print.specs.table.Table.{space_table, total_line_of}
 use Rattle.demo_net.specs.Source.{demo_text}
 use Rattle.hume_run.specs.declared.status.Status.{Status}
-use Rattle.hume_run.specs.declared.status.Status.TheVariants.{Done, Refused, BadValue}
+use Rattle.hume_run.specs.declared.status.Status.TheVariants.{Done, Refused, BadValue, LogFails}
 use Rattle.hume_run.specs.declared.order.Order.{Order}
-use Rattle.hume_run.specs.declared.order.Order.TheVariants.{Run, Calc, Check, Demo}
-use Rattle.hume_run.specs.Words.{Named, script_of}
-use Rattle.hume_run.specs.Reading.{script_text, script_reads}
+use Rattle.hume_run.specs.declared.order.Order.TheVariants.{Run, Calc, Log, Check, Union, Demo}
+use Rattle.hume_run.specs.Words.{Named, further_of}
+use Rattle.hume_run.specs.declared.program_refusal.ProgramRefusal.{ProgramRefusal}
+use Rattle.hume_run.specs.Reading.{reads_whole, script_text, script_reads}
 use Rattle.hume_run.specs.Calc.{IsScriptRefusal}
 use Rattle.hume_run.specs.Streams.{unfit_line}
+use Rattle.hume_run.specs.Unions.{IsUnionRefusal, MayUnite, program_members, union_core, union_table, union_texts}
 
 -- refusals
 
--- The source isn't accepted for this rule, or a stream's port is unfit.
-pub data IsRefusal (text : List ℕ) (names : List (List ℕ)) (source : List ℕ) : Refusal → Type 0 where
-  broken : (refusal : Refusal) → Breaks text refusal → IsRefusal text names source refusal
-  unfit : (accepted : Accepted) → IsAccepted text accepted → (line : ℕ) → unfit_line names source [] (streams accepted.core) ≡ Some line
-      → IsRefusal text names source (record { rule = C55; line = line })
+-- The source isn't accepted for this rule, or a stream's port is unfit. No stream may have one of the other ports.
+pub data IsRefusal (text : List ℕ) (names : List (List ℕ)) (source : List ℕ) (others : List (List ℕ)) : Refusal → Type 0 where
+  broken : (refusal : Refusal) → Breaks text refusal → IsRefusal text names source others refusal
+  unfit : (accepted : Accepted) → IsAccepted text accepted → (line : ℕ) → unfit_line names source others (streams accepted.core) ≡ Some line
+      → IsRefusal text names source others (record { rule = C55; line = line })
 
 -- refused CODE line LINE
 abbrev pub refused_line : Refusal → List ℕ
@@ -75,6 +84,34 @@ owed_run traced steps core coming = record {
   answer = run_status (blocked_round core coming (span_of traced) steps);
 }
 
+-- a run that is logged
+
+-- a recorded run writes its log, and finishes the log's port and `std_out`
+abbrev pub owed_record : ℕ → Core → Inputs → List ℕ → Owed Status
+owed_record steps core coming log = record {
+  acts = record_acts core coming log steps ++ finish_each (log ∷ std_out ∷ []);
+  answer = run_status (blocked_superstep core coming steps);
+}
+
+-- the answer by what comes of a log
+abbrev pub verdict_status : Verdict → Status
+verdict_status Holds = Done
+verdict_status Fails = LogFails
+verdict_status Blocked = BadValue
+
+-- a log is read and compared, and then one line is written to `std_out`, which is finished
+abbrev pub owed_verify : ℕ → Core → Inputs → List ℕ → Outcome → Owed Status
+owed_verify steps core coming log outcome = record {
+  acts = verify_acts core coming log steps outcome ++ finishes std_out ∷ [];
+  answer = verdict_status (verdict_of outcome);
+}
+
+-- What is owed by what comes to the run, and, where the log is compared, by what comes of its text.
+abbrev pub IsOwedLogged : Bool → ℕ → Core → Inputs → List ℕ → List ℕ → Owed Status → Type 0
+IsOwedLogged false steps core coming log text owed = owed ≡ owed_record steps core coming log
+IsOwedLogged true steps core coming log text owed =
+    (outcome : Outcome) × IsOutcome core coming steps text outcome × (owed ≡ owed_verify steps core coming log outcome)
+
 -- a demo
 
 -- a demo tells the bounds of all boxes together, and then the total of each chain
@@ -85,12 +122,30 @@ demo_writes steps core = map (λ line. (std_out, line)) (total_line_of core ∷ 
 abbrev pub owed_demo : ℕ → Core → Owed Status
 owed_demo steps core = record { acts = write_each (demo_writes steps core) ++ finishes std_out ∷ []; answer = Done }
 
+-- a union
+
+-- program NUMBER refused CODE line LINE
+abbrev pub program_refused_line : ProgramRefusal → List ℕ
+program_refused_line refusal = codes "program " ++ decimal refusal.program ++ codes " " ++ refused_line refusal.refusal
+
+-- of several programs one is refused
+abbrev pub owed_program_refused : ProgramRefusal → Owed Status
+owed_program_refused refusal = record { acts = writes std_out (program_refused_line refusal) ∷ finishes std_out ∷ []; answer = Refused }
+
+-- a union writes the table, makes the acts that its inputs give, and finishes as a run does
+abbrev pub owed_union : ℕ → List (List ℕ) → List Accepted → Inputs → Owed Status
+owed_union steps sources programs coming = record {
+  acts = write_each (told (union_table sources programs))
+      ++ (members_acts (union_core programs) (program_members sources programs 1) coming false steps ++ finish_each (run_finishes (union_core programs)));
+  answer = run_status (blocked_round (union_core programs) coming (span_of false) steps);
+}
+
 -- what the words ask for
 
 -- What a run of the source of that text owes, over ports of these names of which each has that text to read.
 abbrev pub IsOwedRun : Bool → ℕ → List ℕ → List ℕ → List (List ℕ) → (List ℕ → List ℕ) → Owed Status → Type 0
 IsOwedRun traced steps source text names texts owed =
-    ((refusal : Refusal) × IsRefusal text names source refusal × (owed ≡ owed_refused refusal))
+    ((refusal : Refusal) × IsRefusal text names source [] refusal × (owed ≡ owed_refused refusal))
     ⊎ ((accepted : Accepted) × IsAccepted text accepted × (unfit_line names source [] (streams accepted.core) ≡ None)
     × (coming : Inputs) × AreInputs accepted.core texts coming × (owed ≡ owed_run traced steps accepted.core coming))
 
@@ -109,6 +164,21 @@ IsOwedCalc steps source script text names texts owed =
     ⊎ ((sound : Sound) × IsSound text sound × (later : Owed Status)
     × IsOwedScript steps sound.core (script_text (texts script)) source script names texts later × (owed ≡ after_reads (script_reads script) later))
 
+-- What a union owes behind the reads of its further sources, whose texts are all known. Their ports have these names, and each port
+-- has that text to read.
+abbrev pub IsOwedUnion : Reads → ℕ → List (List ℕ) → List (List ℕ) → List (List ℕ) → (List ℕ → List ℕ) → Owed Status → Type 0
+IsOwedUnion further steps sources texts names each owed =
+    ((refusal : ProgramRefusal) × IsUnionRefusal names sources texts refusal × (owed ≡ after_reads further (owed_program_refused refusal)))
+    ⊎ ((programs : List Accepted) × MayUnite names sources texts programs
+    × (coming : Inputs) × AreInputs (union_core programs) each coming × (owed ≡ after_reads further (owed_union steps sources programs coming)))
+
+-- What a run of the source of that text owes which is logged. No stream may have the log's port.
+abbrev pub IsOwedLog : Bool → ℕ → List ℕ → List ℕ → List ℕ → List (List ℕ) → (List ℕ → List ℕ) → Owed Status → Type 0
+IsOwedLog verify steps source log text names texts owed =
+    ((refusal : Refusal) × IsRefusal text names source (log ∷ []) refusal × (owed ≡ owed_refused refusal))
+    ⊎ ((accepted : Accepted) × IsAccepted text accepted × (unfit_line names source (log ∷ []) (streams accepted.core) ≡ None)
+    × (coming : Inputs) × AreInputs accepted.core texts coming × IsOwedLogged verify steps accepted.core coming log (texts log) owed)
+
 -- What a check of the source of that text owes.
 abbrev pub IsOwedCheck : List ℕ → Owed Status → Type 0
 IsOwedCheck text owed =
@@ -124,6 +194,9 @@ IsOwedDemo number steps owed =
 -- What a call owes that the words ask for. A demo asks for nothing of a port.
 abbrev pub IsOwed : Order → Named → List ℕ → List (List ℕ) → (List ℕ → List ℕ) → Owed Status → Type 0
 IsOwed (Run steps workers place traced) named text names texts owed = IsOwedRun traced steps named.source text names texts owed
-IsOwed (Calc steps workers place script) named text names texts owed = IsOwedCalc steps named.source (script_of named) text names texts owed
+IsOwed (Calc steps workers place script) named text names texts owed = IsOwedCalc steps named.source (further_of named) text names texts owed
+IsOwed (Log steps place log verify) named text names texts owed = IsOwedLog verify steps named.source (further_of named) text names texts owed
 IsOwed (Check place) named text names texts owed = IsOwedCheck text owed
+IsOwed (Union steps workers count place) named text names texts owed =
+    IsOwedUnion (reads_whole named.others) steps (named.source ∷ named.others) (union_texts text named texts) names texts owed
 IsOwed (Demo number steps workers) named text names texts owed = IsOwedDemo number steps owed

@@ -1,7 +1,7 @@
 -- The numbers of the answers.
 use Rattle.std.specs.Prelude.{ℕ}
 use Rattle.hume_run.specs.declared.status.Status.{Status}
-use Rattle.hume_run.specs.declared.status.Status.TheVariants.{Done, Usage, Refused, BadValue, Fault, NoMemory}
+use Rattle.hume_run.specs.declared.status.Status.TheVariants.{Done, Usage, Refused, BadValue, Fault, NoMemory, LogFails}
 
 -- the number with which a program ends
 abbrev pub number_of_status : Status → ℕ
@@ -11,3 +11,4 @@ number_of_status Refused = 2
 number_of_status BadValue = 3
 number_of_status Fault = 4
 number_of_status NoMemory = 5
+number_of_status LogFails = 6

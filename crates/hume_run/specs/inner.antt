@@ -3,4 +3,8 @@ pub mod Ready
 pub mod Places
 pub mod FoundPlaces
 pub mod Ended
+pub mod Texts
+pub mod LogEnds
 pub mod Opening
+pub mod UnionReads
+pub mod UnionEnds

@@ -21,7 +21,7 @@ ghost use Rattle.port_acts.specs.Places.{IsPlaceOf};
 ghost use Rattle.run_rounds.specs.Streams.{std_out};
 ghost use Rattle.hume_run.specs.declared.order.Order.TheVariants.{Calc};
 ghost use Rattle.hume_run.specs.Words.{source_with};
-ghost use Rattle.hume_run.specs.inner.Ended.{EndsScript, EndsText, IsScriptAt};
+ghost use Rattle.hume_run.specs.inner.Ended.{EndsScript, EndsText, IsFurtherAt};
 
 use crate::calc::refusals::{end_script, end_unsound, new_costs};
 use crate::refuse::refuse;
@@ -57,7 +57,7 @@ pub fn calc_text<R: Threads + Sync, G: Gate>(
     gate: &G,
 ) -> Status
     requires workers { workers ≤ MAX_WORKERS }
-    requires script { IsScriptAt (source_with source.now (map string_bytes others.now)) (names (map view ports.old)) at }
+    requires script { IsFurtherAt (source_with source.now (map string_bytes others.now)) (names (map view ports.old)) at }
     requires out { IsPlaceOf std_out (names (map view ports.old)) out }
     ensures { (place script : ℕ) → EndsText (Calc steps workers place script) (source_with source.now (map string_bytes others.now)) text.now
         (map view ports.old) (map view ports.new) result }

@@ -1,5 +1,5 @@
 //! Laws of the definitions, as contracts of functions that do nothing.
-ghost use Rattle.std.specs.Prelude.{◌≡◌, ◌⊎◌, ◌++◌, ◌∷◌, [], ℕ, Bool, List, None, Some, IsSomeAnd, false, true, slice_get};
+ghost use Rattle.std.specs.Prelude.{◌≡◌, ◌↔◌, ◌⊎◌, ◌-◌, ◌++◌, ◌∷◌, [], ℕ, Bool, List, None, Some, IsSomeAnd, false, true, slice_get};
 ghost use Rattle.std.specs.Str.{bytes_eq};
 ghost use Rattle.hume_base.specs.declared.rule.Refusal.{Refusal};
 ghost use Rattle.hume_model.specs.declared.core_tree.BoxC.{BoxC};
@@ -12,28 +12,38 @@ ghost use Rattle.box_costs.specs.Bounds.{box_bound};
 ghost use Rattle.net_costs.specs.Steps.{step_spent};
 ghost use Rattle.hume_ports.specs.Port.{PortView};
 ghost use Rattle.hume_ports.specs.Ports.{is_among, names, place_of};
-ghost use Rattle.hume_ports.specs.Delivery.{Delivered, names_in};
+ghost use Rattle.hume_ports.specs.Delivery.{Delivered, bytes_for, names_in};
 ghost use Rattle.port_acts.specs.Acts.{finished, wanted, written};
-ghost use Rattle.port_acts.specs.Early.{after_reads, names_read};
+ghost use Rattle.port_acts.specs.Early.{after_reads};
 ghost use Rattle.port_acts.specs.Ends.{Fails, NoneRose, Owed, bytes_of, never};
 ghost use Rattle.hume_front.specs.declared.acceptance.Accepted.{Accepted};
 ghost use Rattle.hume_front.specs.Accepted.{IsAccepted};
 ghost use Rattle.run_rounds.specs.Inputs.{Inputs, AreInputs};
 ghost use Rattle.run_rounds.specs.Streams.{inputs, ports_of, std_out, streams};
 ghost use Rattle.run_rounds.specs.Writes.{writes};
+ghost use Rattle.run_log.specs.Logs.{log_of};
+ghost use Rattle.log_rounds.specs.Supersteps.{blocked_superstep};
+ghost use Rattle.log_rounds.specs.RecordActs.{record_acts};
+ghost use Rattle.log_rounds.specs.Outcomes.{Outcome};
+ghost use Rattle.log_rounds.specs.VerifyActs.{outcome_line};
 ghost use Rattle.hume_run.specs.declared.order.Order.{Order};
 ghost use Rattle.hume_run.specs.declared.order.Order.TheVariants.{Run};
 ghost use Rattle.hume_run.specs.declared.status.Status.{Status};
-ghost use Rattle.hume_run.specs.declared.status.Status.TheVariants.{Usage, NoMemory};
+ghost use Rattle.hume_run.specs.declared.status.Status.TheVariants.{Done, Usage, BadValue, NoMemory, LogFails};
 ghost use Rattle.hume_run.specs.Streams.{unfit_line};
+ghost use Rattle.hume_run.specs.Owed.{IsOwedLogged, owed_record, owed_verify};
 ghost use Rattle.hume_run.specs.Owed.{IsOwed, owed_refused, owed_check, owed_demo, owed_run, demo_writes, refused_line, run_finishes, table_writes};
 ghost use Rattle.hume_run.specs.Few.{call_few};
-ghost use Rattle.hume_run.specs.Reading.{further_reads, source_reads};
+ghost use Rattle.hume_run.specs.Reading.{read_first, source_reads};
 ghost use Rattle.hume_run.specs.Headline.{Headline, LacksPort, OwesAlone};
 ghost use Rattle.hume_run.specs.Words.{Named, named_by, order_of};
 ghost use Rattle.hume_run.specs.Calls.{GivesOwed, HaveRoom, HaveSameTexts, IsThrough};
 ghost use Rattle.hume_run.specs.Faults.{FailedInput, HasFault, HasFaultAlone, ReadRose};
 
+use log_rounds::{
+    each_log_has_one_outcome, logged_runs_read_their_ports, logs_hold_exactly, records_are_logs,
+    verified_runs_tell_one_line,
+};
 use run_rounds::{
     each_run_has_inputs, inputs_are_unique, inputs_have_types, runs_write_their_lines,
     wants_stand_before_rounds,
@@ -59,6 +69,7 @@ pub fn each_call_owes_one_thing()
 {
     each_run_has_inputs();
     inputs_are_unique();
+    each_log_has_one_outcome();
 }
 
 /// A call over ports that have room for what it owes gives the owed answer and writes all of it, unless memory runs out.
@@ -68,6 +79,7 @@ pub fn calls_with_room_are_answered()
         → (status ≡ NoMemory) ⊎ GivesOwed order (named_by words order) old new status }
 {
     each_run_has_inputs();
+    each_log_has_one_outcome();
 }
 
 /// Two calls of the same words, over ports of the same names and with the same texts, that come to their ends give the same answer,
@@ -79,18 +91,48 @@ pub fn equal_calls_end_alike()
         → (status ≡ other) × ((name had : List ℕ) → bytes_of name old ≡ Some had → bytes_of name others ≡ Some had → bytes_of name new ≡ bytes_of name later) }
 {
     inputs_are_unique();
+    each_log_has_one_outcome();
 }
 
-/// A refused call writes its one line, a check the table, a run the table and then what its inputs give, and a demo the bounds of all
-/// boxes together and its chains.
+/// A refused call writes its one line, a check the table, a run the table and then what its inputs give, a recorded run its log or as
+/// much of it as its inputs allow, a verified log one line, and a demo the bounds of all boxes together and its chains.
 pub fn calls_write_their_lines()
     ensures refused { (refusal : Refusal) → written (owed_refused refusal).acts ≡ (std_out, refused_line refusal) ∷ [] }
     ensures check { (core : Core) → written (owed_check core).acts ≡ table_writes core }
     ensures demo { (core : Core) (steps : ℕ) → written (owed_demo steps core).acts ≡ demo_writes steps core }
     ensures run { (core : Core) (coming : Inputs) (traced : Bool) (steps : ℕ)
         → written (owed_run traced steps core coming).acts ≡ table_writes core ++ writes core coming traced steps }
+    ensures record { (core : Core) (coming : Inputs) (steps : ℕ) (log : List ℕ)
+        → written (owed_record steps core coming log).acts ≡ written (record_acts core coming log steps) }
+    ensures verify { (core : Core) (coming : Inputs) (steps : ℕ) (log : List ℕ) (outcome : Outcome)
+        → written (owed_verify steps core coming log outcome).acts ≡ (std_out, outcome_line core coming steps outcome) ∷ [] }
 {
     runs_write_their_lines();
+    records_are_logs();
+    verified_runs_tell_one_line();
+}
+
+/// A recorded run that no bad line blocks writes the log of the run to the log's port, and is Done. A log whose run isn't
+/// blocked is answered with Done exactly where its bytes are the log of the run, and else with LogFails. A bad line is told exactly where
+/// the log is right up to the superstep that it blocks.
+pub fn logs_are_those_of_their_runs()
+    ensures recorded { (core : Core) (coming : Inputs) (steps : ℕ) (log : List ℕ) → bytes_eq log std_out ≡ false
+        → blocked_superstep core coming steps ≡ None
+        → (bytes_for log (written (owed_record steps core coming log).acts) ≡ log_of core coming.good steps)
+        × ((owed_record steps core coming log).answer ≡ Done) }
+    ensures holds { (core : Core) (coming : Inputs) (steps : ℕ) (log text : List ℕ) (owed : Owed Status)
+        → IsOwedLogged true steps core coming log text owed → blocked_superstep core coming steps ≡ None
+        → (owed.answer ≡ Done) ↔ (text ≡ log_of core coming.good steps) }
+    ensures fails { (core : Core) (coming : Inputs) (steps : ℕ) (log text : List ℕ) (owed : Owed Status)
+        → IsOwedLogged true steps core coming log text owed → blocked_superstep core coming steps ≡ None
+        → (owed.answer ≡ LogFails) ↔ (text ≡ log_of core coming.good steps → ⊥) }
+    ensures blocked { (core : Core) (coming : Inputs) (steps : ℕ) (log text : List ℕ) (owed : Owed Status)
+        → IsOwedLogged true steps core coming log text owed
+        → (owed.answer ≡ BadValue) ↔ ((superstep : ℕ) × (blocked_superstep core coming steps ≡ Some superstep)
+        × (rest : List ℕ) × (text ≡ log_of core coming.good (superstep - 1) ++ rest)) }
+{
+    records_are_logs();
+    logs_hold_exactly();
 }
 
 /// A run reads ports of input streams, writes to `std_out` and to ports of output streams, and finishes each of those.
@@ -105,6 +147,25 @@ pub fn runs_touch_their_ports()
     wants_stand_before_rounds();
 }
 
+/// A recorded run reads ports of input streams, and writes to the log's port and `std_out`, both of which it finishes. A log is verified by
+/// reads of its port and of ports of input streams, and nothing but `std_out` is written to or finished.
+pub fn logged_runs_touch_their_ports()
+    ensures record_reads { (core : Core) (coming : Inputs) (steps : ℕ) (log name : List ℕ)
+        → is_among name (wanted (owed_record steps core coming log).acts) ≡ true → is_among name (ports_of (inputs core)) ≡ true }
+    ensures record_writes { (core : Core) (coming : Inputs) (steps : ℕ) (log name : List ℕ)
+        → is_among name (names_in (written (owed_record steps core coming log).acts)) ≡ true → is_among name (log ∷ std_out ∷ []) ≡ true }
+    ensures record_finishes { (core : Core) (coming : Inputs) (steps : ℕ) (log : List ℕ)
+        → finished (owed_record steps core coming log).acts ≡ log ∷ std_out ∷ [] }
+    ensures verify_reads { (core : Core) (coming : Inputs) (steps : ℕ) (log name : List ℕ) (outcome : Outcome)
+        → is_among name (wanted (owed_verify steps core coming log outcome).acts) ≡ true → is_among name (log ∷ ports_of (inputs core)) ≡ true }
+    ensures verify_finishes { (core : Core) (coming : Inputs) (steps : ℕ) (log : List ℕ) (outcome : Outcome)
+        → finished (owed_verify steps core coming log outcome).acts ≡ std_out ∷ [] }
+{
+    records_are_logs();
+    verified_runs_tell_one_line();
+    logged_runs_read_their_ports();
+}
+
 /// A fault comes only where a count of one of the call's ports rose. That of a call without a source comes where a write count or a
 /// finish count rose.
 pub fn faults_come_from_their_ports()
@@ -113,8 +174,8 @@ pub fn faults_come_from_their_ports()
     ensures alone { (owed : Owed Status) (old new : List PortView) → Fails never [] owed.acts old new → HasFaultAlone owed old new }
 {}
 
-/// A fault where only finish counts rose came when all was written. One where only read counts of the source's port and of others that
-/// are read whole rose came when nothing was written.
+/// A fault where only finish counts rose came when all was written. One where only read counts of the source's port, of others that
+/// are read whole and of a log that is compared rose came when nothing was written.
 pub fn faults_tell_what_was_written()
     ensures finishes { (order : Order) (named : Named) (text : List ℕ) (names : List (List ℕ)) (texts : List ℕ → List ℕ) (owed : Owed Status) (old new : List PortView)
         → IsOwed order named text names texts owed
@@ -124,13 +185,16 @@ pub fn faults_tell_what_was_written()
         → IsOwed order named text names texts owed
         → Fails (call_few order named text texts) [] (after_reads (source_reads named.source) owed).acts old new
         → NoneRose (λ port. port.write_faults) old new → NoneRose (λ port. port.finish_faults) old new
-        → ((name : List ℕ) → is_among name (named.source ∷ names_read (further_reads order named)) ≡ false → ReadRose name old new → ⊥)
+        → ((name : List ℕ) → is_among name (read_first order named) ≡ false → ReadRose name old new → ⊥)
         → Delivered old new [] }
     ensures alone { (order : Order) (owed : Owed Status) (old new : List PortView) → OwesAlone order old owed → Fails never [] owed.acts old new
         → NoneRose (λ port. port.read_faults) old new → NoneRose (λ port. port.write_faults) old new → Delivered old new (written owed.acts) }
 {
     runs_write_their_lines();
     wants_stand_before_rounds();
+    records_are_logs();
+    verified_runs_tell_one_line();
+    logged_runs_read_their_ports();
 }
 
 /// A fault of a run where only read counts rose, and not that of the source's port, came before a round, when exactly the rounds

@@ -11,7 +11,8 @@
 //! (`equal_calls_end_alike`). A fault comes from one of those ports or the source's (`faults_come_from_their_ports`), and tells by
 //! the counts that rose how far the call had come (`faults_tell_what_was_written`, `failed_inputs_tell_their_round`). Each execute
 //! step of a box in a run of an accepted source takes at most the heap, stack and work that the table gives it
-//! (`runs_keep_bounds`).
+//! (`runs_keep_bounds`). A recorded run writes the log of its run, and of a log that is verified Done is answered exactly where its
+//! bytes are that log (`logs_are_those_of_their_runs`).
 //!
 //! It knows ports, words and what is owed to them. It doesn't know files, command lines or exit statuses.
 #![tactic(auto)]
@@ -21,20 +22,27 @@ mod check;
 mod demo;
 mod laws;
 mod lines;
+mod log;
 mod order;
+mod program_refusal;
 mod refuse;
 mod run;
 mod source;
 mod status;
 mod top;
-mod words;
+mod union;
+pub mod words;
 
 pub use laws::{
     calls_with_room_are_answered, calls_write_their_lines, each_call_owes_one_thing,
     equal_calls_end_alike, failed_inputs_tell_their_round, faults_come_from_their_ports,
-    faults_tell_what_was_written, runs_keep_bounds, runs_touch_their_ports,
+    faults_tell_what_was_written, logged_runs_touch_their_ports, logs_are_those_of_their_runs,
+    runs_keep_bounds, runs_touch_their_ports,
 };
+pub use lines::refused_line;
 pub use order::Order;
+pub use run::{PlacesError, find_places};
+pub use source::{SourceError, read_source};
 pub use status::Status;
 pub use top::hume;
 pub use words::read_words;

@@ -19,9 +19,26 @@ pub enum Order {
         source: u32,
         script: u32,
     },
+    /// Run the source for `steps` supersteps, and write its log to the log's port or compare it with what that port has. The words at the
+    /// places `source` and `log` name both ports.
+    Log {
+        steps: u32,
+        source: u32,
+        log: u32,
+        /// Whether the log is compared, and not written.
+        verify: bool,
+    },
     /// Say whether the source whose port is named by the word at that place is accepted.
     Check {
         source: u32,
+    },
+    /// Run the sources whose ports are named by `count` words from the place `sources` on as one net, for `steps` supersteps, on
+    /// `workers` workers.
+    Union {
+        steps: u32,
+        workers: u32,
+        count: u32,
+        sources: u32,
     },
     /// Show the net of `demo` that is made for `number`, by `steps` supersteps, on `workers` workers.
     Demo {
@@ -32,14 +49,16 @@ pub enum Order {
 }
 
 impl Order {
-    /// The place of the word that names the source's port. A demo has none.
+    /// The place of the word that names the source's port, or the first of several. A demo has none.
     pub fn source(&self) -> Option<u32>
         ensures { result ≡ source_place self.now }
     {
         match self {
             Order::Run { source, .. } => Some(*source),
             Order::Calc { source, .. } => Some(*source),
+            Order::Log { source, .. } => Some(*source),
             Order::Check { source } => Some(*source),
+            Order::Union { sources, .. } => Some(*sources),
             Order::Demo { .. } => None,
         }
     }

@@ -7,7 +7,7 @@
 //! It knows a source's text and the ports. It doesn't know the words of the call.
 mod finishes;
 mod making;
-mod opening;
+pub(crate) mod opening;
 pub(crate) mod ready;
 pub(crate) mod streams;
 
@@ -27,7 +27,6 @@ use crate::refuse::{end_unaccepted, refuse};
 use crate::run::making::run_opened;
 use crate::run::opening::open;
 use crate::run::ready::Ready;
-use crate::run::streams::{PlacesError, find_places};
 use crate::status::Status;
 use hume_base::{Refusal, Rule};
 use hume_front::{Accepted, accept};
@@ -35,6 +34,7 @@ use hume_ports::Port;
 use run_rounds::wants_stand_before_rounds;
 use std::alloc::Global;
 use std::thread::Threads;
+pub use streams::{PlacesError, find_places};
 use turn_workers::Gate;
 
 /// Runs a source of that text for `steps` supersteps on `workers` workers. `out` is the place of `std_out`, and `source` the name of the
@@ -88,7 +88,7 @@ pub(crate) fn unfit_at(line: u32) -> Refusal
 }
 
 // An accepted source is ready to run.
-fn made_ready(accepted: Accepted) -> Ready
+pub(crate) fn made_ready(accepted: Accepted) -> Ready
     requires { (text : List ℕ) × IsAccepted text accepted }
     ensures ready { IsReady result }
     ensures core { result.core ≡ accepted.core }

@@ -1,4 +1,5 @@
-ghost use Rattle.std.specs.Prelude.{◌≡◌, ◌<◌, [], ◌∷◌, length, map, take, IfOk, IfSome, IsErrOf};
+ghost use Rattle.std.specs.Prelude.{◌≡◌, ◌<◌, ◌≤◌, ◌+◌, [], ◌∷◌, length, map, take, IfOk, IfSome, IsErrOf};
+ghost use Rattle.hume_base.specs.declared.limits.TheConstants.{MAX_SOURCE_BYTES as MAX};
 ghost use Rattle.hume_ports.specs.Ports.{names, left_of, ForNameAt};
 ghost use Rattle.port_acts.specs.Early.{read_each};
 ghost use Rattle.port_acts.specs.Ends.{Made, Fails};
@@ -31,6 +32,7 @@ pub fn read_source(
         Made (read_each (source_reads name)) ((name, text.items) ∷ []) (map view ports.old) (map view ports.new))) }
     ensures text { IfOk result (λ text. ForNameAt at (map view ports.old) (λ name.
         IfSome (left_of name (map view ports.old)) (λ left. text.items ≡ source_text left))) }
+    ensures short { IfOk result (λ text. length text.items ≤ MAX + 1) }
     ensures failed { IsErrOf result SourceError.Failed → ForNameAt at (map view ports.old) (λ name.
         Fails (source_few name) [] (read_each (source_reads name)) (map view ports.old) (map view ports.new)) }
     ensures memory { IsErrOf result SourceError.NoMemory → map view ports.new ≡ map view ports.old }
@@ -72,6 +74,7 @@ fn read_whole(
     ensures text { IfOk result (λ text. ForNameAt at (map view ports.old) (λ name.
         IfSome (left_of name (map view ports.old)) (λ left. text.items ≡ take most left))) }
     ensures whole { IfOk result (λ text. take most text.items ≡ text.items) }
+    ensures short { IfOk result (λ text. length text.items ≤ most) }
     ensures failed { IsErrOf result SourceError.Failed → ForNameAt at (map view ports.old) (λ name.
         Fails (source_few name) [] (read_each ((name, most) ∷ [])) (map view ports.old) (map view ports.new)) }
     ensures memory { IsErrOf result SourceError.NoMemory → map view ports.new ≡ map view ports.old }

@@ -16,6 +16,8 @@ pub enum Status {
     Fault,
     /// Memory was refused before anything was written.
     NoMemory,
+    /// A log isn't that of its run.
+    LogFails,
 }
 
 impl Status {
@@ -30,6 +32,7 @@ impl Status {
             Status::BadValue => 3,
             Status::Fault => 4,
             Status::NoMemory => 5,
+            Status::LogFails => 6,
         }
     }
 }

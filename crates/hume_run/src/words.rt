@@ -5,7 +5,7 @@
 //! Proved: it gives the order of the words, and none where they are of no form.
 //!
 //! It knows words and numbers in them. It doesn't know what an order owes.
-mod numbers;
+pub mod numbers;
 mod reading;
 
 pub use reading::read_words;

@@ -26,7 +26,7 @@ use Rattle.hume_run.specs.declared.order.Order.{Order}
 use Rattle.hume_front.specs.Accepted.{Breaks, BreaksSoundness}
 use Rattle.hume_run.specs.Owed.{IsOwed, IsOwedDemo, owed_refused, owed_run}
 use Rattle.hume_run.specs.Few.{call_few}
-use Rattle.hume_run.specs.Words.{Named, script_of}
+use Rattle.hume_run.specs.Words.{Named, further_of}
 use Rattle.hume_run.specs.Reading.{further_reads}
 use Rattle.hume_run.specs.Headline.{IsText}
 
@@ -92,8 +92,8 @@ pub data EndsScript (steps : ℕ) (core : Core) (lines source port : List ℕ) (
       → unfit_line (names old) source (port ∷ []) (streams made) ≡ None → RunsCore false steps made old new status
       → EndsScript steps core lines source port old new status
 
--- The call names one further port, that of a script, which stands at the place and isn't the source's.
-pub record IsScriptAt (named : Named) (names : List (List ℕ)) (at : ℕ) : Type 0 where
-  pub only : named.others ≡ script_of named ∷ []
-  pub place : IsPlaceOf (script_of named) names at
-  pub apart : bytes_eq (script_of named) named.source ≡ false
+-- The call names one further port, which stands at the place and isn't the source's.
+pub record IsFurtherAt (named : Named) (names : List (List ℕ)) (at : ℕ) : Type 0 where
+  pub only : named.others ≡ further_of named ∷ []
+  pub place : IsPlaceOf (further_of named) names at
+  pub apart : bytes_eq (further_of named) named.source ≡ false

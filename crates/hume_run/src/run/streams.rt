@@ -101,8 +101,8 @@ fn is_word(words: &[String], port: &[u8]) -> bool
     false
 }
 
-// Whether one of the nodes is a stream that names the port.
-fn is_named(nodes: &[NodeC], port: &[u8]) -> bool
+/// Whether one of the nodes is a stream that names the port.
+pub fn is_named(nodes: &[NodeC], port: &[u8]) -> bool
     ensures { result ≡ is_among port.now (ports_of (filter_map stream_of nodes.now)) }
 {
     for node in nodes {

@@ -1,6 +1,6 @@
 use Rattle.std.proofs.Common.{arith, sym}
 use Rattle.std.proofs.lemmas.Bool.{true≢false}
-use Rattle.hume_run.proofs.Sources.{kept, kept_whole, source_made, source_is, source_failed}
+use Rattle.hume_run.proofs.Sources.{kept, kept_whole, source_made, source_is, source_short, source_failed}
 use Rattle.hume_run.proofs.source.read_whole.Goals as goal
 
 pub returns-in-Ok-fill_at-clause-made : goal.returns-in-Ok-fill_at-clause-made
@@ -15,6 +15,11 @@ returns-in-Ok-fill_at-clause-text g c =
 pub returns-in-Ok-fill_at-clause-whole : goal.returns-in-Ok-fill_at-clause-whole
 returns-in-Ok-fill_at-clause-whole g c =
     kept_whole c.args.most _ _ _ _ _ (kept _ _ _ _ _ c.truncate.ensures.items (omega (arith, c.in-Ok.ensures.len)))
+    (omega (arith, c.in-Ok.ensures.len)) c.in-Ok-fill_at.ensures.front
+
+pub returns-in-Ok-fill_at-clause-short : goal.returns-in-Ok-fill_at-clause-short
+returns-in-Ok-fill_at-clause-short g c =
+    source_short c.args.most _ _ _ _ _ (kept _ _ _ _ _ c.truncate.ensures.items (omega (arith, c.in-Ok.ensures.len)))
     (omega (arith, c.in-Ok.ensures.len)) c.in-Ok-fill_at.ensures.front
 
 pub returns-in-Err-clause-failed : goal.returns-in-Err-clause-failed

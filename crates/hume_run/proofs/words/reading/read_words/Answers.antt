@@ -1,5 +1,6 @@
-use Rattle.std.proofs.Common.{rules, sym, ap, ◌∙◌}
-use Rattle.hume_run.specs.Words.{five_of, four_of}
+use Rattle.std.proofs.Common.{rules, sym, ap, ◌∙◌, length, drop, map, string_bytes, take, ◌-◌, arith}
+use Rattle.hume_run.specs.Words.{four_of, more_of}
+use Rattle.hume_run.proofs.UnionSources.{take_rest}
 use Rattle.hume_run.proofs.Forms.{check_if, four_words, more_words, three_words, two_words}
 use Rattle.hume_run.proofs.words.reading.read_words.Goals as goal
 
@@ -20,9 +21,10 @@ returns-in-len4-clause-order c =
     (search rules) (search rules) c.command-item-then-words-lt5.is c.first-item.is c.second-item.is c.third-item.is
     ∙ (λ i. four_of (sym c.deref.ensures i) (sym c.deref-in-len4.ensures i) (sym c.deref-in-len4-2.ensures i) (sym c.deref-in-len4-3.ensures i)))
 
-pub returns-in-len5-up-clause-order : goal.returns-in-len5-up-clause-order
-returns-in-len5-up-clause-order c =
-    c.five_of.ensures.order ∙ sym (more_words _ c.args.words.now c.command-item-2.result c.first-item-2.result c.second-item-2.result c.source-item.result
-    c.next-item.result (search rules) c.command-item-2.is c.first-item-2.is c.second-item-2.is c.source-item.is c.next-item.is
-    ∙ (λ i. five_of (sym c.deref-in-len5-up.ensures i) (sym c.deref-in-len5-up-2.ensures i) (sym c.deref-in-len5-up-3.ensures i)
-    (sym c.deref-in-len5-up-4.ensures i) (sym c.deref-in-len5-up-5.ensures i)))
+pub returns-in-len4-up-clause-order : goal.returns-in-len4-up-clause-order
+returns-in-len4-up-clause-order c =
+    c.more_of.ensures.order ∙ sym (more_words _ c.args.words.now c.command-item-2.result c.first-item-2.result c.second-item-2.result c.third-item-2.result
+    (take (length c.args.words.now - 4) (drop 4 c.args.words.now)) (search rules) c.command-item-2.is c.first-item-2.is c.second-item-2.is c.third-item-2.is
+    (take_rest 4 (length c.args.words.now - 4) c.args.words.now (omega arith))
+    ∙ (λ i. more_of (sym c.deref-in-len4-up.ensures i) (sym c.deref-in-len4-up-2.ensures i) (sym c.deref-in-len4-up-3.ensures i)
+    (sym c.deref-in-len4-up-4.ensures i) (map string_bytes (take (length c.args.words.now - 4) (drop 4 c.args.words.now)))))
