@@ -1,9 +1,11 @@
 #!/usr/bin/env bash
-# threads.sh [TOOL]: times a superstep of nets of 8, 50 and 200 boxes, whose half steps take some 0.1, 1, 10 and 100 microseconds, by
+# threads.sh [TOOL [unions]]: times a superstep of nets of 8, 50 and 200 boxes, whose half steps take some 0.1, 1, 10 and 100 microseconds, by
 # `TOOL run` (by default the program of dist/) with 1, 2, 4 and 8 workers, and beside it the same net in C with a barrier behind each half
 # superstep (threads.c, pthreads, gcc -O2) with as many threads. All are timed in turn, least of CALLS calls (5), and the time of few
 # supersteps is taken off. `lost` says how many times longer so many workers take than one worker divided by the number of workers that
 # have a processor: 1.0 is a whole gain, and the number of workers none. Before anything is timed, wires are compared with the C program's.
+# At the end, or alone with `unions`: a superstep of a union of eight nets of 24 boxes beside eight times one of a net alone, by one
+# worker, and beside four times one of a net alone, by four.
 set -eu
 here=$(dirname -- "$(readlink -f -- "${BASH_SOURCE[0]}")")
 tool=$(readlink -f -- "${1:-$here/../dist/hume-x86_64-linux}")
@@ -58,6 +60,30 @@ last = sys.stdin.read().rpartition("step ")[2].splitlines()
 print(sum(int(line.split()[-1]) for line in last if line.startswith("wire")) % 2**64)'
 }
 
+# unions: the table of unions
+unions() {
+    local doublings supersteps one eight four four_eight words=(q1 q2 q3 q4 q5 q6 q7 q8)
+    echo '| half step | one net, one worker | union of eight | by eight nets alone | one net, four workers | union of eight | by four nets in turn |'
+    echo '|---|---|---|---|---|---|---|'
+    for row in '2 40000' '5 20000' '9 2000'; do
+        read -r doublings supersteps <<<"$row"
+        source_of 24 "$doublings" >p
+        for word in "${words[@]}"; do cp p "$word"; done
+        one=$(seconds_of $((supersteps / 20)) $((supersteps + supersteps / 20)) "$tool" run @ 1 p)
+        eight=$(seconds_of $((supersteps / 160)) $((supersteps / 8 + supersteps / 160)) "$tool" union @ 1 8 "${words[@]}")
+        four=$(seconds_of $((supersteps / 20)) $((supersteps + supersteps / 20)) "$tool" run @ 4 p)
+        four_eight=$(seconds_of $((supersteps / 160)) $((supersteps / 8 + supersteps / 160)) "$tool" union @ 4 8 "${words[@]}")
+        awk -v one="$one" -v eight="$eight" -v four="$four" -v four_eight="$four_eight" 'BEGIN {
+            printf "| %.2f us | %.2f us | %.2f us | %.2f | %.2f us | %.2f us | %.2f |\n", one / 24 * 1e6, one * 1e6, eight * 1e6,
+                eight / one / 8, four * 1e6, four_eight * 1e6, four_eight / four / 4 }'
+    done
+}
+
+if [ "${2:-}" = unions ]; then
+    unions
+    exit
+fi
+
 for boxes in 8 50; do
     source_of $boxes 3 >p
     "$tool" trace 20 2 p | sum >found
@@ -87,3 +113,6 @@ for boxes in 8 50 200; do
         done
     done
 done
+
+echo
+unions
