@@ -1,0 +1,9 @@
+pub mod Endings
+pub mod Words
+pub mod Commands
+pub mod Session
+pub mod Hands
+pub mod Courses
+pub mod Serving
+pub mod Headline
+pub mod inner

@@ -1,0 +1,13 @@
+pub mod CommandBuffers
+pub mod Placed
+pub mod Standing
+pub mod Exchanging
+pub mod Stepping
+pub mod Answering
+pub mod Lines
+pub mod Opening
+pub mod Begun
+pub mod Closing
+pub mod Prepared
+pub mod Bounds
+pub mod Asked
