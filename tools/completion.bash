@@ -17,7 +17,7 @@ _hume_files() {
 _hume() {
     local word=${COMP_WORDS[COMP_CWORD]} kind='' ports=''
     if ((COMP_CWORD == 1)); then
-        mapfile -t COMPREPLY < <(compgen -W 'check run trace calc union record verify demo why bounds net hints test go watch vcd waves page install uninstall --help --version --rebuild' -- "$word")
+        mapfile -t COMPREPLY < <(compgen -W 'check run trace calc union record verify demo console why bounds net hints test go watch vcd waves page install uninstall --help --version --rebuild' -- "$word")
         return
     fi
     # Where the SOURCE stands, and from where on there are ports.
@@ -26,7 +26,7 @@ _hume() {
     check | why | bounds | net | hints) source=2 ;;
     run | trace | calc) source=4 ;;
     union) source=5 ;;
-    watch | vcd | page) source=3 ;;
+    watch | vcd | page | console) source=3 ;;
     record | verify)
         source=3
         ((COMP_CWORD != 4)) || kind=file

@@ -16,6 +16,8 @@ NOT_INPUTS = ("words", "README.md", "expected.py", "expected", "stdin")
 NOT_OUTPUTS = ("status", "table", "taken", "stdout")
 # which word of a call is WORKERS, and the numbers that are tried
 WORKERS_AT = {"run": 2, "trace": 2, "calc": 2, "union": 2, "demo": 3}
+# which word of a call is SOURCE, where it isn't the word 3
+SOURCE_AT = {"check": 1, "console": 2}
 WORKERS = ("1", "2", "3", "16")
 
 
@@ -144,7 +146,7 @@ def compare_check(example):
         return None
     with Room(example) as room:
         files = room.files()
-        done = room.call_program(["check", words[1] if words[0] == "check" else words[3]])
+        done = room.call_program(["check", words[SOURCE_AT.get(words[0], 3)]])
         return (
             first_difference("status of a check", b"0", str(done.returncode).encode())
             or first_difference("standard output of a check", table, done.stdout)

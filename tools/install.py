@@ -1,4 +1,4 @@
-"""hume install PREFIX and hume uninstall PREFIX: links to the command, its manual page and its completion, below a folder."""
+"""hume install PREFIX and hume uninstall PREFIX: links to the command, its manual pages and its completion, below a folder."""
 import os
 
 from program import TOP, Usage
@@ -6,6 +6,7 @@ from program import TOP, Usage
 LINKS = {
     "bin/hume": "hume",
     "share/man/man1/hume.1": "docs/hume.1",
+    "share/man/man1/hume-console.1": "docs/hume-console.1",
     "share/bash-completion/completions/hume": "tools/completion.bash",
 }
 

@@ -7,7 +7,7 @@ from setting import ADD, TOP, InRoom
 
 from main import WORDS
 
-LINKS = ["bin/hume", "share/bash-completion/completions/hume", "share/man/man1/hume.1"]
+LINKS = ["bin/hume", "share/bash-completion/completions/hume", "share/man/man1/hume-console.1", "share/man/man1/hume.1"]
 
 
 class Install(InRoom):

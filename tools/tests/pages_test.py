@@ -63,6 +63,9 @@ class Pages(InRoom):
     def test_the_commands(self):
         self.try_page("docs/COMMANDS.md", 4)
 
+    def test_the_console(self):
+        self.try_page("docs/CONSOLE.md", 1)
+
     def test_each_word_has_a_section(self):
         sections = " ".join(re.findall(r"^## (.*)$", page("docs/COMMANDS.md"), re.MULTILINE))
         for word in WORDS:
