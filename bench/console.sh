@@ -20,7 +20,7 @@ for k in {0..9}; do
         echo "wire b${k}_$j.r to b${k}_$j.s initial $((31 * k + 17 * j)) ;"
     done
 done >p
-echo 'box b in (s :: int 64) out (r :: int 64) match s -> s + 1 ; wire b.r to b.s initial 0 ;' >q
+echo 'box b in (s :: int 64) out (r :: int 64) match (s) -> (s + 1) ; wire b.r to b.s initial 0 ;' >q
 
 # commands COUNT LINE
 commands() { yes "$2" | head -n "$1"; }
