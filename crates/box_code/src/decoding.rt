@@ -2,6 +2,7 @@
 ghost use Rattle.std.specs.Prelude.{◌≡◌, ◌<◌, ◌≤◌, ◌+◌, ℕ, IsTrue, Some, length, slice_get};
 ghost use Rattle.std.specs.Option.{is_some};
 ghost use Rattle.box_code.specs.declared.instr.Instr.{Instr as AnyInstr};
+ghost use Rattle.box_code.specs.declared.instr.Instr.TheVariants.{Finish};
 ghost use Rattle.box_code.specs.Words.{StandsAt};
 ghost use Rattle.box_code.specs.Reading.{comparison_of, high_operand, instr_at, instr_of, low_operand, other_instr, scalar_of};
 
@@ -25,10 +26,10 @@ pub fn decode_words(words: &[u64], at: usize) -> (Instr, usize)
     ensures { instr_at words.now at ≡ Some (result.0, result.1) }
 {
     let head = words[at];
-    decode_kind(words, at, head % 0x100, head)
+    decode_kind(words, at, head % 0x20, head)
 }
 
-// By the kind and the operands of the first word.
+// By the kind and the operands of the first word. Each kind fits five bits.
 #[inline(always)]
 fn decode_kind(words: &[u64], at: usize, kind: u64, head: u64) -> (Instr, usize)
     requires there { IsTrue (is_some
@@ -176,13 +177,16 @@ fn decode_other(words: &[u64], at: usize, kind: u64, head: u64) -> (Instr, usize
             },
             at + 1,
         ),
-        23 => (
-            Instr::Finish {
-                mask: high_of(head),
-            },
-            at + 1,
-        ),
-        // It is proved that no other kind comes. The build tests for one all the same: this arm becomes a way of its own.
+        23 => finish(head, at),
+        // It is proved that no kind from 24 on comes. With an arm for each number of five bits the build has nothing to test.
+        24 => finish(head, at),
+        25 => finish(head, at),
+        26 => finish(head, at),
+        27 => finish(head, at),
+        28 => finish(head, at),
+        29 => finish(head, at),
+        30 => finish(head, at),
+        31 => finish(head, at),
         _ => unreachable!(),
     }
 }
@@ -226,6 +230,19 @@ fn comparison(number: u32) -> Comparison
         4 => Comparison::Gt,
         _ => Comparison::Ge,
     }
+}
+
+#[inline(always)]
+fn finish(head: u64, at: usize) -> (Instr, usize)
+    requires { at < 4294967295 }
+    ensures { result ≡ (Finish (high_operand head), at + 1) }
+{
+    (
+        Instr::Finish {
+            mask: high_of(head),
+        },
+        at + 1,
+    )
 }
 
 #[inline(always)]

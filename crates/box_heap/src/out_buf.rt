@@ -1,4 +1,4 @@
-ghost use Rattle.std.specs.Prelude.{◌≡◌, ◌<◌, ℕ, List, length, map, Option, Some, None, slice_get, slice_set, replicate, IfOk, MatchOption};
+ghost use Rattle.std.specs.Prelude.{◌≡◌, ◌<◌, ℕ, List, [], ◌∷◌, length, map, Option, Some, None, slice_get, slice_set, replicate, IfOk, MatchOption};
 ghost use Rattle.std.specs.Borrow.{sem};
 ghost use Rattle.box_heap.specs.Lending.{LendsOutput};
 ghost use Rattle.box_heap.specs.inner.LentOutputs.{LendsWords};
@@ -42,6 +42,15 @@ impl Output {
     {
         self.begin();
         self.words.as_mut_slice()
+    }
+
+    #[inline(always)]
+    fn fill(&mut self, word: u64)
+        requires { self.old.size ≡ 1 }
+        ensures { self.new ≡ with_words self.old (word ∷ []) }
+    {
+        self.words[0] = word;
+        self.present = true;
     }
 
     fn put(&mut self, at: usize, word: u64)
@@ -116,6 +125,15 @@ impl OutBuf {
         ensures zeros { (output : OutputView) → slice_get self.old i ≡ Some output → result.now ≡ replicate output.size 0 }
     {
         self.outputs[i].open()
+    }
+
+    /// The output, which has room for one word, becomes present with this word.
+    #[inline(always)]
+    pub fn fill(&mut self, i: usize, word: u64)
+        requires { (output : OutputView) × (slice_get self.old i ≡ Some output) × (output.size ≡ 1) }
+        ensures { (output : OutputView) → slice_get self.old i ≡ Some output → self.new ≡ slice_set self.old i (with_words output (word ∷ [])) }
+    {
+        self.outputs[i].fill(word);
     }
 
     /// Changes one word of an output that is present.

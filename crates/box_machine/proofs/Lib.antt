@@ -10,5 +10,6 @@ pub mod Decoded
 pub mod Writing
 pub mod WritingParts
 pub mod Finishing
+pub mod FromLast
 pub mod Closing
 pub mod Rules

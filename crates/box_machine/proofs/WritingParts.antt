@@ -1,5 +1,5 @@
 -- How the fields of an object are written one after another.
-use Rattle.std.proofs.Common.{◌≡◌, ℕ, suc, ◌+◌, ◌<◌, ◌≤◌, List, [], ◌∷◌, map, take, length, get_or, Option, Some, None, slice_get, slice_set, refl, ap, sym, ◌∙◌, subst, arith}
+use Rattle.std.proofs.Common.{◌≡◌, ℕ, suc, ◌+◌, ◌<◌, ◌≤◌, List, [], ◌∷◌, map, take, length, get_or, Option, Some, None, slice_get, refl, ap, sym, ◌∙◌, subst, arith}
 use Rattle.std.specs.Option.{option_map, option_and_then}
 use Rattle.std.proofs.lemmas.List.{take_all}
 use Rattle.std.proofs.lemmas.Option.{slice_get_within, slice_get-get_or, slice_get_read}
@@ -192,14 +192,3 @@ flat_int objects named bits word = form objects named (shape.Int bits) (Ty-F.Int
 
 pub flat_nat : (objects : List Object) (named : ℕ → Flattening) (bits word : ℕ) → flat_at_with objects named (shape.Nat bits) word ≡ Some (word ∷ [])
 flat_nat objects named bits word = form objects named (shape.Nat bits) (Ty-F.Nat bits) word (shape.rolls-Nat bits)
-
--- one word, written into a row that has room for what there is
-pub alone : (flat : Option (List ℕ)) (word : ℕ) (words row : List ℕ) → flat ≡ Some (word ∷ []) → flat ≡ Some words → length words ≡ length row
-    → flat ≡ Some (slice_set row 0 word)
-alone flat word words [] is fills long =
-    let same : words ≡ word ∷ [] = let e : ◌≡◌ {A = Option (List ℕ)} (Some words) (Some (word ∷ [])) = sym fills ∙ is in cc in
-    let one = ap (λ ws. length ws) same in absurd (omega (arith, one, long))
-alone flat word words (x ∷ []) is fills long = is
-alone flat word words (x ∷ y ∷ row) is fills long =
-    let same : words ≡ word ∷ [] = let e : ◌≡◌ {A = Option (List ℕ)} (Some words) (Some (word ∷ [])) = sym fills ∙ is in cc in
-    let one = ap (λ ws. length ws) same in absurd (omega (arith, one, long))

@@ -8,7 +8,7 @@ ghost use Rattle.box_machine.specs.inner.PutOutputs.{HoldsEnd, Reaches};
 ghost use Rattle.box_machine.specs.inner.Stepping.{IsHeap, Keeps, ended, machine_in};
 
 use crate::code_run::run_code;
-use crate::outputs::{count_outputs, write_outputs};
+use crate::outputs::write_outputs;
 use crate::ran::Ran;
 use crate::registers::{Halted, Registers};
 use box_code::BoxProgram;
@@ -76,8 +76,7 @@ fn run_on(
     let halted = run_code(program, start, program.work, words, heap);
     let outs = program.outs.as_slice();
     let top = halted.registers.top;
-    let base = top - count_outputs(halted.mask, outs);
-    write_outputs(types, outs, halted.mask, &words[base..top], heap, out, 0);
+    let base = write_outputs(types, outs, halted.mask, words, top, heap, out);
     Halted {
         registers: Registers {
             top: base,

@@ -1,7 +1,9 @@
 //! The flat words of what stands in a heap, written one behind another.
-ghost use Rattle.std.specs.Prelude.{◌≡◌, ◌+◌, ◌-◌, ◌<◌, ◌≤◌, ℕ, List, [], ◌∷◌, length, map, replicate, Some};
+ghost use Rattle.std.specs.Prelude.{◌≡◌, ◌+◌, ◌-◌, ◌<◌, ◌≤◌, ℕ, List, [], ◌∷◌, length, map, replicate, IsTrue, Some};
 ghost use Rattle.hume_base.specs.Sizes.{HaveTheirSizes};
+ghost use Rattle.hume_base.specs.declared.types.Types.{Types as AnyTypes};
 ghost use Rattle.hume_model.specs.Reading.{HaveReadableSizes};
+ghost use Rattle.box_heap.specs.Heaps.{Object};
 ghost use Rattle.box_code.specs.FlatObjects.{flat_at, named_at};
 ghost use Rattle.box_machine.specs.inner.Stepping.{IsHeap, objects_in};
 ghost use Rattle.box_machine.specs.inner.Written.{AreWritten, HaveExactSizes, HaveRoomAt, IsWritten, con_at, flat_below, items_at, parts_at};
@@ -10,25 +12,22 @@ use crate::objects::{field_at, keeps_room, tag_at};
 use box_heap::BoxHeap;
 use hume_base::{SumDef, Ty, Types};
 
-/// Writes the flat words of what a word stands for by a type, which fill the row. One word is written without a call.
-pub(crate) fn flatten_standing(types: &Types, ty: &Ty, word: u64, heap: &BoxHeap, into: &mut [u64])
-    requires sizes { HaveTheirSizes types.now }
-    requires readable { HaveReadableSizes types.now }
-    requires held { IsHeap heap.now }
-    requires fill { (words : List ℕ) × (flat_at types.now (objects_in heap.now) ty.now word ≡ Some words) × (length words ≡ length into.old) }
-    ensures { flat_at types.now (objects_in heap.now) ty.now word ≡ Some into.new }
+/// Whether each value of the type is one word, which is its flat word too.
+#[inline(always)]
+pub(crate) fn is_scalar(ty: &Ty) -> bool
+    ensures { IsTrue result → (types : AnyTypes) (objects : List Object) (word : ℕ) → flat_at types objects ty.now word ≡ Some (word ∷ []) }
 {
     match ty {
-        Ty::Bool => into[0] = word,
-        Ty::Char => into[0] = word,
-        Ty::Int(_) => into[0] = word,
-        Ty::Nat(_) => into[0] = word,
-        _ => flatten_whole(types, ty, word, heap, into),
+        Ty::Bool => true,
+        Ty::Char => true,
+        Ty::Int(_) => true,
+        Ty::Nat(_) => true,
+        _ => false,
     }
 }
 
-#[inline(never)]
-fn flatten_whole(types: &Types, ty: &Ty, word: u64, heap: &BoxHeap, into: &mut [u64])
+/// Writes the flat words of what a word stands for by a type, which fill the row.
+pub(crate) fn flatten_standing(types: &Types, ty: &Ty, word: u64, heap: &BoxHeap, into: &mut [u64])
     requires sizes { HaveTheirSizes types.now }
     requires readable { HaveReadableSizes types.now }
     requires held { IsHeap heap.now }

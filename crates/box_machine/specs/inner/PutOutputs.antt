@@ -1,5 +1,5 @@
--- Outputs that are written one after another.
-use Rattle.std.specs.Prelude.{◌≡◌, ℕ, suc, All, List, [], ◌∷◌, length, take, Option, Some, None, slice_get, slice_set}
+-- Outputs that are written from the last one to the first.
+use Rattle.std.specs.Prelude.{◌≡◌, ◌-◌, ℕ, All, List, ◌++◌, length, take, drop, Option, Some, None, slice_get, slice_set}
 use Rattle.box_heap.specs.Heaps.{HeapView}
 use Rattle.box_heap.specs.Outputs.{OutputView}
 use Rattle.box_code.specs.Machine.{Machine}
@@ -11,11 +11,13 @@ use Rattle.box_machine.specs.inner.Stepping.{Fits, objects_in}
 abbrev pub put_out : List OutputView → ℕ → List ℕ → List OutputView
 put_out outputs i words = slice_set outputs i (record { size = length words; words = Some words })
 
--- from a place on the outputs have these words, if they have any
-abbrev pub put_outs : ℕ → List OutputView → List (Option (List ℕ)) → List OutputView
-put_outs i outputs [] = outputs
-put_outs i outputs (None ∷ outs) = put_outs (suc i) outputs outs
-put_outs i outputs (Some words ∷ outs) = put_outs (suc i) (put_out outputs i words) outs
+-- the outputs from a number on have these words, if they have any
+abbrev pub put_from : ℕ → List OutputView → List (Option (List ℕ)) → List OutputView
+put_from number outputs flat = take number outputs ++ with_outputs (drop number outputs) (drop number flat)
+
+-- so many words below the top
+abbrev pub on_top : ℕ → List ℕ → ℕ → List ℕ
+on_top count words top = take (top - (top - count)) (drop (top - count) words)
 
 -- there is an output at the place that has room for so many words
 pub record HasSize (outputs : List OutputView) (i count : ℕ) : Type 0 where
@@ -23,17 +25,11 @@ pub record HasSize (outputs : List OutputView) (i count : ℕ) : Type 0 where
   pub there : slice_get outputs i ≡ Some output
   pub size : count ≡ output.size
 
--- there is room for all of them
-abbrev pub RoomFrom : ℕ → List OutputView → List (Option (List ℕ)) → Type 0
-RoomFrom i outputs [] = Unit {0}
-RoomFrom i outputs (None ∷ outs) = RoomFrom (suc i) outputs outs
-RoomFrom i outputs (Some words ∷ outs) = HasSize outputs i (length words) × RoomFrom (suc i) (put_out outputs i words) outs
-
--- there are words for the outputs, and from the place on there is room for them
-pub record OutsFit (flat : Option (List (Option (List ℕ)))) (i : ℕ) (outputs : List OutputView) : Type 0 where
-  pub outs : List (Option (List ℕ))
+-- these are the outputs' words, and there is room for them in outputs that are absent
+pub record OutsFit (flat : Option (List (Option (List ℕ)))) (outputs : List OutputView) (outs : List (Option (List ℕ))) : Type 0 where
   pub is : flat ≡ Some outs
-  pub room : RoomFrom i outputs outs
+  pub room : HaveRoom outputs outs
+  pub absent : All (λ (output : OutputView). output.words ≡ None) outputs
 
 -- the machine ends so, and a row of so many words, a heap and the outputs have room for it
 pub record Reaches (reached : Option (ℕ × Machine)) (row room : ℕ) (outputs : List OutputView) : Type 0 where
