@@ -9,6 +9,7 @@ ghost use Rattle.hume_net.specs.declared.state.Part.{Part};
 ghost use Rattle.box_code.specs.RepresentsBox.{RepresentsBox};
 ghost use Rattle.box_step.specs.Boxes.{AreBareForms, IsBoxAt, IsUnused, TakesLittle, first_part};
 ghost use Rattle.box_step.specs.Views.{pending_words};
+ghost use Rattle.box_step.specs.inner.Buffers.{sizes_in, words_in};
 
 use box_code::BoxProgram;
 use box_heap::{BoxHeap, BoxStack, OutBuf};
@@ -98,6 +99,18 @@ impl CompiledBox {
         } else {
             None
         }
+    }
+
+    // The outputs that are pending, if some are.
+    #[inline(always)]
+    pub(crate) fn pending_outputs(&self) -> Option<&OutBuf>
+        ensures { MatchOption result (self.now.pending ≡ None)
+            (λ outputs. (self.now.pending ≡ Some (words_in outputs.now)) × (self.now.sizes ≡ sizes_in outputs.now)) }
+    {
+        if !self.pending {
+            return None;
+        }
+        Some(&self.outputs)
     }
 
     /// Forgets the outputs that are pending, and nothing else.

@@ -1,17 +1,17 @@
 //! The execute step of a compiled box.
 ghost use Rattle.std.specs.Prelude.{◌≡◌, ◌≤◌, ℕ, List, length, map, true, if◌then◌else◌, Some, slice_get};
-ghost use Rattle.hume_base.specs.declared.types.Ty.{Ty};
 ghost use Rattle.hume_base.specs.declared.types.Value.{Value};
 ghost use Rattle.hume_model.specs.declared.core_tree.BoxC.{BoxC as AnyBox};
 ghost use Rattle.hume_model.specs.declared.core_tree.Core.{Core as AnyCore};
-ghost use Rattle.hume_model.specs.Matching.{fits};
+ghost use Rattle.hume_model.specs.BoxTyping.{port_types};
+ghost use Rattle.hume_model.specs.Matching.{fits, taken_at};
 ghost use Rattle.hume_model.specs.WellFormed.{HasSoundFrame};
 ghost use Rattle.hume_net.specs.declared.state.HalfStep.{HalfStep};
 ghost use Rattle.hume_net.specs.HalfSteps.{moved_last, oldest};
 ghost use Rattle.box_costs.specs.Bounds.{built_patterns};
 ghost use Rattle.box_costs.specs.ResultSpending.{built_values, inputs_built};
 ghost use Rattle.wire_cells.specs.Cells.{without_values};
-ghost use Rattle.match_rules.specs.Inputs.{AreCellsOf};
+ghost use Rattle.match_rules.specs.Inputs.{AreCellsOf, left_in};
 ghost use Rattle.box_step.specs.Boxes.{AreBareForms, HasExecuted, IsAt};
 ghost use Rattle.box_step.specs.inner.Buffers.{cleared};
 ghost use Rattle.box_step.specs.inner.Firing.{AreBuiltAnew, Fires, HasFired};
@@ -20,8 +20,8 @@ use crate::compiled::CompiledBox;
 use crate::runs::run_ready_rule;
 use box_heap::{BoxHeap, BoxStack, OutBuf};
 use box_machine::Ran;
-use hume_model::{BoxC, Core, RuleC};
-use match_rules::{RuleOrder, build_inputs, consume, first_match, orders_have_each_rule_once};
+use hume_model::{BoxC, Core, PortC, RuleC};
+use match_rules::{RuleOrder, first_match, orders_have_each_rule_once, take_inputs};
 use wire_cells::WireCell;
 
 impl CompiledBox {
@@ -42,7 +42,7 @@ impl CompiledBox {
         };
         match b.rules.get(number) {
             None => None,
-            Some(rule) => Some(self.fire(core, b.fair, number as u32, rule, ins)),
+            Some(rule) => Some(self.fire(core, b, number as u32, rule, ins)),
         }
     }
 
@@ -50,18 +50,20 @@ impl CompiledBox {
     fn fire(
         &mut self,
         core: &Core,
-        fair: bool,
+        b: &BoxC,
         number: u32,
         rule: &RuleC,
         ins: &mut [WireCell],
     ) -> Ran
-        requires { (whole : AnyCore) × (its : AnyBox) × (before : HalfStep) × Fires whole its before self.old ins.old core.now fair number rule.now }
-        ensures fired { (whole : AnyCore) (its : AnyBox) (before : HalfStep) → Fires whole its before self.old ins.old core.now fair number rule.now
-            → HasFired whole its before number self.old self.new ins.new result }
+        requires { (whole : AnyCore) × (its : AnyBox) × (before : HalfStep) × Fires whole its before self.old ins.old core.now b.now.fair number rule.now
+            × (port_types b.now.ins ≡ port_types its.ins) }
+        ensures fired { (whole : AnyCore) (its : AnyBox) (before : HalfStep) → Fires whole its before self.old ins.old core.now b.now.fair number rule.now
+            → port_types b.now.ins ≡ port_types its.ins → HasFired whole its before number self.old self.new ins.new result }
         ensures rest { map without_values ins.new ≡ map without_values ins.old }
     {
         build(
             core,
+            b.ins.as_slice(),
             rule,
             ins,
             &mut self.heap,
@@ -77,36 +79,39 @@ impl CompiledBox {
             &mut self.outputs,
             &mut self.work,
         );
-        consume(rule, ins);
-        put_last(&mut self.order, fair, number);
+        put_last(&mut self.order, b.fair, number);
         self.pending = true;
         ran
     }
 }
 
-// Builds the inputs of a rule that fits, in an empty heap and on an empty stack, and takes the outputs away.
+// Takes the inputs of a rule that fits, builds them in an empty heap and on an empty stack, and takes the outputs away.
 fn build(
     core: &Core,
+    ports: &[PortC],
     rule: &RuleC,
-    ins: &[WireCell],
+    ins: &mut [WireCell],
     heap: &mut BoxHeap,
     stack: &mut BoxStack,
     outputs: &mut OutBuf,
 )
     requires core { HasSoundFrame core.now }
-    requires fitting { (types : List Ty) × (values : List (List Value)) × AreCellsOf core.now types ins.now values
+    requires fitting { (values : List (List Value)) × AreCellsOf core.now (port_types ports.now) ins.old values
         × (fits rule.now.pats (map oldest values) ≡ true)
         × (inputs_built rule.now.pats (map oldest values) ≤ heap.old.room)
         × (length (built_patterns rule.now.pats) ≤ stack.old.room) }
-    ensures built { (types : List Ty) (values : List (List Value)) → AreCellsOf core.now types ins.now values
+    ensures built { (values : List (List Value)) → AreCellsOf core.now (port_types ports.now) ins.old values
         → fits rule.now.pats (map oldest values) ≡ true
         → AreBuiltAnew (built_values rule.now.pats (map oldest values)) heap.old heap.new stack.old stack.new }
+    ensures left { (values : List (List Value)) → AreCellsOf core.now (port_types ports.now) ins.old values
+        → ins.new ≡ left_in (taken_at rule.now.pats (map oldest values)) ins.old }
+    ensures rest { map without_values ins.new ≡ map without_values ins.old }
     ensures absent { outputs.new ≡ cleared outputs.old }
 {
     heap.empty();
     stack.empty();
     outputs.clear();
-    build_inputs(core, rule, ins, heap, stack);
+    take_inputs(core, ports, rule, ins, heap, stack);
 }
 
 // The rule, which stands in the order, goes last in that of a fair box.

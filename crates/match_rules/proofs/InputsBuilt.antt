@@ -2,7 +2,7 @@
 use Rattle.std.proofs.Common.{◌≡◌, ℕ, zero, suc, ◌+◌, ◌*◌, ◌<◌, ◌≤◌, max, true, List, [], ◌∷◌, ◌++◌, map, length, take, sum, get_or, Option, Some, None, slice_get, refl, ap, sym, ◌∙◌, subst, append_assoc, append-nil, length-append, arith}
 use Rattle.std.proofs.lemmas.Bool.{and_parts}
 use Rattle.std.proofs.lemmas.Grind.{flat_map-append}
-use Rattle.std.proofs.lemmas.List.{map-append}
+use Rattle.std.proofs.lemmas.List.{map-append, length-map}
 use Rattle.std.proofs.lemmas.List.Elements.{All-append}
 use Rattle.std.specs.List.{flat_map}
 use Rattle.hume_base.specs.declared.types.Ty.{Ty}
@@ -11,8 +11,9 @@ use Rattle.hume_base.specs.Flat.{flat}
 use Rattle.hume_model.specs.declared.core_tree.PatC.{PatC}
 use Rattle.hume_model.specs.declared.core_tree.InPat.{InPat}
 use Rattle.hume_model.specs.declared.core_tree.InPat.TheVariants.{Star, AnyStar, Any, Built}
-use Rattle.hume_model.specs.declared.core_tree.WireC.{WireC}
+use Rattle.hume_model.specs.declared.core_tree.PortC.{PortC}
 use Rattle.hume_model.specs.declared.core_tree.Core.{Core}
+use Rattle.hume_model.specs.BoxTyping.{port_types}
 use Rattle.hume_model.specs.Matching.{fits_at, fits}
 use Rattle.hume_model.specs.WellFormed.{HasSoundFrame}
 use Rattle.hume_net.specs.HalfSteps.{oldest}
@@ -29,7 +30,6 @@ use Rattle.wire_cells.proofs.Frames.{readable}
 use Rattle.match_rules.specs.Inputs.{IsCellOf, AreCellsOf, AreBuilt}
 use Rattle.match_rules.specs.inner.Builders as b
 use Rattle.match_rules.specs.inner.Builders.{build_with, build_named, grown}
-use Rattle.match_rules.specs.inner.Putting.{IsPut}
 use Rattle.match_rules.proofs.Objects.{grown_some, grown_words}
 use Rattle.match_rules.proofs.ValuesBuilt.{AreTagged, IsBuilt, value_built}
 use Rattle.match_rules.proofs.TypedCells.{words_held, typed_held}
@@ -76,26 +76,29 @@ has_more heap before objects has tags = record {
   tags = All-append (λ (object : Object). object.0 < 4294967296) before objects has.tags tags;
 }
 
+-- a value is put: objects, just so many words as build it, for which the word then stands
+pub record IsPut (value : Value) (heap built : HeapView) (word : ℕ) : Type 0 where
+  pub objects : List Object
+  pub put : built ≡ with_objects heap objects
+  pub takes : length (flat_map words_of_object objects) ≡ built_of value
+  pub has : (before : List Object) → HasObjects heap before → HasObjects built (before ++ objects)
+  pub stands : (before : List Object) → HasObjects heap before → Stands (before ++ objects) value word
+
 -- the value of a cell
 
 module _ (core : Core) (frame : HasSoundFrame core) (type : Ty) (cell : CellView) (v : Value) (later : List Value) (is : IsCellOf core type cell (v ∷ later))
-    (wire : WireC) (found : slice_get core.wires cell.number ≡ Some wire) (words : List ℕ) (shown : slice_get cell.values 0 ≡ Some words)
-    (heap : HeapView) where
+    (words : List ℕ) (shown : slice_get cell.values 0 ≡ Some words) (heap : HeapView) where
   abbrev built : b.Built
-  built = build_with (build_named core.types (length core.types.sums)) wire.ty (length heap.words) words
-
-  same_type : wire.ty ≡ type
-  same_type = (let same : wire ≡ is.wire = (let both : Some wire ≡ Some is.wire = sym found ∙ is.there in cc) in ap (λ (w : WireC). w.ty) same) ∙ is.ty
+  built = build_with (build_named core.types (length core.types.sums)) type (length heap.words) words
 
   same_words : words ≡ flat core.types type v
   same_words = let both : Some words ≡ Some (flat core.types type v) = sym shown ∙ ap (λ vs. slice_get vs 0) (words_held is) in cc
 
   oldest_built : IsBuilt v (length heap.words) [] built
   oldest_built =
-      subst (λ t. IsBuilt v (length heap.words) [] (build_with (build_named core.types (length core.types.sums)) t (length heap.words) words)) (sym same_type)
-      (subst (λ ws. IsBuilt v (length heap.words) [] (build_with (build_named core.types (length core.types.sums)) type (length heap.words) ws))
+      subst (λ ws. IsBuilt v (length heap.words) [] (build_with (build_named core.types (length core.types.sums)) type (length heap.words) ws))
       (sym same_words)
-      (value_built core.types frame.sizes (readable core frame) type v (length heap.words) (and_parts _ _ (typed_held is)).0))
+      (value_built core.types frame.sizes (readable core frame) type v (length heap.words) (and_parts _ _ (typed_held is)).0)
 
   pub oldest_takes : length built.put ≡ built_of v
   oldest_takes = oldest_built.takes
@@ -139,17 +142,30 @@ one_built v heap new stack top word is pushed = record {
   stand = λ before has. AllStand.more (is.stands before has) AllStand.none;
 }
 
-pub built_by : (core : Core) (type : Ty) (pat : InPat) (p : PatC) → pat ≡ Built p → (cell : CellView) (held : List Value) → IsCellOf core type cell held
-    → fits_at pat (oldest held) ≡ true → (heap new : HeapView) (stack top : StackView) (word : ℕ)
-    → ((v : Value) (later : List Value) → IsCellOf core type cell (v ∷ later) → IsPut v heap new word) → top ≡ with_word stack word
-    → AreBuilt (built_value pat (oldest held)) heap new stack top
-built_by core type pat p same cell held is fit heap new stack top word put pushed =
-    subst (λ q. AreBuilt (built_value q (oldest held)) heap new stack top) (sym same) (by held is (ap (λ q. fits_at q (oldest held)) (sym same) ∙ fit))
+-- nothing is built at a position without a pattern
+pub plain_built : (pat : InPat) → ((p : PatC) → pat ≡ Built p → ⊥) → (input : Option Value) (heap : HeapView) (stack : StackView)
+    → AreBuilt (built_value pat input) heap heap stack stack
+plain_built Star not input heap stack = none_built heap stack
+plain_built AnyStar not input heap stack = none_built heap stack
+plain_built Any not input heap stack = none_built heap stack
+plain_built (Built p) not input heap stack = absurd (not p refl)
+
+-- the oldest value at a position with a pattern, and what is built of it
+pub record HasOldest (core : Core) (type : Ty) (pat : InPat) (cell : CellView) (held : List Value) : Type 0 where
+  pub value : Value
+  pub later : List Value
+  pub is : IsCellOf core type cell (value ∷ later)
+  pub takes : position_built pat (oldest held) ≡ built_of value
+  pub one : built_value pat (oldest held) ≡ value ∷ []
+
+pub oldest_there : (core : Core) (type : Ty) (pat : InPat) (p : PatC) → pat ≡ Built p → (cell : CellView) (held : List Value) → IsCellOf core type cell held
+    → fits_at pat (oldest held) ≡ true → HasOldest core type pat cell held
+oldest_there core type pat p same cell held is fit =
+    subst (λ q. HasOldest core type q cell held) (sym same) (by held is (ap (λ q. fits_at q (oldest held)) (sym same) ∙ fit))
   where
-    by : (held : List Value) → IsCellOf core type cell held → fits_at (Built p) (oldest held) ≡ true
-        → AreBuilt (built_value (Built p) (oldest held)) heap new stack top
+    by : (held : List Value) → IsCellOf core type cell held → fits_at (Built p) (oldest held) ≡ true → HasOldest core type (Built p) cell held
     by [] is fit = cc
-    by (v ∷ later) is fit = one_built v heap new stack top word (put v later is) pushed
+    by (v ∷ later) is fit = record { value = v; later = later; is = is; takes = refl; one = refl }
 
 stand_both : (objects : List Object) (vs ws : List Value) (first second : List ℕ) → AllStand objects vs first → AllStand objects ws second
     → AllStand objects (vs ++ ws) (first ++ second)
@@ -225,8 +241,7 @@ pub same_stack_room : (vs : List Value) (heap new : HeapView) (stack top : Stack
 same_stack_room vs heap new stack top are = ap (λ (s : StackView). s.room) are.pushed ∙ words_room stack are.words
 
 -- what is built at a position, and before it
-pub record IsAt (core : Core) (pats : List InPat) (ins : List (Option Value)) (i : ℕ) (pat : InPat) (cell : CellView) : Type 0 where
-  pub type : Ty
+pub record IsAt (core : Core) (pats : List InPat) (ins : List (Option Value)) (i : ℕ) (type : Ty) (pat : InPat) (cell : CellView) : Type 0 where
   pub held : List Value
   pub is : IsCellOf core type cell held
   pub fitting : fits_at pat (oldest held) ≡ true
@@ -243,30 +258,31 @@ more_patterns (Built p) pats None = omega arith
 more_patterns (Built p) pats (Some v) = omega arith
 
 pub position_at : (core : Core) (pats : List InPat) {types : List Ty} {cells : List CellView} {values : List (List Value)} → AreCellsOf core types cells values
-    → fits pats (map oldest values) ≡ true → (i : ℕ) (pat : InPat) (cell : CellView) → i < length pats → i < length cells
-    → pat ≡ get_or pats i pat → cell ≡ get_or cells i cell → IsAt core pats (map oldest values) i pat cell
-position_at core [] are fit i pat cell less within pat_is cell_is = absurd (omega (arith, less))
-position_at core (p ∷ pats) AreCellsOf.none fit i pat cell less within pat_is cell_is = absurd (omega (arith, within))
-position_at core (p ∷ pats) (AreCellsOf.more {type = type} {cell = c} {held = held} {others = others} one rest) fit zero pat cell less within pat_is cell_is =
-    subst (λ q. IsAt core (p ∷ pats) (oldest held ∷ map oldest others) 0 q cell) (sym pat_is)
-    (subst (IsAt core (p ∷ pats) (oldest held ∷ map oldest others) 0 p) (sym cell_is) (record {
-      type = type;
+    → fits pats (map oldest values) ≡ true → (i : ℕ) (type : Ty) (pat : InPat) (cell : CellView) → i < length pats → i < length cells
+    → type ≡ get_or types i type → pat ≡ get_or pats i pat → cell ≡ get_or cells i cell → IsAt core pats (map oldest values) i type pat cell
+position_at core [] are fit i type pat cell less within type_is pat_is cell_is = absurd (omega (arith, less))
+position_at core (p ∷ pats) AreCellsOf.none fit i type pat cell less within type_is pat_is cell_is = absurd (omega (arith, within))
+position_at core (p ∷ pats) (AreCellsOf.more {type = t} {cell = c} {held = held} {others = others} one rest) fit zero type pat cell less within
+    type_is pat_is cell_is =
+    let ins = oldest held ∷ map oldest others in
+    subst (λ u. IsAt core (p ∷ pats) ins 0 u pat cell) (sym type_is)
+    (subst (λ q. IsAt core (p ∷ pats) ins 0 t q cell) (sym pat_is)
+    (subst (IsAt core (p ∷ pats) ins 0 t p) (sym cell_is) (record {
       held = held;
       is = one;
       fitting = (and_parts (fits_at p (oldest held)) (fits pats (map oldest others)) fit).0;
       next = append-nil (built_value p (oldest held));
       heap = omega arith;
       stack = (let more = more_patterns p pats (oldest held) in omega (arith, more));
-    }))
-position_at core (p ∷ pats) (AreCellsOf.more {type = type} {cell = c} {held = held} {others = others} one rest) fit
-    (suc i) pat cell less within pat_is cell_is =
-    let at = position_at core pats rest (and_parts (fits_at p (oldest held)) (fits pats (map oldest others)) fit).1 i pat cell (omega (arith, less))
-    (omega (arith, within)) pat_is cell_is in
+    })))
+position_at core (p ∷ pats) (AreCellsOf.more {type = t} {cell = c} {held = held} {others = others} one rest) fit
+    (suc i) type pat cell less within type_is pat_is cell_is =
+    let at = position_at core pats rest (and_parts (fits_at p (oldest held)) (fits pats (map oldest others)) fit).1 i type pat cell (omega (arith, less))
+    (omega (arith, within)) type_is pat_is cell_is in
     let ins = map oldest others in
     let first = built_value p (oldest held) in
     let step : suc i + 1 ≡ suc (i + 1) = omega arith in
     record {
-      type = at.type;
       held = at.held;
       is = at.is;
       fitting = at.fitting;
@@ -283,6 +299,23 @@ position_at core (p ∷ pats) (AreCellsOf.more {type = type} {cell = c} {held = 
           let more = more_patterns p pats (oldest held) in
           omega (arith, both, more, at.stack));
     }
+
+-- the type of the port at a place
+pub type_at : (ports : List PortC) (i : ℕ) (port : PortC) → i < length ports
+    → (get_or ports i port).ty ≡ get_or (port_types ports) i (get_or ports i port).ty
+type_at [] i port less = absurd (omega (arith, less))
+type_at (p ∷ ports) zero port less = refl
+type_at (p ∷ ports) (suc i) port less = type_at ports i port (omega (arith, less))
+
+-- there are as many cells as ports
+pub as_many_ports : (core : Core) (ports : List PortC) {cells : List CellView} {values : List (List Value)}
+    → AreCellsOf core (port_types ports) cells values → length cells ≡ length ports
+as_many_ports core ports are = as_many_types are ∙ length-map ports (λ (port : PortC). port.ty)
+  where
+    as_many_types : {types : List Ty} {cells : List CellView} {values : List (List Value)} → AreCellsOf core types cells values
+        → length cells ≡ length types
+    as_many_types AreCellsOf.none = refl
+    as_many_types (AreCellsOf.more one rest) = ap (λ n. suc n) (as_many_types rest)
 
 -- a rule that fits has no more positions than there are cells
 pub fits_long : (core : Core) (pats : List InPat) {types : List Ty} {cells : List CellView} {values : List (List Value)} → AreCellsOf core types cells values

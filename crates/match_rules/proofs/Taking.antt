@@ -22,6 +22,14 @@ consumed_next (pat ∷ pats) (cell ∷ cells) zero p d less fits = refl
 consumed_next (pat ∷ pats) (cell ∷ cells) (suc i) p d less fits = ap (λ cs. consumed_at pat cell ∷ cs)
     (consumed_next pats cells i p d (omega (arith, less)) (omega (arith, fits)))
 
+-- a cell whose turn is still to come is as it was
+pub still_there : (pats : List InPat) (cells : List CellView) (i : ℕ) (d : CellView) → i < length pats → i < length cells
+    → get_or (consumed (take i pats) (take i cells) ++ drop i cells) i d ≡ get_or cells i d
+still_there [] cells i d less fits = absurd (omega (arith, less))
+still_there (pat ∷ pats) [] i d less fits = absurd (omega (arith, fits))
+still_there (pat ∷ pats) (cell ∷ cells) zero d less fits = refl
+still_there (pat ∷ pats) (cell ∷ cells) (suc i) d less fits = still_there pats cells i d (omega (arith, less)) (omega (arith, fits))
+
 none_consumed : (cells : List CellView) → consumed [] cells ≡ cells
 none_consumed [] = refl
 none_consumed (cell ∷ cells) = refl

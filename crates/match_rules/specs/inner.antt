@@ -1,4 +1,3 @@
 pub mod WordTests
 pub mod Builders
 pub mod Consuming
-pub mod Putting

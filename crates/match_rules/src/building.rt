@@ -21,10 +21,7 @@ pub(crate) fn build_value(
     ensures word { result ≡ (build_with (build_named types.now bound) ty.now (length heap.old.words) words.now).word }
 {
     match ty {
-        Ty::Bool => first_of(words),
-        Ty::Char => first_of(words),
-        Ty::Int(_) => first_of(words),
-        Ty::Nat(_) => first_of(words),
+        Ty::Bool | Ty::Char | Ty::Int(_) | Ty::Nat(_) => first_of(words),
         _ => build_whole(types, bound, ty, words, heap),
     }
 }

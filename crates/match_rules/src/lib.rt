@@ -1,33 +1,31 @@
 //! Which rule of a box fires, what it takes and what is built of its inputs, on the flat words in the cells of its inputs.
 //!
-//! `first_match` finds the first rule in an order that fits the oldest values, `build_inputs` builds those that the rule's
-//! patterns look into, in heap and stack, and `consume` takes those that the rule consumes. A `RuleOrder` is the order in which
-//! a box tries its rules. None of them takes memory. `Matching.antt` of `hume_model` says what fits and what is taken;
+//! `first_match` finds the first rule in an order that fits the oldest values, and `take_inputs` takes those that the rule
+//! consumes, and builds those that its patterns look into, in heap and stack. A `RuleOrder` is the order in which a box tries
+//! its rules. None of them takes memory. `Matching.antt` of `hume_model` says what fits and what is taken;
 //! `Inputs.antt` says which cells are a box's inputs and what is built of them, `Outputs.antt` what asserting outputs leaves.
 //!
-//! Proved: `first_match` gives the first rule in the order that fits the oldest values, none exactly where none does;
-//! `build_inputs` puts objects of exactly the words that a firing spends on its inputs, and pushes for each input with a
-//! pattern a word that stands for its value; `consume` takes the values that the rule consumes and no others; `fired` moves
-//! that rule last. Laws: an order has each rule once (`orders_have_each_rule_once`); cells of the wires on a side of a node
-//! hold what a state has there, and have room where it has (`cells_hold_what_a_side_has`), so cells of the wires of a box are
-//! those of its inputs and outputs (`cells_of_wires_are_inputs`, `cells_of_wires_are_outputs`), and hold afterwards what is left
-//! or asserted on these wires (`cells_hold_what_is_left`, `cells_hold_what_is_asserted`); what is built takes the words that a
-//! firing spends (`built_inputs_are_those_of_firings`).
+//! Proved: `first_match` gives the first rule in the order that fits the oldest values, none exactly where none does; `take_inputs`
+//! puts objects of exactly the words that a firing spends on its inputs, pushes for each input with a pattern a word that stands
+//! for its value, and takes the values that the rule consumes and no others; `fired` moves that rule last. Laws: an order has each
+//! rule once (`orders_have_each_rule_once`); cells of the wires on a side of a node hold what a state has there, and have room
+//! where it has (`cells_hold_what_a_side_has`), so cells of the wires of a box are those of its inputs and outputs
+//! (`cells_of_wires_are_inputs`, `cells_of_wires_are_outputs`), and hold afterwards what is left or asserted on these wires
+//! (`cells_hold_what_is_left`, `cells_hold_what_is_asserted`); what is built takes the words that a firing spends
+//! (`built_inputs_are_those_of_firings`).
 //!
 //! It knows patterns, types and flat words. It doesn't know results, handlers, code or times.
 #![tactic(auto)]
 
 mod building;
 mod choosing;
-mod consuming;
 mod inputs;
 mod laws;
 mod order;
 mod word_tests;
 
 pub use choosing::first_match;
-pub use consuming::consume;
-pub use inputs::build_inputs;
+pub use inputs::take_inputs;
 pub use laws::{
     built_inputs_are_those_of_firings, cells_hold_what_a_side_has, cells_hold_what_is_asserted,
     cells_hold_what_is_left, cells_of_wires_are_inputs, cells_of_wires_are_outputs,

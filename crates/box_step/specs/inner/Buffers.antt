@@ -1,5 +1,6 @@
 -- The outputs of a compiled box, by the buffer that they are in.
-use Rattle.std.specs.Prelude.{ℕ, Bool, List, map, Option, Some, None, if◌then◌else◌}
+use Rattle.std.specs.Prelude.{ℕ, Bool, List, map, Option, Some, None, if◌then◌else◌, slice_get}
+use Rattle.std.specs.Option.{option_and_then}
 use Rattle.box_heap.specs.Outputs.{OutputView, absent}
 
 -- how many words each of them has
@@ -17,3 +18,7 @@ pending_in waits outputs = if waits then Some (words_in outputs) else None
 -- all of them are absent
 abbrev pub cleared : List OutputView → List OutputView
 cleared outputs = map (λ (output : OutputView). absent output.size) outputs
+
+-- the words of the output at a place; none where it is absent
+abbrev pub words_at : List OutputView → ℕ → Option (List ℕ)
+words_at outputs place = option_and_then (λ words. words) (slice_get (words_in outputs) place)

@@ -1,5 +1,5 @@
 //! What nodes of each kind do in the super step.
-ghost use Rattle.std.specs.Prelude.{◌≡◌, ◌<◌, ◌≤◌, ◌+◌, ℕ, List, true, map, length, drop, Some, slice_get, if◌then◌else◌};
+ghost use Rattle.std.specs.Prelude.{◌≡◌, ◌<◌, ◌≤◌, ◌+◌, ℕ, List, true, map, length, drop, Some, None, slice_get, if◌then◌else◌, MatchOption};
 ghost use Rattle.hume_base.specs.declared.limits.TheConstants.{MAX_OUTPUTS};
 ghost use Rattle.hume_model.specs.declared.core_tree.Core.{Core as AnyCore};
 ghost use Rattle.hume_streams.specs.Queues.{queue_view};
@@ -9,10 +9,12 @@ ghost use Rattle.box_step.specs.Views.{pending_words};
 ghost use Rattle.box_step.specs.nodes.Openings.{Opening};
 ghost use Rattle.box_step.specs.nodes.Right.{AreRightWires, IsRightNode};
 ghost use Rattle.box_step.specs.nodes.Sides.{ticked};
+ghost use Rattle.box_step.specs.inner.Buffers.{words_at};
 ghost use Rattle.box_step.specs.inner.HalfSteps.{CanAssert, next_row};
 
 use crate::compiled::CompiledBox;
 use crate::nodes::cell::Kind;
+use box_heap::OutBuf;
 use hume_streams::InQueue;
 use wire_cells::WireCell;
 
@@ -40,72 +42,84 @@ fn assert_pending(compiled: &mut CompiledBox, outs: &mut [WireCell])
     ensures compiled { compiled.new ≡ (if have_room_for (pending_words compiled.old) 0 outs.old then record compiled.old { pending = None } else compiled.old) }
     ensures outs { outs.new ≡ asserted_in (pending_words compiled.old) outs.old }
 {
-    if compiled.is_pending() {
-        assert_outputs(compiled, outs);
-    }
-}
-
-// All pending outputs are asserted at once where each has room.
-fn assert_outputs(compiled: &mut CompiledBox, outs: &mut [WireCell])
-    requires few { length outs.old ≤ MAX_OUTPUTS }
-    requires long { length outs.old ≡ length compiled.old.sizes }
-    requires fit { FitCells (pending_words compiled.old) 0 outs.old }
-    ensures compiled { compiled.new ≡ (if have_room_for (pending_words compiled.old) 0 outs.old then record compiled.old { pending = None } else compiled.old) }
-    ensures outs { outs.new ≡ asserted_in (pending_words compiled.old) outs.old }
-{
-    if have_room(compiled, outs) {
-        put_outputs(compiled, outs);
+    let Some(outputs) = compiled.pending_outputs() else {
+        return;
+    };
+    if assert_outputs(outputs, outs) {
         compiled.forget_outputs();
     }
 }
 
-fn have_room(compiled: &CompiledBox, outs: &[WireCell]) -> bool
+// All outputs are asserted at once where each has room. Answers whether each has.
+fn assert_outputs(outputs: &OutBuf, outs: &mut [WireCell]) -> bool
+    requires few { length outs.old ≤ MAX_OUTPUTS }
+    requires long { length outs.old ≡ length outputs.now }
+    requires fit { FitCells (words_at outputs.now) 0 outs.old }
+    ensures room { result ≡ have_room_for (words_at outputs.now) 0 outs.old }
+    ensures outs { outs.new ≡ asserted_in (words_at outputs.now) outs.old }
+{
+    let room = have_room(outputs, outs);
+    if room {
+        put_outputs(outputs, outs);
+    }
+    room
+}
+
+fn have_room(outputs: &OutBuf, outs: &[WireCell]) -> bool
     requires few { length outs.now ≤ MAX_OUTPUTS }
-    requires long { length outs.now ≡ length compiled.now.sizes }
-    ensures { result ≡ have_room_for (pending_words compiled.now) 0 outs.now }
+    requires long { length outs.now ≡ length outputs.now }
+    ensures { result ≡ have_room_for (words_at outputs.now) 0 outs.now }
 {
     for i in 0..outs.len() {
-        if !has_room(compiled, i as u32, &outs[i]) {
+        if !has_room(outputs, i as u32, &outs[i]) {
             return false;
         }
     }
     true
 }
 
-fn has_room(compiled: &CompiledBox, i: u32, cell: &WireCell) -> bool
-    requires { i < length compiled.now.sizes }
-    ensures { result ≡ has_room_for (pending_words compiled.now i) cell.now }
+fn has_room(outputs: &OutBuf, i: u32, cell: &WireCell) -> bool
+    requires { i < length outputs.now }
+    ensures { result ≡ has_room_for (words_at outputs.now i) cell.now }
 {
     if cell.room() {
         return true;
     }
-    match compiled.output(i) {
+    match words_of(outputs, i) {
         None => true,
         Some(_) => false,
     }
 }
 
-fn put_outputs(compiled: &CompiledBox, outs: &mut [WireCell])
+fn put_outputs(outputs: &OutBuf, outs: &mut [WireCell])
     requires few { length outs.old ≤ MAX_OUTPUTS }
-    requires long { length outs.old ≡ length compiled.now.sizes }
-    requires room { have_room_for (pending_words compiled.now) 0 outs.old ≡ true }
-    requires fit { FitCells (pending_words compiled.now) 0 outs.old }
-    ensures { outs.new ≡ cells_with (pending_words compiled.now) 0 outs.old }
+    requires long { length outs.old ≡ length outputs.now }
+    requires room { have_room_for (words_at outputs.now) 0 outs.old ≡ true }
+    requires fit { FitCells (words_at outputs.now) 0 outs.old }
+    ensures { outs.new ≡ cells_with (words_at outputs.now) 0 outs.old }
 {
     for i in 0..outs.len() {
-        put_output(compiled, i as u32, &mut outs[i]);
+        put_output(outputs, i as u32, &mut outs[i]);
     }
 }
 
-fn put_output(compiled: &CompiledBox, i: u32, cell: &mut WireCell)
-    requires there { i < length compiled.now.sizes }
-    requires room { has_room_for (pending_words compiled.now i) cell.old ≡ true }
-    requires fit { (words : List ℕ) → pending_words compiled.now i ≡ Some words → length words ≡ cell.old.size }
-    ensures { cell.new ≡ cell_with (pending_words compiled.now i) cell.old }
+fn put_output(outputs: &OutBuf, i: u32, cell: &mut WireCell)
+    requires there { i < length outputs.now }
+    requires room { has_room_for (words_at outputs.now i) cell.old ≡ true }
+    requires fit { (words : List ℕ) → words_at outputs.now i ≡ Some words → length words ≡ cell.old.size }
+    ensures { cell.new ≡ cell_with (words_at outputs.now i) cell.old }
 {
-    if let Some(words) = compiled.output(i) {
+    if let Some(words) = words_of(outputs, i) {
         cell.assert_value(words);
     }
+}
+
+// The words of an output; none where it is absent.
+fn words_of(outputs: &OutBuf, i: u32) -> Option<&[u64]>
+    requires { i < length outputs.now }
+    ensures { MatchOption result (words_at outputs.now i ≡ None) (λ words. words_at outputs.now i ≡ Some words.now) }
+{
+    outputs.get(i)
 }
 
 // An input stream asserts its next value where that has room.

@@ -1,6 +1,7 @@
 use Rattle.std.proofs.Common.{slice_get, ap, sym, ◌∙◌, subst}
 use Rattle.std.specs.Option.{option_and_then}
 use Rattle.std.proofs.Math.Facts.{Fits-of_lt}
+use Rattle.hume_model.specs.declared.core_tree.BoxC.{BoxC}
 use Rattle.hume_model.specs.BoxTyping.{BoxHasFrame, port_types}
 use Rattle.match_rules.specs.Inputs.{AreCellsOf}
 use Rattle.box_step.specs.inner.Buffers.{pending_in, words_in}
@@ -49,6 +50,7 @@ fire-requires c =
       c.requires.1,
       before,
       fires_so forms at c.in-Some.number c.in-Some-get.rule.now (found ∙ c.in-Some.is) c.in-Some-get.ensures is_free,
+      ap (λ (b : BoxC). port_types b.ins) forms.box_is,
     )
 
 pub returns-in-None-clause-executed : goal.returns-in-None-clause-executed
@@ -66,4 +68,4 @@ returns-in-Some-get-clause-executed c = λ whole its before forms here.
     (subst (λ b. AreCellsOf c.args.core.now (port_types b.ins) c.args.ins.now before.side) (sym forms.box_is) (cells_of forms.core_is at.inputs))) in
     let is_free = free forms at (ap (λ pending. pending_in pending c.self.inside.outputs) c.if-self.false) in
     let fires = fires_so forms at c.in-Some.number c.in-Some-get.rule.now (found ∙ c.in-Some.is) c.in-Some-get.ensures is_free in
-    whole_executed c.self.view_is (executes fires (c.fire.ensures.fired whole its before fires))
+    whole_executed c.self.view_is (executes fires (c.fire.ensures.fired whole its before fires (ap (λ (b : BoxC). port_types b.ins) forms.box_is)))

@@ -1,8 +1,9 @@
-use Rattle.std.proofs.Common.{◌≤◌, length, map, refl, sym, subst}
+use Rattle.std.proofs.Common.{◌≤◌, length, map, refl, ap, sym, ◌∙◌, subst}
 use Rattle.hume_model.specs.BoxTyping.{port_types}
 use Rattle.hume_net.specs.HalfSteps.{oldest}
 use Rattle.box_costs.specs.Bounds.{built_patterns}
 use Rattle.box_costs.specs.ResultSpending.{inputs_built}
+use Rattle.match_rules.specs.Inputs.{AreCellsOf}
 use Rattle.box_step.proofs.BareForms.{cells_of, frame_of}
 use Rattle.box_step.proofs.Built.{bare_fits, it_has_fired, its_ready, stands_there}
 use Rattle.box_step.proofs.Opening.{inside_fires, whole_fired}
@@ -17,10 +18,10 @@ build-requires-clause-fitting c =
     let before = c.requires.2 in
     let fires = inside_fires c.self.view_is c.requires.3 in
     let ins = map oldest before.side in
+    let ports = sym (ap port_types c.as_slice.ensures ∙ c.requires.4) in
     let same = sym (same_patterns fires) in (
-      port_types c.requires.1.ins,
       before.side,
-      cells_of fires.core_is fires.at.inputs,
+      subst (λ types. AreCellsOf c.args.core.now types c.args.ins.now before.side) ports (cells_of fires.core_is fires.at.inputs),
       bare_fits fires,
       subst (λ pats. inputs_built pats ins ≤ c.self.inside.heap.room) same (heap_fits fires),
       subst (λ pats. length (built_patterns pats) ≤ c.self.inside.stack.room) same (stack_fits fires),
@@ -31,7 +32,9 @@ run_ready_rule-ran-requires c =
     let its = c.requires.1 in
     let before = c.requires.2 in
     let fires = inside_fires c.self.view_is c.requires.3 in
-    let built = c.build.ensures.built (port_types its.ins) before.side (cells_of fires.core_is fires.at.inputs) (bare_fits fires) in (
+    let ports = sym (ap port_types c.as_slice.ensures ∙ c.requires.4) in
+    let cells = subst (λ types. AreCellsOf c.args.core.now types c.args.ins.now before.side) ports (cells_of fires.core_is fires.at.inputs) in
+    let built = c.build.ensures.built before.side cells (bare_fits fires) in (
       c.requires.0,
       its,
       fires.rule,
@@ -43,14 +46,16 @@ pub put_last-requires : goal.put_last-requires
 put_last-requires c = stands_there (inside_fires c.self.view_is c.requires.3)
 
 pub returns-clause-fired : goal.returns-clause-fired
-returns-clause-fired c = λ whole its before it_fires.
+returns-clause-fired c = λ whole its before it_fires same_ports.
     let fires = inside_fires c.self.view_is it_fires in
     let ins = map oldest before.side in
     let now = c.build.new in
-    let built = c.build.ensures.built (port_types its.ins) before.side (cells_of fires.core_is fires.at.inputs) (bare_fits fires) in
+    let ports = sym (ap port_types c.as_slice.ensures ∙ same_ports) in
+    let cells = subst (λ types. AreCellsOf c.args.core.now types c.args.ins.now before.side) ports (cells_of fires.core_is fires.at.inputs) in
+    let built = c.build.ensures.built before.side cells (bare_fits fires) in
     let outputs = c.self.inside.outputs in
     let ready = its_ready fires now.heap now.stack built outputs refl now.outputs c.build.ensures.absent in
     whole_fired c.self.view_is
     (it_has_fired fires now.heap now.stack built outputs refl now.outputs c.build.ensures.absent c.run_ready_rule-ran.new.heap c.run_ready_rule-ran.new.stack
     c.run_ready_rule-ran.new.out c.run_ready_rule-ran.new.work c.run_ready_rule-ran.result (c.run_ready_rule-ran.ensures whole its fires.rule ins ready) c.put_last.new.order
-    c.put_last.ensures c.consume.new.ins (c.consume.ensures.left whole (port_types its.ins) before.side fires.at.inputs))
+    c.put_last.ensures now.ins (c.build.ensures.left before.side cells))
