@@ -3,6 +3,7 @@ use Rattle.std.proofs.Common.{◌≡◌, ◌≤◌, ◌<◌, ◌+◌, ℕ, zero,
 use Rattle.std.proofs.Math.ListN.{set}
 use Rattle.std.proofs.lemmas.Bool.{cases_eq}
 use Rattle.std.proofs.lemmas.List.{length-set}
+use Rattle.std.proofs.lemmas.Option.{slice_get_within}
 use Rattle.wire_cells.specs.Cells.{CellView}
 use Rattle.step_turns.specs.Homes.{IsOutside}
 use Rattle.step_turns.specs.inner.Benches.{AreApart, AreLifted, AreLaid}
@@ -55,6 +56,12 @@ module _ (side : List ℕ) (apart : AreApart side) (k w : ℕ) (here : slice_get
           let inside : j < length bench = omega (arith, early, long) in
           lifted.each j v early there ∙ ap (λ o. Some o) (sym (front_get bench (cell ∷ []) j inside)))
     ];
+    gone = λ j v less there. elim (cases_eq j k) [
+      | inl same ↦ (let number : v ≡ w = (let both : Some v ≡ Some w = sym there ∙ ap (slice_get side) same ∙ here in cc) in
+          ap (slice_get (set now w None)) number ∙ set_here now w None (slice_get_within now w (Some cell) found))
+      | inr other ↦ (let early : j < k = omega (arith, less, other) in
+          set_elsewhere now w v None (elsewhere j v there (λ e. other (sym e))) ∙ lifted.gone j v early there)
+    ];
     rest = λ j v later there.
         set_elsewhere now w v None (elsewhere j v there (λ e. (let h : ⊥ = omega (arith, e, later) in h))) ∙ lifted.rest j v (omega (arith, later)) there;
     others = λ v out. set_elsewhere now w v None (outside v out) ∙ lifted.others v out;
@@ -71,6 +78,8 @@ module _ (side : List ℕ) (apart : AreApart side) (k w : ℕ) (here : slice_get
       | inr other ↦ (let later : suc k ≤ j = omega (arith, from, other) in
           set_elsewhere now w v (Some cell) (elsewhere j v there (λ e. (let h : ⊥ = omega (arith, e, later) in h))) ∙ laid.each j v later there)
     ];
+    away = λ j v less there.
+        set_elsewhere now w v (Some cell) (elsewhere j v there (λ e. (let h : ⊥ = omega (arith, e, less) in h))) ∙ laid.away j v (omega (arith, less)) there;
     others = λ v out. set_elsewhere now w v (Some cell) (outside v out) ∙ laid.others v out;
     same = length-set now w (Some cell) ∙ laid.same;
   }

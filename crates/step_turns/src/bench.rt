@@ -3,6 +3,7 @@ ghost use Rattle.std.specs.Prelude.{◌≡◌, ◌<◌, ◌≤◌, ℕ, length, 
 ghost use Rattle.wire_cells.specs.Cells.{CellView};
 ghost use Rattle.step_turns.specs.inner.Benches.{AreApart, AreHome, IsLaid, IsLifted};
 
+use std::mem;
 use wire_cells::WireCell;
 
 /// Takes the cell of each wire of the side to the bench, in order.
@@ -37,7 +38,7 @@ fn take_from(home: &mut [Option<WireCell>], number: usize) -> WireCell
 /// Lays the cells of the bench back, each at its number in the side.
 pub(crate) fn lay(side: &[u32], home: &mut [Option<WireCell>], bench: &mut Vec<WireCell>)
     requires long { vec_len bench.old ≡ length side.now }
-    requires within { (k w : ℕ) → slice_get side.now k ≡ Some w → w < length home.old }
+    requires away { (k w : ℕ) → slice_get side.now k ≡ Some w → slice_get home.old w ≡ Some None }
     requires apart { AreApart side.now }
     ensures laid { IsLaid side.now home.old home.new bench.old.items }
     ensures empty { vec_len bench.new ≡ 0 }
@@ -49,9 +50,10 @@ pub(crate) fn lay(side: &[u32], home: &mut [Option<WireCell>], bench: &mut Vec<W
     }
 }
 
+// There is no cell at home at the number. The build doesn't know it: forgetting what was there saves the test whether to drop it.
 fn put_to(home: &mut [Option<WireCell>], number: usize, cell: WireCell)
-    requires { number < length home.old }
+    requires { slice_get home.old number ≡ Some None }
     ensures { home.new ≡ slice_set home.old number (Some cell) }
 {
-    home[number] = Some(cell);
+    mem::forget(home[number].replace(cell));
 }

@@ -12,6 +12,7 @@ laying-init c = record {
         let inside = slice_get_within c.args.side.now k w there in
         let long = c.requires.long in
         absurd (omega (arith, inside, long, from));
+    away = λ k w less there. c.requires.away k w there;
     others = λ w out. refl;
     same = refl;
   };
@@ -38,7 +39,7 @@ laying-preserved c =
     ∙ ap (λ xs. slice_get xs k) (sym c.laying.invariant.left ∙ c.in-Some.ensures.items)
     ∙ ap (slice_get (c.pop.new.self.items ++ c.in-Some.cell ∷ [])) last ∙ last_get c.pop.new.self.items c.in-Some.cell in
     let same = c.laying.invariant.laid.same in
-    let within = c.requires.within k w here in
+    let within = slice_get_within c.args.home.now w _ (c.requires.away k w here) in
     let next = one_laid side c.requires.apart k w here c.args.home.now c.laying.home bench c.in-Some.cell
     (subst (λ n. AreLaid side n c.args.home.now c.laying.home bench) long c.laying.invariant.laid) found (omega (arith, same, within)) in
     record {
@@ -50,3 +51,13 @@ laying-preserved c =
       few = omega (arith, few, long, count);
       capacity = c.pop.ensures.capacity ∙ c.laying.invariant.capacity;
     }
+
+pub put_to-requires : goal.put_to-requires
+put_to-requires c =
+    let side = c.args.side.now in
+    let k = c.len.result in
+    let shorter = c.in-Some.ensures.len in
+    let count = c.len.ensures in
+    let few = c.laying.invariant.few in
+    let long : vec_len c.laying.bench ≡ suc k = omega (arith, shorter, count) in
+    c.laying.invariant.laid.away k (get_or side k 0) (omega (arith, long)) (slice_get-get_or side k 0 (omega (arith, long, few)))

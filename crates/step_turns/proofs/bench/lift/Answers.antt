@@ -34,6 +34,7 @@ loop-k-init c = record {
   lifted = record {
     long = sym c.args.bench.now.ok.0 ∙ c.requires.empty;
     each = λ k w less there. absurd (omega (arith, less));
+    gone = λ k w less there. absurd (omega (arith, less));
     rest = λ k w later there. refl;
     others = λ w out. refl;
     same = refl;
@@ -49,6 +50,7 @@ returns-clause-lifted c =
     record {
       long = lifted.long ∙ all;
       each = λ k w there. lifted.each k w (let inside = slice_get_within c.args.side.now k w there in omega (arith, inside, all)) there;
+      gone = λ k w there. lifted.gone k w (let inside = slice_get_within c.args.side.now k w there in omega (arith, inside, all)) there;
       others = lifted.others;
       same = lifted.same;
     }

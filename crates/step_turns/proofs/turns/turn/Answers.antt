@@ -1,5 +1,3 @@
-use Rattle.std.proofs.Common.{arith}
-use Rattle.std.proofs.lemmas.Option.{slice_get_within}
 use Rattle.step_turns.proofs.Turning.{side_apart, bench_side, bench_right, home_after, right_after}
 use Rattle.step_turns.proofs.turns.turn.Goals as goal
 
@@ -32,12 +30,8 @@ half_step-requires-clause-right c =
       },
     )
 
-pub lay-requires-clause-within : goal.lay-requires-clause-within
-lay-requires-clause-within c = λ k w there.
-    let h = c.requires.home k w there in
-    let inside = slice_get_within c.args.home.now w _ h.there in
-    let same = c.lift.ensures.lifted.same in
-    omega (arith, inside, same)
+pub lay-requires-clause-away : goal.lay-requires-clause-away
+lay-requires-clause-away c = c.lift.ensures.lifted.gone
 
 pub lay-requires-clause-apart : goal.lay-requires-clause-apart
 lay-requires-clause-apart c = side_apart c.args.core.now c.args.node.now.number c.args.node.now.time c.args.side.now c.requires.side
