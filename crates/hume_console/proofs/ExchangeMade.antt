@@ -25,12 +25,12 @@ use Rattle.hume_console.specs.Words.{std_in}
 use Rattle.hume_console.specs.Commands.{no_exchange_line}
 use Rattle.hume_console.specs.Courses.{Course, first_do, leaves, EndsCourse, Goes}
 use Rattle.hume_console.specs.inner.Bounds.{bound_of}
-use Rattle.hume_console.specs.Hands.{Hands, Leaves}
+use Rattle.hume_console.specs.Hands.{Hands, Leaves, place_without}
 use Rattle.hume_console.specs.Headline.{session_few}
 use Rattle.hume_console.specs.Serving.{exchange_acts, exchange_course, tells}
 use Rattle.hume_console.specs.Session.{Session, Offer, exchanged, may_exchange, names_of, place_at, stream_named}
 use Rattle.hume_console.specs.inner.Exchanging.{IsRebound, finish_of, left_exchange, left_later, left_refusal}
-use Rattle.hume_console.specs.inner.Placed.{ArePlaced, IsExchange, place_without}
+use Rattle.hume_console.specs.inner.Placed.{ArePlaced, IsExchange}
 use Rattle.hume_console.specs.inner.Standing.{BeginsAsItIs, Bindings, Call, Commands, EndsCall, AreRead, GoesOn, Later, MayHave, Stands, session_of}
 use Rattle.hume_console.proofs.CourseSteps.{bound_first}
 use Rattle.hume_console.proofs.Exchanged.{IsFree, at_place, is_free, placed_now}

@@ -14,10 +14,10 @@ use Rattle.phase_workers.specs.Engines.{core_of, span_of, state_of, ArePeaksKept
 use Rattle.hume_console.specs.declared.ending.Ending.TheVariants.{Fault}
 use Rattle.hume_console.specs.declared.finding.Exchange.{Exchange}
 use Rattle.hume_console.specs.declared.places.Places.{Places}
-use Rattle.hume_console.specs.Hands.{Hands, Leaves}
+use Rattle.hume_console.specs.Hands.{Hands, Leaves, place_without}
 use Rattle.hume_console.specs.Session.{Session}
 use Rattle.hume_console.specs.inner.Exchanging.{IsRebound, finish_of, left_exchange, left_later, left_refusal}
-use Rattle.hume_console.specs.inner.Placed.{ArePlaced, IsExchange, place_without}
+use Rattle.hume_console.specs.inner.Placed.{ArePlaced, IsExchange}
 use Rattle.hume_console.specs.inner.Standing.{BeginsAsItIs, Bindings, Call, Commands, EndsCall, GoesOn, Later, Stands}
 use Rattle.hume_console.proofs.Exchanges.{stream_there}
 use Rattle.hume_console.proofs.ExchangeMade.{exchange_ends, not_exchanged, not_finished, old_place}

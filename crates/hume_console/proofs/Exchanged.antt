@@ -17,7 +17,8 @@ use Rattle.run_rounds.specs.Streams.{std_out, stream_of}
 use Rattle.hume_console.specs.declared.places.Places.{Places}
 use Rattle.hume_console.specs.Words.{std_in}
 use Rattle.hume_console.specs.Session.{Session, Offer, exchanged, has_port, is_taken, may_exchange, names_of, place_at}
-use Rattle.hume_console.specs.inner.Placed.{ArePlaced, place_without}
+use Rattle.hume_console.specs.Hands.{place_without}
+use Rattle.hume_console.specs.inner.Placed.{ArePlaced}
 use Rattle.hume_console.proofs.Leaving.{place_removed}
 use Rattle.hume_console.proofs.Placing.{one_passes, same_place}
 use Rattle.hume_console.proofs.PortsLeft.{eq_differ}

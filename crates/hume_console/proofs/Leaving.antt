@@ -5,7 +5,7 @@ use Rattle.std.specs.Option.{option_map}
 use Rattle.std.specs.Str.{bytes_eq}
 use Rattle.std.proofs.lemmas.Bool.{true≢false, cases_Bool, ltb-true, lt-ltb}
 use Rattle.hume_ports.specs.Ports.{place_of}
-use Rattle.hume_console.specs.inner.Placed.{place_without}
+use Rattle.hume_console.specs.Hands.{place_without}
 
 -- where the place is one more than another
 one_more : (o : Option ℕ) (p : ℕ) → option_map suc o ≡ Some p → (q : ℕ) × (o ≡ Some q) × (p ≡ suc q)
@@ -25,7 +25,7 @@ less_more gone at = elim (cases_Bool (nat_lt gone at)) [
 ]
 
 -- behind a further port each place is one more
-shifted : (gone at : ℕ) → place_without (suc gone) (suc at) ≡ suc (place_without gone at)
+pub shifted : (gone at : ℕ) → place_without (suc gone) (suc at) ≡ suc (place_without gone at)
 shifted gone at = ap (λ b. cond b (suc at - 1) (suc at)) (less_more gone at) ∙ by (nat_lt gone at) refl
   where
     by : (b : Bool) → nat_lt gone at ≡ b → cond b (suc at - 1) (suc at) ≡ suc (cond b (at - 1) at)
@@ -33,7 +33,7 @@ shifted gone at = ap (λ b. cond b (suc at - 1) (suc at)) (less_more gone at) �
     by false more = refl
 
 -- the first port stays the first
-first_stays : (b : Bool) → 0 ≡ cond b (0 - 1) 0
+pub first_stays : (b : Bool) → 0 ≡ cond b (0 - 1) 0
 first_stays true = refl
 first_stays false = refl
 

@@ -39,3 +39,8 @@ pub mod Serves
 pub mod Prepared
 pub mod BeginsCall
 pub mod CourseAnswers
+pub mod PortsServed
+pub mod OutputsWritten
+pub mod OneCourse
+pub mod FitStreams
+pub mod OutputsFinished

@@ -7,6 +7,7 @@ use Rattle.hume_run.specs.Words.{number_of}
 use Rattle.hume_console.specs.declared.command_lines.TheConstants.{MAX_COMMAND_BYTES}
 use Rattle.hume_console.specs.declared.session.TheConstants.{MAX_COMMANDS}
 
+-- What a line may ask for.
 pub data Command : Type 0 where
   -- make that many supersteps
   Step : (steps : ℕ) → Command
@@ -16,6 +17,7 @@ pub data Command : Type 0 where
   Peaks : Command
   -- let the stream of a name go on with the port of a name
   Exchange : (stream port : List ℕ) → Command
+  -- end the session
   End : Command
 
 -- what stands in a line behind that word and a space, if the line begins with them
@@ -31,6 +33,7 @@ step_of (Some steps) = if nat_le 1 steps && nat_le steps SPAN then Some (Step st
 abbrev pub exchange_of : List ℕ → List ℕ → Option Command
 exchange_of stream port = if (length stream == 0) || (length port == 0) then None else Some (Exchange stream port)
 
+-- whether a byte is a space
 abbrev pub is_space : ℕ → Bool
 is_space byte = byte == 32
 

@@ -11,6 +11,7 @@ use Rattle.hume_console.specs.declared.ending.Ending.TheVariants.{Fault}
 abbrev pub Bound : Type 0
 Bound = ℕ → List ℕ
 
+-- What is owed: acts, then a port leaves, then acts again, and an answer at the end.
 pub data Course : Type 0 where
   -- these acts, and this answer
   ends : (bound : Bound) (acts : List Act) (answer : Ending) → Course

@@ -81,6 +81,7 @@ pub record SessionFew (source text : List ℕ) (bound : Bound) (name : List ℕ)
       → slice_get accepted.core.nodes n ≡ Some (From stream) → bound n ≡ name → (good : List Value) (bad : Option ℕ)
       → IsGoodUntil accepted.core.types (type_at accepted.core n) (whole_lines bytes) good bad → length good < count
 
+-- the same by source, text, bound ports, name, number and bytes
 abbrev pub session_few : List ℕ → List ℕ → Bound → Few
 session_few source text bound name count bytes = SessionFew source text bound name count bytes
 

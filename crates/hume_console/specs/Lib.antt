@@ -4,6 +4,8 @@ pub mod Commands
 pub mod Session
 pub mod Hands
 pub mod Courses
+pub mod EachPort
 pub mod Serving
 pub mod Headline
+pub mod Outputs
 pub mod inner

@@ -34,6 +34,7 @@ abbrev pub output_port : Session → ℕ → Option NodeC → List (List ℕ)
 output_port session n (Some (To stream)) = session.port n ∷ []
 output_port session n _ = []
 
+-- the ports of all output streams, in source order
 abbrev pub output_ports : Core → Session → List (List ℕ)
 output_ports core session = flat_map (λ n. output_port session n (slice_get core.nodes n)) (range_with_len 0 (length core.nodes))
 
@@ -57,6 +58,7 @@ abbrev pub lines_of_node : Core → Session → (ℕ → List Value) → ℕ →
 lines_of_node core session taken n (Some (To stream)) = line_writes (session.port n) core.types (type_at core n) (taken n)
 lines_of_node core session taken n _ = []
 
+-- so do all output streams, in source order
 abbrev pub step_lines : Core → Session → (ℕ → List Value) → Pairs
 step_lines core session taken = flat_map (λ n. lines_of_node core session taken n (slice_get core.nodes n)) (range_with_len 0 (length core.nodes))
 

@@ -42,6 +42,7 @@ pub record Offer : Type 0 where
   pub name : List ℕ
   pub text : List ℕ
 
+-- the names of these ports, in order
 abbrev pub names_of : List Offer → List (List ℕ)
 names_of ports = map (λ port. port.name) ports
 
@@ -69,6 +70,7 @@ abbrev pub declared_port : Option StreamC → List ℕ
 declared_port None = []
 declared_port (Some stream) = stream.port
 
+-- the port that the node of a number declares, if it is a stream
 abbrev pub port_of_node : Option NodeC → List ℕ
 port_of_node None = []
 port_of_node (Some node) = declared_port (stream_of node)
@@ -85,6 +87,7 @@ first_session core ports = record {
 
 -- a step
 
+-- whether there is a node, and it is an input stream
 abbrev pub is_input : Option NodeC → Bool
 is_input (Some (From stream)) = true
 is_input _ = false
@@ -136,6 +139,7 @@ abbrev pub has_name : List ℕ → Option StreamC → Bool
 has_name name None = false
 has_name name (Some stream) = bytes_eq stream.name name
 
+-- whether a node is the stream of that name
 abbrev pub is_stream_of : List ℕ → NodeC → Bool
 is_stream_of name node = has_name name (stream_of node)
 

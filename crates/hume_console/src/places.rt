@@ -2,7 +2,8 @@ ghost use Rattle.std.specs.Prelude.{◌≡◌, ℕ, List, length, map, slice_get
 ghost use Rattle.std.specs.List.{list_any, range_with_len};
 ghost use Rattle.hume_ports.specs.Ports.{place_of};
 ghost use Rattle.hume_console.specs.Session.{Session, is_taken};
-ghost use Rattle.hume_console.specs.inner.Placed.{ArePlaced, place_without as without, stands_at as stands, stands_own, is_stream_at};
+ghost use Rattle.hume_console.specs.Hands.{place_without as without};
+ghost use Rattle.hume_console.specs.inner.Placed.{ArePlaced, stands_at as stands, stands_own, is_stream_at};
 
 use hume_model::{Core, NodeC};
 

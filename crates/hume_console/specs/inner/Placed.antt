@@ -1,5 +1,5 @@
 -- Where the ports of a session stand.
-use Rattle.std.specs.Prelude.{◌≡◌, ℕ, ◌-◌, ◌==◌, Bool, true, false, ◌&&◌, ◌||◌, List, length, Option, None, Some, if◌then◌else◌, nat_lt, slice_get, slice_index_or}
+use Rattle.std.specs.Prelude.{◌≡◌, ℕ, ◌==◌, Bool, true, false, ◌&&◌, ◌||◌, List, length, Option, None, Some, slice_get, slice_index_or}
 use Rattle.hume_model.specs.declared.core_tree.NodeC.{NodeC}
 use Rattle.hume_model.specs.declared.core_tree.NodeC.TheVariants.{From, To}
 use Rattle.hume_model.specs.declared.core_tree.StreamC.{StreamC}
@@ -25,10 +25,6 @@ pub record ArePlaced (core : Core) (source : List ℕ) (session : Session) (name
       → (session.port n ≡ source → ⊥) × (session.port n ≡ std_in → ⊥)
   pub apart : (n m : ℕ) (node other : NodeC) (first second : StreamC) → slice_get core.nodes n ≡ Some node → slice_get core.nodes m ≡ Some other
       → stream_of node ≡ Some first → stream_of other ≡ Some second → session.port n ≡ session.port m → n ≡ m
-
--- the place of a port once the one at `gone` is taken out
-abbrev pub place_without : ℕ → ℕ → ℕ
-place_without gone at = if nat_lt gone at then at - 1 else at
 
 -- whether the port of the source or a standard one stands at the place
 abbrev pub stands_own : Places → ℕ → Bool

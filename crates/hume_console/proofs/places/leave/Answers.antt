@@ -1,5 +1,5 @@
 use Rattle.std.proofs.Common.{◌<◌, ◌≤◌, length, arith, refl}
-use Rattle.hume_console.specs.inner.Placed.{place_without}
+use Rattle.hume_console.specs.Hands.{place_without}
 use Rattle.hume_console.proofs.Placing.{one_moved, every_moved}
 use Rattle.hume_console.proofs.places.leave.Goals as goal
 

@@ -1,4 +1,4 @@
-use Rattle.hume_console.specs.inner.Placed.{place_without}
+use Rattle.hume_console.specs.Hands.{place_without}
 use Rattle.hume_console.proofs.Placing.{IsMoved}
 use Rattle.hume_console.proofs.places.leave.Given as goal
 
