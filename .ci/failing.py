@@ -3,6 +3,7 @@
 owed until then.
 
 usage: failing.py calls LIBRARY PROGRAM [whole]       each open, read and write fails, once or from then on
+       failing.py sessions LIBRARY CONSOLE            the same in sessions
        failing.py memory LIBRARY PROGRAM FOLDER..     each growth of memory is refused, in the call of each folder with `words` as in examples/
        failing.py judge LIBRARY PROGRAM               outcomes that are wrong in one part, each of which has to be found
 
@@ -11,7 +12,7 @@ import os
 import sys
 
 sys.dont_write_bytecode = True
-from failing_cases import FAULT, NO_MEMORY, WORKERS, add_one, cases, example  # noqa: E402
+from failing_cases import FAULT, NO_MEMORY, WORKERS, add_one, cases, example, sessions  # noqa: E402
 from failing_world import FAILED, OLD, Call, World  # noqa: E402
 
 PIECES = 1, 4096
@@ -129,11 +130,11 @@ def interrupted(world):
     return [f"interrupted at each second call: {why}"] if why else []
 
 
-def all_calls(library, program, whole):
+def all_calls(library, program, calls, whole):
     """How many calls failed in turn, and the findings."""
     tried, findings = 0, []
     for piece in PIECES:
-        for case in cases(2 if piece == 1 else 100):
+        for case in calls(2 if piece == 1 else 100):
             if piece == 1 and len(case.acts) > 50 and not whole:
                 continue
             with World(library, program, case) as world:
@@ -220,7 +221,9 @@ def judged(library, program):
 
 def main(words):
     if words[:1] == ["calls"] and len(words) in (3, 4):
-        said, findings = all_calls(*words[1:3], words[3:] == ["whole"])
+        said, findings = all_calls(*words[1:3], cases, words[3:] == ["whole"])
+    elif words[:1] == ["sessions"] and len(words) == 3:
+        said, findings = all_calls(*words[1:], sessions, True)
     elif words[:1] == ["memory"] and len(words) > 3:
         said, findings = all_growths(*words[1:3], words[3:])
     elif words[:1] == ["judge"] and len(words) == 3:

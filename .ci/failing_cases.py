@@ -9,7 +9,7 @@ ROUND = 64
 WORKERS = 1, 2
 NO_INPUTS = "words", "README.md", "expected.py", "stdin"
 # the place of WORKERS among the words
-WORKERS_AT = {"run": 2, "trace": 2, "calc": 2, "union": 2, "demo": 3}
+WORKERS_AT = {"run": 2, "trace": 2, "calc": 2, "union": 2, "demo": 3, "console": 1}
 NO_OUTPUTS = "status", "table", "taken", "stdout", "hints"
 DONE, REFUSED, BAD_VALUE, FAULT, NO_MEMORY, LOG_FAILS = 0, 2, 3, 4, 5, 6
 
@@ -205,6 +205,35 @@ def demo(workers):
     return [Case("the demo", " ".join([*words[:-1], str(workers)]), {}, [*writes("std_out", *out), *finishes("std_out")], DONE)]
 
 
+def session(name, commands, acts, status, workers, **files):
+    """A session of ADD_ONE, whose ports are the inputs `i` and `j` and the outputs `o` and `q`."""
+    files = {"p": ADD_ONE, "i": b"1\n2\n", "j": b"7\n", **files}
+    text = "".join(f"{line}\n" for line in commands).encode()
+    return Case(name, f"{workers} p i j o q", files, [wants("p"), *TABLE, *acts], status, ["o", "q"], text)
+
+
+def exchanged(workers):
+    """After three supersteps the stream of `i` goes on with `j`, and that of `o` with `q`. The 2 is put out in the fourth superstep, the 7 in
+    the sixth."""
+    told = writes("std_out", "wire s to b.x empty", "wire b.y to t empty")
+    acts = [wants("std_in"), wants("i"), *writes("o", 2), wants("std_in"), wants("std_in"), *finishes("o"), wants("std_in"), wants("j")]
+    acts += [*writes("q", 3, 8), wants("std_in"), *told, wants("std_in"), *PEAK, wants("std_in"), *finishes("q", "std_out")]
+    commands = "step 3", "exchange s j", "exchange t q", "step 3", "wires", "peaks", "end"
+    return session("a session with other ports", commands, acts, DONE, workers)
+
+
+def told_and_blocked(workers):
+    """Lines that are no command and no exchange, and a step that a bad line blocks."""
+    acts = [wants("std_in"), *writes("std_out", "no command line 1"), wants("std_in"), *writes("std_out", "no exchange line 2"), wants("std_in"), wants("i")]
+    acts += [*writes("std_out", "bad value s line 2"), *finishes("o", "std_out")]
+    return session("a session that a bad line ends", ("look", "exchange s o", "step 2"), acts, BAD_VALUE, workers, i=b"1\nx\n")
+
+
+def sessions(_):
+    for workers in WORKERS:
+        yield from (exchanged(workers), told_and_blocked(workers), session("a session without commands", (), [wants("std_in"), *finishes("o", "std_out")], DONE, workers))
+
+
 def cases(width):
     """All calls. Lines of the inputs of the longest have so many digits."""
     for workers in WORKERS:
@@ -227,4 +256,6 @@ def example(folder, workers):
     words = text("words").decode().split()
     if words[0] in WORKERS_AT:
         words[WORKERS_AT[words[0]]] = str(workers)
+    # the console is a program of its own
+    words = words[1:] if words[0] == "console" else words
     return Case(folder, " ".join(words), files, acts, int(text("expected", "status")), outputs, text("stdin"))

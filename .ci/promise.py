@@ -1,4 +1,5 @@
-"""Makes docs/PROMISE.md: what the contract of the call `hume` rests on, in rings from the call to the rules of sources."""
+"""Makes docs/PROMISE.md: what the contract of the call `hume` rests on, in rings from the call to the rules of sources, and what that
+of the call `console` rests on besides."""
 import os
 import re
 
@@ -6,6 +7,9 @@ from sources import TOP, begins, doc_of_type, functions, modules, reached, read,
 
 # The function whose contract is the promise: its file and its name.
 HEADLINE = "top", "hume"
+
+# The function whose contract is the promise of sessions.
+CONSOLE = "calling", "console"
 
 # Each ring begins at these definitions. A definition belongs to the first ring that reaches it without a beginning of a later one.
 RINGS = (
@@ -22,12 +26,13 @@ RINGS = (
 )
 
 # The laws that README promises beside the contract.
-PROMISED_LAWS = "runs_keep_bounds", "one_program", "one_answer"
+PROMISED_LAWS = "runs_keep_bounds", "one_program", "one_answer", "each_port_is_served"
+PROMISED_LAWS += "sessions_write_to_their_outputs", "sessions_finish_their_outputs"
 
 # What can be believed without the rest: a title and where it begins.
 COROLLARIES = (
     ("What a check of an accepted core prints", "space_table"),
-    ("What a run of an accepted core writes", "writes"),
+    ("What a run of an accepted core does with its ports", "run_acts"),
     ("What a demo of an accepted core tells", "demo_lines"),
 )
 
@@ -37,8 +42,13 @@ INTRO = """# What the promise rests on
 
 The promise of the tool is the contract of `{name}` in `{path}`. This page lists all definitions that its clauses reach, each ring in
 an order in which one may read it. If these say what you mean, you have to believe nothing else of this repository. (Library words,
-such as `map` and `take`, are the toolchain's.)
+such as `map` and `take`, are the toolchain's.) The promise of sessions is a contract of its own; what it rests on besides stands further below.
 """
+
+
+def function_of(place, public):
+    """The public function of that file and name."""
+    return next(it for it in public if it.name == place[1] and it.path.endswith(f"/{place[0]}.rt"))
 
 
 def lines_of(definitions):
@@ -115,6 +125,17 @@ def print_types(types):
     print()
 
 
+def print_console(public, order, known):
+    """What the contract of `console` rests on besides; the definitions that are printed."""
+    head = function_of(CONSOLE, public)
+    more = [it for it in reached(begins(head, known), known)[0] if it not in order]
+    print("## What the promise of sessions rests on besides\n")
+    print(f"The promise of sessions is the contract of `{head.name}` in `{shown(head.path)}`. Its clauses reach {len(more)} definitions, {lines_of(more)} lines,")
+    print("that those of `hume` don't reach:\n")
+    listing(more, "###")
+    return more
+
+
 def print_promised_laws(public, order, known):
     print("## What the laws that README promises rest on besides\n")
     for name in PROMISED_LAWS:
@@ -122,6 +143,7 @@ def print_promised_laws(public, order, known):
         more = [it for it in reached(begins(law, known), known)[0] if it not in order]
         print(f"`{law.public_name()}`: " + (f"{len(more)} definitions that the contract does not reach." if more else "nothing else.") + "\n")
         short_listing(more) if more else None
+        order = order + more
 
 
 def print_corollaries(order, known):
@@ -134,7 +156,7 @@ def print_corollaries(order, known):
 
 def promise():
     known, public = modules(), functions()
-    head = next(it for it in public if it.name == HEADLINE[1] and it.path.endswith(f"/{HEADLINE[0]}.rt"))
+    head = function_of(HEADLINE, public)
     order, types = reached(begins(head, known), known)
     rings = rings_of(order, known)
     print(INTRO.format(name=head.name, path=shown(head.path)))
@@ -148,7 +170,7 @@ def promise():
     print_constants(types)
     print_port()
     print_types(types)
-    print_promised_laws(public, order, known)
+    print_promised_laws(public, order + print_console(public, order, known), known)
     print_corollaries(order, known)
     print("## Public laws\n")
     print("Nobody has to believe these: they are proved, and say that the definitions fit each other. Each is the contract of that function.\n")
