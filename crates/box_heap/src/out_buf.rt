@@ -23,6 +23,7 @@ impl Model for Output {
 }
 
 impl Output {
+    #[inline(always)]
     fn remove(&mut self)
         ensures { self.new ≡ absent self.old.size }
     {
@@ -101,13 +102,13 @@ impl OutBuf {
         Ok(OutBuf { outputs })
     }
 
-    /// All outputs become absent.
-    pub fn clear(&mut self)
-        ensures { self.new ≡ map (λ (output : OutputView). absent output.size) self.old }
+    /// The output becomes absent.
+    #[inline(always)]
+    pub fn remove(&mut self, i: usize)
+        requires { i < length self.old }
+        ensures { (output : OutputView) → slice_get self.old i ≡ Some output → self.new ≡ slice_set self.old i (absent output.size) }
     {
-        for i in 0..self.outputs.len() {
-            self.outputs[i].remove();
-        }
+        self.outputs[i].remove();
     }
 
     /// The output becomes present, with words that are all 0.

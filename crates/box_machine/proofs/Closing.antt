@@ -1,6 +1,5 @@
 -- What the last instruction leaves.
 use Rattle.std.proofs.Common.{◌≡◌, ℕ, ◌-◌, ◌≤◌, nat_le, Bool, true, false, if◌then◌else◌, List, length, take, Option, Some, None, refl, ap, sym, ◌∙◌, arith}
-use Rattle.std.specs.List.{All}
 use Rattle.std.proofs.lemmas.Bool.{leb-true}
 use Rattle.std.proofs.lemmas.List.{length-take-le}
 use Rattle.hume_base.specs.declared.types.Ty.{Ty}
@@ -78,9 +77,9 @@ module _ (types : Types) (program : BoxProgram) (r : Registers) (words : List �
       ∙ last_front words r.top count top few in
       (λ i. flat_outs types (objects_in heap) (tys_are i) mask (sym slice i)) ∙ parts.flat_is ∙ ap Some outs_are
 
-  pub outs_fit : (outputs : List OutputView) → HaveRoom outputs end.1.outs → All (λ (output : OutputView). output.words ≡ None) outputs
+  pub outs_fit : (outputs : List OutputView) → HaveRoom outputs end.1.outs
       → OutsFit (flat_outs types (objects_in heap) tys mask (on_top count words r.top)) outputs end.1.outs
-  outs_fit outputs room absent = record { is = flat_is; room = room; absent = absent }
+  outs_fit outputs room = record { is = flat_is; room = room }
 
   pub holds_end : (outputs new : List OutputView)
       → ((flat : List (Option (List ℕ))) → flat_outs types (objects_in heap) tys mask (on_top count words r.top) ≡ Some flat → new ≡ with_outputs outputs flat)

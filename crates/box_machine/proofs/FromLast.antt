@@ -1,13 +1,12 @@
 -- How the outputs of a mask are written from the last one to the first.
-use Rattle.std.proofs.Common.{◌≡◌, ℕ, zero, suc, ◌+◌, ◌-◌, ◌/◌, ◌%◌, ◌<◌, ◌≤◌, List, [], ◌∷◌, ◌++◌, length, take, drop, get_or, Option, Some, None, slice_get, refl, ap, sym, ◌∙◌, subst, arith}
+use Rattle.std.proofs.Common.{◌≡◌, ℕ, zero, suc, ◌+◌, ◌-◌, ◌/◌, ◌%◌, ◌<◌, ◌≤◌, List, [], ◌∷◌, ◌++◌, length, take, drop, get_or, Option, Some, None, slice_get, slice_set, refl, ap, sym, ◌∙◌, subst, arith}
 use Rattle.std.specs.Int.{bit_at}
-use Rattle.std.specs.List.{All}
 use Rattle.std.proofs.lemmas.List.{get_or-drop, get_or-take, length-drop, take_all}
 use Rattle.std.proofs.lemmas.Nat.Bits.{bit_at_lowest, bit_at-suc}
 use Rattle.hume_base.specs.declared.types.Ty.{Ty}
 use Rattle.hume_base.specs.declared.types.Types.{Types}
 use Rattle.box_heap.specs.Heaps.{Object}
-use Rattle.box_heap.specs.Outputs.{OutputView}
+use Rattle.box_heap.specs.Outputs.{OutputView, absent}
 use Rattle.box_code.specs.FlatObjects.{flat_at}
 use Rattle.box_code.specs.Machine.{flat_outs, outs_in}
 use Rattle.box_machine.specs.Running.{HaveRoom, with_outputs}
@@ -16,15 +15,6 @@ use Rattle.box_machine.proofs.Finishing.{none_step, some_step}
 
 abbrev Outs : Type 0
 Outs = List (Option (List ℕ))
-
-abbrev Absent : List OutputView → Type 0
-Absent outputs = All (λ (output : OutputView). output.words ≡ None) outputs
-
-first_absent : (output : OutputView) (outputs : List OutputView) → Absent (output ∷ outputs) → output.words ≡ None
-first_absent output outputs all = all 0 output (omega arith)
-
-others_absent : (output : OutputView) (outputs : List OutputView) → Absent (output ∷ outputs) → Absent outputs
-others_absent output outputs all = λ k d less. all (suc k) d (omega (arith, less))
 
 -- nothing is put yet
 
@@ -90,7 +80,6 @@ module _ (types : Types) (objects : List Object) where
             fit = record {
               is = ap (λ n. flat_outs types objects tys (mask / 2) (drop n words)) even ∙ s.1;
               room = subst (HaveRoom (output ∷ outputs)) s.2 fit.room;
-              absent = others_absent output outputs fit.absent;
             };
             none = λ e. refl;
             some = λ e. absurd (omega (arith, even, e));
@@ -108,7 +97,6 @@ module _ (types : Types) (objects : List Object) where
             fit = record {
               is = ap (flat_outs types objects tys (mask / 2)) behind ∙ s.others_are;
               room = room.1;
-              absent = others_absent output outputs fit.absent;
             };
             none = λ e. absurd (omega (arith, odd, e));
             some = λ e. (s.words, refl, s.own_is, room.0);
@@ -123,25 +111,28 @@ pub record Placed (types : Types) (objects : List Object) (tys : List Ty) (mask 
   pub size : HasSize (put_from (suc k) outputs flat) k (length own)
   pub same : put_out (put_from (suc k) outputs flat) k own ≡ put_from k outputs flat
 
+-- The output of that number isn't in the mask: the next outputs are these with it absent.
+pub record Skipped (outputs : List OutputView) (flat : Outs) (k : ℕ) : Type 0 where
+  pub output : OutputView
+  pub there : slice_get (put_from (suc k) outputs flat) k ≡ Some output
+  pub same : slice_set (put_from (suc k) outputs flat) k (absent output.size) ≡ put_from k outputs flat
+
 module _ (types : Types) (objects : List Object) where
-  -- with an output that isn't in the mask no more is put
-  skipped : (k : ℕ) (tys : List Ty) (mask : ℕ) (words : List ℕ) (outputs : List OutputView) (flat : Outs)
-      → OutsFit (flat_outs types objects tys mask words) outputs flat → k < length tys → k < length outputs → bit_at mask k ≡ 0
-      → put_from (suc k) outputs flat ≡ put_from k outputs flat
+  pub skipped : (k : ℕ) (tys : List Ty) (mask : ℕ) (words : List ℕ) (outputs : List OutputView) (flat : Outs)
+      → OutsFit (flat_outs types objects tys mask words) outputs flat → k < length tys → k < length outputs → bit_at mask k ≡ 0 → Skipped outputs flat k
   skipped k [] mask words outputs flat fit less inside bit = absurd (omega (arith, less))
   skipped k (ty ∷ tys) mask words [] flat fit less inside bit = absurd (omega (arith, inside))
   skipped zero (ty ∷ tys) mask words (output ∷ outputs) flat fit less inside bit =
       let even : mask % 2 ≡ 0 = sym (bit_at_lowest mask) ∙ bit in
       let p = parts types objects ty tys mask words output outputs flat fit in
       let whole : flat ≡ None ∷ p.rest = p.both ∙ ap (λ out. out ∷ p.rest) (p.none even) in
-      subst (λ (f : Outs). put_from 1 (output ∷ outputs) f ≡ put_from 0 (output ∷ outputs) f) (sym whole)
-      (λ i. record { size = output.size; words = first_absent output outputs fit.absent i } ∷ with_outputs outputs p.rest)
+      subst (λ (f : Outs). Skipped (output ∷ outputs) f 0) (sym whole) (record { output = output; there = refl; same = refl })
   skipped (suc k) (ty ∷ tys) mask words (output ∷ outputs) flat fit less inside bit =
       let p = parts types objects ty tys mask words output outputs flat fit in
-      let same = skipped k tys (mask / 2) (drop (mask % 2) words) outputs p.rest p.fit (omega (arith, less)) (omega (arith, inside))
+      let s = skipped k tys (mask / 2) (drop (mask % 2) words) outputs p.rest p.fit (omega (arith, less)) (omega (arith, inside))
       (sym (bit_at-suc mask k) ∙ bit) in
-      subst (λ (f : Outs). put_from (suc (suc k)) (output ∷ outputs) f ≡ put_from (suc k) (output ∷ outputs) f) (sym p.both)
-      (ap (λ os. output ∷ os) same)
+      subst (λ (f : Outs). Skipped (output ∷ outputs) f (suc k)) (sym p.both)
+      (record { output = s.output; there = s.there; same = ap (λ os. output ∷ os) s.same })
 
   pub placed : (k : ℕ) (tys : List Ty) (mask : ℕ) (words : List ℕ) (outputs : List OutputView) (flat : Outs) (own_ty : Ty)
       → OutsFit (flat_outs types objects tys mask words) outputs flat → k < length tys → k < length outputs → own_ty ≡ get_or tys k own_ty → bit_at mask k ≡ 1
@@ -215,12 +206,21 @@ module _ (outs : List Ty) (mask top number base : ℕ) (enough : outs_in mask ou
         let same : outs_in mask (take number outs) ≡ outs_in mask (take (number - 1) outs) + 0 = count ∙ ap (λ bit. outs_in mask (take (number - 1) outs) + bit) none in
         omega (arith, base_is, same)
 
-    pub stays_put : (types : Types) (objects : List Object) (words : List ℕ) (outputs : List OutputView) (flat : Outs)
-        → OutsFit (flat_outs types objects outs mask words) outputs flat → put_from number outputs flat ≡ put_from (number - 1) outputs flat
-    stays_put types objects words outputs flat fit =
-        let long = outputs_long types objects outs mask words outputs flat fit in
-        ap (λ n. put_from n outputs flat) (sym next)
-        ∙ skipped types objects (number - 1) outs mask words outputs flat fit (omega (arith, few, more)) (omega (arith, few, more, long)) none
+    module _ (types : Types) (objects : List Object) (words : List ℕ) (outputs : List OutputView) (flat : Outs)
+        (fit : OutsFit (flat_outs types objects outs mask words) outputs flat) where
+      abbrev gap : Skipped outputs flat (number - 1)
+      gap =
+          let long = outputs_long types objects outs mask words outputs flat fit in
+          skipped types objects (number - 1) outs mask words outputs flat fit (omega (arith, few, more)) (omega (arith, few, more, long)) none
+
+      abbrev pub found_there : OutputView
+      found_there = gap.output
+
+      pub is_there : slice_get (put_from number outputs flat) (number - 1) ≡ Some found_there
+      is_there = subst (λ n. slice_get (put_from n outputs flat) (number - 1) ≡ Some found_there) next gap.there
+
+      pub absent_put : slice_set (put_from number outputs flat) (number - 1) (absent found_there.size) ≡ put_from (number - 1) outputs flat
+      absent_put = ap (λ n. slice_set (put_from n outputs flat) (number - 1) (absent found_there.size)) (sym next) ∙ gap.same
 
   module _ (one : bit_at mask (number - 1) ≡ 1) where
     counted : outs_in mask (take number outs) ≡ outs_in mask (take (number - 1) outs) + 1

@@ -105,7 +105,6 @@ module _ (types : Types) (program : BoxProgram) (rule : ℕ) (heap : HeapView) (
         handler = λ raised. let some = e.handler_room raised in omega (arith, whole, some);
       };
       outputs_room = e.outputs_room;
-      absent = e.absent;
     }
 
     -- each run of the rule ends so

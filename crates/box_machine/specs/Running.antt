@@ -1,5 +1,5 @@
 -- When a rule's code runs to its end, and what it leaves.
-use Rattle.std.specs.Prelude.{◌≡◌, ℕ, ◌≤◌, All, List, [], ◌∷◌, ◌++◌, length, Option, Some, None, slice_get}
+use Rattle.std.specs.Prelude.{◌≡◌, ℕ, ◌≤◌, List, [], ◌∷◌, ◌++◌, length, Option, Some, None, slice_get}
 use Rattle.std.specs.Option.{IsSome}
 use Rattle.hume_base.specs.declared.types.Types.{Types}
 use Rattle.box_heap.specs.Heaps.{HeapView, HasObjects, Object, with_objects}
@@ -31,7 +31,7 @@ HaveRoom (output ∷ outputs) (None ∷ outs) = HaveRoom outputs outs
 HaveRoom (output ∷ outputs) (Some words ∷ outs) = (length words ≡ output.size) × HaveRoom outputs outs
 
 -- The rule's code ends within the program's work, and there is room for all that it puts on heap and stack, also for the
--- word with which a handler begins, and for its outputs, each of which is absent.
+-- word with which a handler begins, and for its outputs.
 pub record EndsInRoom (types : Types) (program : BoxProgram) (rule : ℕ) (heap : HeapView) (stack : StackView) (outputs : List OutputView) : Type 0 where
   pub count : ℕ
   pub final : Machine
@@ -41,7 +41,6 @@ pub record EndsInRoom (types : Types) (program : BoxProgram) (rule : ℕ) (heap 
   pub stack_room : final.peak ≤ stack.room
   pub handler_room : IsSome final.raised → 1 ≤ stack.room
   pub outputs_room : HaveRoom outputs final.outs
-  pub absent : All (λ (output : OutputView). output.words ≡ None) outputs
 
 -- the heap once other objects are put behind those that it had, one after another
 pub record HasPut (old new : HeapView) (before after : List Object) : Type 0 where

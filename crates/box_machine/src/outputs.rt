@@ -13,8 +13,8 @@ use crate::standing::{flatten_standing, is_scalar};
 use box_heap::{BoxHeap, OutBuf};
 use hume_base::{Ty, Types};
 
-/// Writes the flat words of the outputs of the mask, from the last one to the first, and says where their words begin. There is a
-/// word for each of them below the top.
+/// Writes the flat words of the outputs of the mask, from the last one to the first, and says where their words begin. The other
+/// outputs become absent. There is a word for each of the mask below the top.
 pub(crate) fn write_outputs(
     types: &Types,
     outs: &[Ty],
@@ -43,6 +43,8 @@ pub(crate) fn write_outputs(
         if has_output(mask, number) {
             base -= 1;
             write_output(types, &outs[number], words[base], heap, out, number);
+        } else {
+            out.remove(number);
         }
     }
     base

@@ -17,7 +17,7 @@ use Rattle.wire_cells.specs.Cells.{CellView}
 use Rattle.match_rules.specs.Inputs.{left_in}
 use Rattle.box_step.specs.runs.Runs.{HasRun, IsReadyToRun, memory}
 use Rattle.box_step.specs.Views.{CompiledView}
-use Rattle.box_step.specs.inner.Buffers.{cleared, sizes_in, words_in}
+use Rattle.box_step.specs.inner.Buffers.{sizes_in, words_in}
 use Rattle.box_step.specs.inner.Firing.{AreBuiltAnew, Fires, HasFired}
 use Rattle.box_step.proofs.Firing.{has_fired}
 use Rattle.box_step.proofs.Orders.{stands}
@@ -36,26 +36,23 @@ module _ {core : Core} {b : BoxC} {before : HalfStep} {box : CompiledView} {cell
       let found = stands (λ n. rule_fits ins (slice_get b.rules n)) before.part.order number fires.found in
       (found.0, ap (λ order. slice_get order found.0) fires.at.box_at.order ∙ found.1)
 
-  -- the inputs are built, and the outputs cleared
+  -- the inputs are built
   module _ (heap : HeapView) (stack : StackView) (built : AreBuiltAnew (built_values pats_of.pats ins) box.heap heap box.stack stack)
-      (buffer : List OutputView) (sized : sizes_in buffer ≡ box.sizes) (absents : List OutputView) (are_cleared : absents ≡ cleared buffer) where
+      (buffer : List OutputView) (sized : sizes_in buffer ≡ box.sizes) where
     whole_built : AreBuiltAnew (built_values fires.rule.pats ins) box.heap heap box.stack stack
     whole_built = subst (λ pats. AreBuiltAnew (built_values pats ins) box.heap heap box.stack stack) (same_patterns fires) built
 
-    pub its_ready : IsReadyToRun core b fires.rule ins bare.types box.program number (memory heap stack absents)
-    its_ready =
-        subst (λ outputs. IsReadyToRun core b fires.rule ins bare.types box.program number (memory heap stack outputs)) (sym are_cleared)
-        (ready fires heap stack whole_built buffer sized)
+    pub its_ready : IsReadyToRun core b fires.rule ins bare.types box.program number (memory heap stack buffer)
+    its_ready = ready fires heap stack whole_built buffer sized
 
     pub it_has_fired : (after : HeapView) (top : StackView) (outputs : List OutputView) (work : ℕ) (answer : Ran)
-        → HasRun core b fires.rule ins (memory heap stack absents) (memory after top outputs) work answer
+        → HasRun core b fires.rule ins (memory heap stack buffer) (memory after top outputs) work answer
         → (order : List ℕ) → order ≡ (if fair then moved_last number box.order else box.order)
         → (left : List CellView) → left ≡ left_in (taken_at pats_of.pats ins) cells
         → HasFired core b before number box
         (record box { order = order; heap = after; stack = top; sizes = sizes_in outputs; pending = Some (words_in outputs); work = work }) left answer
     it_has_fired after top outputs work answer run order order_is left left_is =
-        let cleared_run = subst (λ os. HasRun core b fires.rule ins (memory heap stack os) (memory after top outputs) work answer) are_cleared run in
         subst (λ cs. HasFired core b before number box
         (record box { order = order; heap = after; stack = top; sizes = sizes_in outputs; pending = Some (words_in outputs); work = work }) cs answer)
         (sym (left_is ∙ ap (λ pats. left_in (taken_at pats ins) cells) (same_patterns fires)))
-        (has_fired fires heap stack whole_built buffer sized after top outputs work answer cleared_run order order_is)
+        (has_fired fires heap stack whole_built buffer sized after top outputs work answer run order order_is)

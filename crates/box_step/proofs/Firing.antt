@@ -27,15 +27,14 @@ use Rattle.match_rules.specs.Inputs.{left_in}
 use Rattle.match_rules.proofs.Taking.{left_held}
 use Rattle.box_step.specs.runs.Runs.{HasRun, cost_with, memory, result_with}
 use Rattle.box_step.proofs.runs_lemmas.Ends.{outputs_many}
-use Rattle.box_step.proofs.runs_lemmas.OutputRoom.{no_outputs}
 use Rattle.box_step.specs.Boxes.{HasExecuted, HasSpent, IsAt}
 use Rattle.match_rules.specs.Choosing.{first_fitting}
 use Rattle.box_step.specs.Steps.{execute_answer, execute_spent, rule_answer}
 use Rattle.box_step.specs.Views.{CompiledView}
-use Rattle.box_step.specs.inner.Buffers.{cleared, sizes_in, words_in}
+use Rattle.box_step.specs.inner.Buffers.{sizes_in, words_in}
 use Rattle.box_step.specs.inner.Firing.{AreBuiltAnew, Fires, HasFired}
 use Rattle.box_step.proofs.Ready.{can_fire, heap_peak, heap_room, least_heap, least_stack, stack_peak, stack_room}
-use Rattle.box_step.proofs.Rooms.{absent_by_sizes, given_sizes, given_words}
+use Rattle.box_step.proofs.Rooms.{given_sizes, given_words}
 
 module _ {core : Core} {b : BoxC} {before : HalfStep} {box : CompiledView} {cells : List CellView} {bare : Core} {fair : Bool} {number : ℕ} {pats_of : RuleC}
     (fires : Fires core b before box cells bare fair number pats_of) where
@@ -81,15 +80,13 @@ module _ {core : Core} {b : BoxC} {before : HalfStep} {box : CompiledView} {cell
       (built : AreBuiltAnew (built_values fires.rule.pats ins) box.heap built_heap box.stack built_stack)
       (buffer : List OutputView) (sized : sizes_in buffer ≡ box.sizes)
       (heap : HeapView) (stack : StackView) (outputs : List OutputView) (work : ℕ) (answer : Ran)
-      (run : HasRun core b fires.rule ins (memory built_heap built_stack (cleared buffer)) (memory heap stack outputs) work answer)
+      (run : HasRun core b fires.rule ins (memory built_heap built_stack buffer) (memory heap stack outputs) work answer)
       (order : List ℕ) (order_is : order ≡ (if fair then moved_last number box.order else box.order)) where
     abbrev new : CompiledView
     new = record box { order = order; heap = heap; stack = stack; sizes = sizes_in outputs; pending = Some (words_in outputs); work = work }
 
-    given : outputs ≡ with_outputs (no_outputs core.types (port_types b.outs)) (flat_outputs core.types (port_types b.outs) outs)
+    given : outputs ≡ with_outputs buffer (flat_outputs core.types (port_types b.outs) outs)
     given = run.gives
-        ∙ ap (λ os. with_outputs os (flat_outputs core.types (port_types b.outs) outs))
-        (absent_by_sizes core.types buffer (port_types b.outs) (sized ∙ fires.at.box_at.sizes))
 
     ordered : order ≡ (if b.fair then moved_last number before.part.order else before.part.order)
     ordered = order_is ∙ λ i. if fires.fair_is i then moved_last number (fires.at.box_at.order i) else fires.at.box_at.order i
@@ -110,8 +107,9 @@ module _ {core : Core} {b : BoxC} {before : HalfStep} {box : CompiledView} {cell
               within = run.stack_within;
             };
             order = ordered;
-            sizes = ap sizes_in given ∙ given_sizes core.types (port_types b.outs) outs many_outs;
-            pending = ap (λ os. Some (words_in os)) given ∙ ap (λ ws. Some ws) (given_words core.types (port_types b.outs) outs many_outs);
+            sizes = ap sizes_in given ∙ given_sizes core.types (port_types b.outs) buffer outs (sized ∙ fires.at.box_at.sizes) many_outs;
+            pending = ap (λ os. Some (words_in os)) given
+                ∙ ap (λ ws. Some ws) (given_words core.types (port_types b.outs) buffer outs (sized ∙ fires.at.box_at.sizes) many_outs);
           };
           inputs = left_held core (taken_at fires.rule.pats ins) fires.at.inputs;
         }

@@ -8,7 +8,6 @@ use Rattle.hume_base.specs.Sizes.{HaveTheirSizes}
 use Rattle.hume_model.specs.declared.core_tree.RuleC.{RuleC}
 use Rattle.hume_model.specs.declared.core_tree.BoxC.{BoxC}
 use Rattle.hume_model.specs.declared.core_tree.Core.{Core}
-use Rattle.hume_model.specs.BoxTyping.{port_types}
 use Rattle.hume_model.specs.Firing.{rule_fits}
 use Rattle.hume_model.specs.Matching.{bound, fits}
 use Rattle.hume_model.specs.Reading.{HaveReadableSizes}
@@ -27,10 +26,10 @@ use Rattle.box_step.specs.runs.Runs.{CanFire, HasRoomToRun, HoldsInputs, IsReady
 use Rattle.box_step.proofs.runs_lemmas.Ends.{within_bound}
 use Rattle.box_step.proofs.runs_lemmas.HeapPeaks.{peak_after}
 use Rattle.box_step.specs.Views.{CompiledView}
-use Rattle.box_step.specs.inner.Buffers.{cleared, sizes_in}
+use Rattle.box_step.specs.inner.Buffers.{sizes_in}
 use Rattle.box_step.specs.inner.Firing.{AreBuiltAnew, Fires}
 use Rattle.box_step.proofs.InputValues.{inputs_typed}
-use Rattle.box_step.proofs.Rooms.{pushed_words, pushed_peak, absent_by_sizes}
+use Rattle.box_step.proofs.Rooms.{pushed_words, pushed_peak}
 
 -- what is found passes
 pub found_passes : {X : Type 0} (test : X → Bool) (xs : List X) (x : X) → find test xs ≡ Some x → test x ≡ true
@@ -153,9 +152,9 @@ module _ {core : Core} {b : BoxC} {before : HalfStep} {box : CompiledView} {cell
           stack_counted = omega (arith, high, many, top);
         }
 
-    -- and outputs of the sizes of the box's, once they are cleared
+    -- and outputs of the sizes of the box's
     module _ (outputs : List OutputView) (sized : sizes_in outputs ≡ box.sizes) where
-      has_room : HasRoomToRun core b box.program (memory heap stack (cleared outputs))
+      has_room : HasRoomToRun core b box.program (memory heap stack outputs)
       has_room =
           let room = stack_room in
           let top = stack_peak in
@@ -165,10 +164,10 @@ module _ {core : Core} {b : BoxC} {before : HalfStep} {box : CompiledView} {cell
             heap_room = heap_room ∙ fires.at.box_at.room.heap_room;
             stack_room = stack_room ∙ fires.at.box_at.room.stack_room;
             within = omega (arith, room, top, fit, within);
-            absent_outputs = absent_by_sizes core.types outputs (port_types b.outs) (sized ∙ fires.at.box_at.sizes);
+            output_sizes = sized ∙ fires.at.box_at.sizes;
           }
 
-      pub ready : IsReadyToRun core b fires.rule ins bare.types box.program number (memory heap stack (cleared outputs))
+      pub ready : IsReadyToRun core b fires.rule ins bare.types box.program number (memory heap stack outputs)
       ready = record {
         fires = can_fire;
         types_are = record {

@@ -8,11 +8,10 @@ use Rattle.hume_base.specs.declared.types.Value.{Value}
 use Rattle.hume_base.specs.Sizes.{size_of}
 use Rattle.hume_base.specs.Flat.{flat}
 use Rattle.box_heap.specs.Stacks.{StackView, with_word, with_words}
-use Rattle.box_heap.specs.Outputs.{OutputView, absent}
+use Rattle.box_heap.specs.Outputs.{OutputView}
 use Rattle.box_machine.specs.Running.{with_outputs}
 use Rattle.code_laws.specs.Ending.{flat_outputs}
-use Rattle.box_step.proofs.runs_lemmas.OutputRoom.{no_outputs}
-use Rattle.box_step.specs.inner.Buffers.{cleared, sizes_in, words_in}
+use Rattle.box_step.specs.inner.Buffers.{sizes_in, words_in}
 
 pub pushed_words : (stack : StackView) (words : List ℕ) → (with_words stack words).words ≡ stack.words ++ words
 pushed_words stack [] = sym (append-nil stack.words)
@@ -28,25 +27,25 @@ pushed_peak stack (word ∷ words) low =
     let rest = pushed_peak next words (omega (arith, long)) in
     omega (arith, rest, long)
 
--- outputs of the sizes of types, all of them absent
-pub absent_by_sizes : (types : Types) (outputs : List OutputView) (tys : List Ty)
-    → sizes_in outputs ≡ map (size_of types) tys → cleared outputs ≡ no_outputs types tys
-absent_by_sizes types [] [] same = refl
-absent_by_sizes types [] (ty ∷ tys) same = cc
-absent_by_sizes types (output ∷ outputs) [] same = cc
-absent_by_sizes types (output ∷ outputs) (ty ∷ tys) same =
+-- outputs of the sizes of types keep these once they are given, and have the flat words of what is given
+
+pub given_sizes : (types : Types) (tys : List Ty) (outputs : List OutputView) (outs : List (Option Value)) → sizes_in outputs ≡ map (size_of types) tys
+    → length outs ≡ length tys → sizes_in (with_outputs outputs (flat_outputs types tys outs)) ≡ map (size_of types) tys
+given_sizes types [] [] outs sized long = refl
+given_sizes types [] (output ∷ outputs) outs sized long = cc
+given_sizes types (ty ∷ tys) [] outs sized long = cc
+given_sizes types (ty ∷ tys) (output ∷ outputs) [] sized long = absurd (omega (arith, long))
+given_sizes types (ty ∷ tys) (output ∷ outputs) (out ∷ outs) sized long =
     let first : output.size ≡ size_of types ty = cc in
-    let rest : sizes_in outputs ≡ map (size_of types) tys = cc in
-    λ i. absent (first i) ∷ absent_by_sizes types outputs tys rest i
+    let others : sizes_in outputs ≡ map (size_of types) tys = cc in
+    λ i. first i ∷ given_sizes types tys outputs outs others (omega (arith, long)) i
 
-pub given_sizes : (types : Types) (tys : List Ty) (outs : List (Option Value)) → length outs ≡ length tys
-    → sizes_in (with_outputs (no_outputs types tys) (flat_outputs types tys outs)) ≡ map (size_of types) tys
-given_sizes types [] outs long = refl
-given_sizes types (ty ∷ tys) [] long = absurd (omega (arith, long))
-given_sizes types (ty ∷ tys) (out ∷ outs) long = ap (λ sizes. size_of types ty ∷ sizes) (given_sizes types tys outs (omega (arith, long)))
-
-pub given_words : (types : Types) (tys : List Ty) (outs : List (Option Value)) → length outs ≡ length tys
-    → words_in (with_outputs (no_outputs types tys) (flat_outputs types tys outs)) ≡ flat_outputs types tys outs
-given_words types [] outs long = refl
-given_words types (ty ∷ tys) [] long = absurd (omega (arith, long))
-given_words types (ty ∷ tys) (out ∷ outs) long = ap (λ words. option_map (flat types ty) out ∷ words) (given_words types tys outs (omega (arith, long)))
+pub given_words : (types : Types) (tys : List Ty) (outputs : List OutputView) (outs : List (Option Value)) → sizes_in outputs ≡ map (size_of types) tys
+    → length outs ≡ length tys → words_in (with_outputs outputs (flat_outputs types tys outs)) ≡ flat_outputs types tys outs
+given_words types [] [] outs sized long = refl
+given_words types [] (output ∷ outputs) outs sized long = cc
+given_words types (ty ∷ tys) [] outs sized long = cc
+given_words types (ty ∷ tys) (output ∷ outputs) [] sized long = absurd (omega (arith, long))
+given_words types (ty ∷ tys) (output ∷ outputs) (out ∷ outs) sized long =
+    let others : sizes_in outputs ≡ map (size_of types) tys = cc in
+    ap (λ words. option_map (flat types ty) out ∷ words) (given_words types tys outputs outs others (omega (arith, long)))

@@ -13,12 +13,11 @@ ghost use Rattle.box_costs.specs.ResultSpending.{built_values, inputs_built};
 ghost use Rattle.wire_cells.specs.Cells.{without_values};
 ghost use Rattle.match_rules.specs.Inputs.{AreCellsOf, left_in};
 ghost use Rattle.box_step.specs.Boxes.{AreBareForms, HasExecuted, IsAt};
-ghost use Rattle.box_step.specs.inner.Buffers.{cleared};
 ghost use Rattle.box_step.specs.inner.Firing.{AreBuiltAnew, Fires, HasFired};
 
 use crate::compiled::CompiledBox;
 use crate::runs::run_ready_rule;
-use box_heap::{BoxHeap, BoxStack, OutBuf};
+use box_heap::{BoxHeap, BoxStack};
 use box_machine::Ran;
 use hume_model::{BoxC, Core, PortC, RuleC};
 use match_rules::{RuleOrder, first_match, orders_have_each_rule_once, take_inputs};
@@ -68,7 +67,6 @@ impl CompiledBox {
             ins,
             &mut self.heap,
             &mut self.stack,
-            &mut self.outputs,
         );
         let ran = run_ready_rule(
             &core.types,
@@ -85,7 +83,7 @@ impl CompiledBox {
     }
 }
 
-// Takes the inputs of a rule that fits, builds them in an empty heap and on an empty stack, and takes the outputs away.
+// Takes the inputs of a rule that fits, and builds them in an empty heap and on an empty stack.
 fn build(
     core: &Core,
     ports: &[PortC],
@@ -93,7 +91,6 @@ fn build(
     ins: &mut [WireCell],
     heap: &mut BoxHeap,
     stack: &mut BoxStack,
-    outputs: &mut OutBuf,
 )
     requires core { HasSoundFrame core.now }
     requires fitting { (values : List (List Value)) × AreCellsOf core.now (port_types ports.now) ins.old values
@@ -106,11 +103,9 @@ fn build(
     ensures left { (values : List (List Value)) → AreCellsOf core.now (port_types ports.now) ins.old values
         → ins.new ≡ left_in (taken_at rule.now.pats (map oldest values)) ins.old }
     ensures rest { map without_values ins.new ≡ map without_values ins.old }
-    ensures absent { outputs.new ≡ cleared outputs.old }
 {
     heap.empty();
     stack.empty();
-    outputs.clear();
     take_inputs(core, ports, rule, ins, heap, stack);
 }
 

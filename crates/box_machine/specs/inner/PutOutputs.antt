@@ -1,5 +1,5 @@
 -- Outputs that are written from the last one to the first.
-use Rattle.std.specs.Prelude.{◌≡◌, ◌-◌, ℕ, All, List, ◌++◌, length, take, drop, Option, Some, None, slice_get, slice_set}
+use Rattle.std.specs.Prelude.{◌≡◌, ◌-◌, ℕ, List, ◌++◌, length, take, drop, Option, Some, slice_get, slice_set}
 use Rattle.box_heap.specs.Heaps.{HeapView}
 use Rattle.box_heap.specs.Outputs.{OutputView}
 use Rattle.box_code.specs.Machine.{Machine}
@@ -25,11 +25,10 @@ pub record HasSize (outputs : List OutputView) (i count : ℕ) : Type 0 where
   pub there : slice_get outputs i ≡ Some output
   pub size : count ≡ output.size
 
--- these are the outputs' words, and there is room for them in outputs that are absent
+-- these are the outputs' words, and there is room for them
 pub record OutsFit (flat : Option (List (Option (List ℕ)))) (outputs : List OutputView) (outs : List (Option (List ℕ))) : Type 0 where
   pub is : flat ≡ Some outs
   pub room : HaveRoom outputs outs
-  pub absent : All (λ (output : OutputView). output.words ≡ None) outputs
 
 -- the machine ends so, and a row of so many words, a heap and the outputs have room for it
 pub record Reaches (reached : Option (ℕ × Machine)) (row room : ℕ) (outputs : List OutputView) : Type 0 where
@@ -37,7 +36,6 @@ pub record Reaches (reached : Option (ℕ × Machine)) (row room : ℕ) (outputs
   pub is : reached ≡ Some end
   pub fits : Fits end.1 row room
   pub outputs_room : HaveRoom outputs end.1.outs
-  pub absent : All (λ (output : OutputView). output.words ≡ None) outputs
 
 -- registers, words, heap and outputs hold the machine at its end, with so many instructions left
 pub record HoldsEnd (end : ℕ × Machine) (left : ℕ) (r : Registers) (words : List ℕ) (heap : HeapView) (old new : List OutputView) : Type 0 where

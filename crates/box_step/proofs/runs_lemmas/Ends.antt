@@ -1,5 +1,5 @@
 -- A rule that is ready to run ends in the room that there is.
-use Rattle.std.proofs.Common.{◌≡◌, ℕ, ◌≤◌, true, All, List, [], ◌∷◌, length, Option, Some, None, if◌then◌else◌, slice_get, refl, ap, sym, ◌∙◌, subst, arith}
+use Rattle.std.proofs.Common.{◌≡◌, ℕ, ◌≤◌, true, List, [], ◌∷◌, length, Option, Some, None, if◌then◌else◌, slice_get, refl, ap, sym, ◌∙◌, subst, arith}
 use Rattle.std.specs.Option.{IsSome, option_map, option_and_then}
 use Rattle.hume_base.specs.declared.types.Types.{Types}
 use Rattle.hume_base.specs.declared.types.Value.{Value}
@@ -17,16 +17,15 @@ use Rattle.box_costs.specs.Costs.{IsAtMost}
 use Rattle.box_costs.specs.Bounds.{box_bound}
 use Rattle.box_costs.specs.ResultSpending.{rule_spent, box_spent, cost_if_fits}
 use Rattle.box_costs.proofs.Rules.{box_within}
-use Rattle.box_heap.specs.Outputs.{OutputView}
 use Rattle.box_code.specs.declared.program.BoxProgram.{BoxProgram}
-use Rattle.box_code.specs.Machine.{Setting, setting_of, Machine, used}
+use Rattle.box_code.specs.Machine.{setting_of, Machine, used}
 use Rattle.box_machine.specs.Running as machine
 use Rattle.code_laws.specs.Ending as meaning
 use Rattle.code_laws.specs.RuleEnding.{RuleRuns}
 use Rattle.code_laws.proofs.Heaps.{used-append}
 use Rattle.code_laws.proofs.WholeRules.{rule_runs}
 use Rattle.box_step.specs.runs.Runs.{Memory, CanFire, IsReadyToRun, result_with, cost_with}
-use Rattle.box_step.proofs.runs_lemmas.OutputRoom.{outputs_fit, all_absent}
+use Rattle.box_step.proofs.runs_lemmas.OutputRoom.{outputs_fit}
 
 module _ {core : Core} {b : BoxC} {number : ℕ} {rule : RuleC} {ins : List (Option Value)} (fires : CanFire core b number rule ins) where
   fits_here : rule_fits ins (slice_get b.rules number) ≡ true
@@ -109,9 +108,8 @@ module _ {core : Core} {b : BoxC} {rule : RuleC} {ins : List (Option Value)} {ty
       let many : length (handled core b.handlers (result_with core rule ins)) ≡ length (port_types b.outs) =
       outputs_many ready.fires ∙ sym (length-map b.outs (λ (port : PortC). port.ty)) in
       subst (machine.HaveRoom m.outputs) (sym end_outs)
-      (subst (λ outputs. machine.HaveRoom outputs (meaning.flat_outputs core.types (port_types b.outs) (handled core b.handlers (result_with core rule ins))))
-      (sym ready.room.absent_outputs)
-      (outputs_fit core.types (port_types b.outs) (handled core b.handlers (result_with core rule ins)) (outputs_typed ready.fires) many))
+      (outputs_fit core.types (port_types b.outs) m.outputs (handled core b.handlers (result_with core rule ins)) ready.room.output_sizes
+      (outputs_typed ready.fires) many)
 
   pub ends_in_room : machine.EndsInRoom types program number m.heap m.stack m.outputs
   ends_in_room =
@@ -131,5 +129,4 @@ module _ {core : Core} {b : BoxC} {rule : RuleC} {ins : List (Option Value)} {ty
         stack_room = stack_fits;
         handler_room = handler_fits runs.end.raised refl;
         outputs_room = outs_fit;
-        absent = subst (All (λ (output : OutputView). output.words ≡ None)) (sym ready.room.absent_outputs) (all_absent core.types (port_types b.outs));
       }

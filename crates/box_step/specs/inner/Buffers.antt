@@ -1,7 +1,7 @@
 -- The outputs of a compiled box, by the buffer that they are in.
 use Rattle.std.specs.Prelude.{ℕ, Bool, List, map, Option, Some, None, if◌then◌else◌, slice_get}
 use Rattle.std.specs.Option.{option_and_then}
-use Rattle.box_heap.specs.Outputs.{OutputView, absent}
+use Rattle.box_heap.specs.Outputs.{OutputView}
 
 -- how many words each of them has
 abbrev pub sizes_in : List OutputView → List ℕ
@@ -14,10 +14,6 @@ words_in outputs = map (λ (output : OutputView). output.words) outputs
 -- what is left in the buffer doesn't count where nothing is pending
 abbrev pub pending_in : Bool → List OutputView → Option (List (Option (List ℕ)))
 pending_in waits outputs = if waits then Some (words_in outputs) else None
-
--- all of them are absent
-abbrev pub cleared : List OutputView → List OutputView
-cleared outputs = map (λ (output : OutputView). absent output.size) outputs
 
 -- the words of the output at a place; none where it is absent
 abbrev pub words_at : List OutputView → ℕ → Option (List ℕ)

@@ -20,7 +20,7 @@ use Rattle.box_costs.specs.ResultSpending.{built_values, inputs_built, rule_spen
 use Rattle.box_heap.specs.Heaps.{HeapView, HasObjects, Object}
 use Rattle.box_heap.specs.Stacks.{StackView}
 use Rattle.box_heap.specs.Standing.{AllStand}
-use Rattle.box_heap.specs.Outputs.{OutputView, absent}
+use Rattle.box_heap.specs.Outputs.{OutputView}
 use Rattle.box_code.specs.declared.program.BoxProgram.{BoxProgram}
 use Rattle.box_code.specs.RepresentsBox.{RepresentsBox}
 use Rattle.box_machine.specs.declared.ran.Ran.{Ran}
@@ -57,13 +57,13 @@ pub record HoldsInputs (rule : RuleC) (ins : List (Option Value)) (heap : HeapVi
   pub heap_counted : length heap.words ≤ heap.peak
   pub stack_counted : length stack.words ≤ stack.peak
 
--- Heap and stack have the lengths that the program says, the stack never had more words, and each output of the box has its
--- size and is absent.
+-- Heap and stack have the lengths that the program says, the stack never had more words, and each output has the size of its
+-- type.
 pub record HasRoomToRun (core : Core) (b : BoxC) (program : BoxProgram) (m : Memory) : Type 0 where
   pub heap_room : m.heap.room ≡ program.heap
   pub stack_room : m.stack.room ≡ program.stack
   pub within : m.stack.peak ≤ m.stack.room
-  pub absent_outputs : m.outputs ≡ map (λ ty. absent (size_of core.types ty)) (port_types b.outs)
+  pub output_sizes : map (λ (output : OutputView). output.size) m.outputs ≡ map (size_of core.types) (port_types b.outs)
 
 -- the types are the core's, and their sizes are those that are written and can be read
 pub record AreItsTypes (core : Core) (types : Types) : Type 0 where

@@ -1,6 +1,6 @@
 -- A buffer of two outputs, of which the second is begun.
-use Rattle.std.proofs.Common.{◌≡◌, ℕ, ◌<◌, List, [], ◌∷◌, length, map, get_or, Some, slice_get, slice_set, refl, ap, ◌∙◌, arith}
-use Rattle.std.proofs.lemmas.List.{length-set, length-map}
+use Rattle.std.proofs.Common.{◌≡◌, ℕ, ◌<◌, List, [], ◌∷◌, length, get_or, Some, slice_get, slice_set, refl, ap, ◌∙◌, arith}
+use Rattle.std.proofs.lemmas.List.{length-set}
 use Rattle.std.proofs.lemmas.Option.{slice_get-get_or}
 use Rattle.box_heap.specs.Outputs.{OutputView, absent, begun, with_words}
 
@@ -25,9 +25,11 @@ pub still_two : (buffer changed : List OutputView) → buffer ≡ absent 1 ∷ b
 still_two buffer changed is puts =
     ap (λ os. length os) (puts (begun (absent 2)) (0 ∷ 0 ∷ []) (ap (λ os. slice_get os 1) is) refl) ∙ length-set buffer 1 _ ∙ ap (λ os. length os) is
 
-pub cleared_two : (buffer cleared : List OutputView) → length buffer ≡ 2 → cleared ≡ map (λ (output : OutputView). absent output.size) buffer
-    → length cleared ≡ 2
-cleared_two buffer cleared many is = ap (λ os. length os) is ∙ length-map buffer _ ∙ many
+pub removed_two : (buffer changed : List OutputView) → length buffer ≡ 2
+    → ((output : OutputView) → slice_get buffer 1 ≡ Some output → changed ≡ slice_set buffer 1 (absent output.size))
+    → length changed ≡ 2
+removed_two buffer changed many removes =
+    ap (λ os. length os) (removes (get_or buffer 1 (absent 0)) (slice_get-get_or buffer 1 (absent 0) (omega (arith, many)))) ∙ length-set buffer 1 _ ∙ many
 
 pub begun_two : (buffer changed : List OutputView) → length buffer ≡ 2
     → ((output : OutputView) → slice_get buffer 1 ≡ Some output → changed ≡ slice_set buffer 1 (begun output))

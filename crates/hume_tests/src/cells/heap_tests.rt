@@ -23,7 +23,7 @@ fn an_output_that_begins_again_has_no_old_words(rt: HostRuntime) -> Result<(), F
     outputs.put(1, 1, 8);
     assert!(rt; outputs.get(0).is_none());
     assert!(rt; outputs.get(1) == Some(&[0, 8][..]));
-    outputs.clear();
+    outputs.remove(1);
     outputs.begin(1);
     assert!(rt; outputs.get(1) == Some(&[0, 0][..]));
     Ok(())

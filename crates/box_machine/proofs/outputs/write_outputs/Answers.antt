@@ -1,14 +1,15 @@
-use Rattle.std.proofs.Common.{◌≡◌, ◌-◌, List, length, take, ap, sym, ◌∙◌, subst, arith}
+use Rattle.std.proofs.Common.{◌≡◌, ◌-◌, List, length, take, slice_get, slice_set, ap, sym, ◌∙◌, subst, arith}
 use Rattle.std.specs.Int.{bit_at}
 use Rattle.std.proofs.Math.Facts.{Fits-of_lt}
 use Rattle.std.proofs.lemmas.Bool.{eqb-true, eqb-false}
 use Rattle.std.proofs.lemmas.List.{take_all}
+use Rattle.std.proofs.lemmas.Option.{slice_get_within}
 use Rattle.std.proofs.lemmas.Nat.Bits.{bit_at-lt}
-use Rattle.box_heap.specs.Outputs.{OutputView}
+use Rattle.box_heap.specs.Outputs.{OutputView, absent}
 use Rattle.box_code.specs.Machine.{outs_in}
 use Rattle.box_machine.specs.inner.PutOutputs.{HasSize, on_top, put_out}
 use Rattle.box_machine.specs.inner.Stepping.{objects_in}
-use Rattle.box_machine.proofs.FromLast.{before, below, nothing_put, own, own_is, own_put, own_size, positive, stays, stays_put, zero_bit}
+use Rattle.box_machine.proofs.FromLast.{absent_put, before, below, found_there, is_there, nothing_put, own, own_is, own_put, own_size, positive, stays, zero_bit}
 use Rattle.box_machine.proofs.outputs.write_outputs.Goals as goal
 
 pub writing-init : goal.writing-init
@@ -86,8 +87,25 @@ writing-preserved-then-has_output c =
           c.index-outs-number.result c.index-outs-number.is;
     }
 
+pub remove-requires : goal.remove-requires
+remove-requires c =
+    let objects = objects_in c.args.heap.now in
+    let outs = c.args.outs.now in
+    let mask = c.args.mask in
+    let number = c.writing.number in
+    let other : bit_at mask (number - 1) ≡ 1 → ⊥ = eqb-false (bit_at mask (number - 1)) 1 (sym c.has_output.ensures ∙ c.if-has_output.false) in
+    let none : bit_at mask (number - 1) ≡ 0 = zero_bit (bit_at mask (number - 1)) (bit_at-lt mask (number - 1)) other in
+    let room = c.requires.room in
+    let words = on_top (outs_in mask outs) c.args.words.now c.args.top in
+    let there = is_there outs mask c.args.top number c.writing.base c.requires.enough c.writing.invariant.few c.writing-test.true c.writing.invariant.base none
+    c.args.types.now objects words c.args.out.now room.0 room.1 in
+    slice_get_within c.writing.out (number - 1) _
+    (ap (λ (os : List OutputView). slice_get os (number - 1)) (c.writing.invariant.put room.0 room.1) ∙ there)
+
 pub writing-preserved : goal.writing-preserved
 writing-preserved c =
+    let types = c.args.types.now in
+    let objects = objects_in c.args.heap.now in
     let outs = c.args.outs.now in
     let mask = c.args.mask in
     let number = c.writing.number in
@@ -96,13 +114,17 @@ writing-preserved c =
     let few = c.writing.invariant.few in
     let more = c.writing-test.true in
     let base_is = c.writing.invariant.base in
+    let words = on_top (outs_in mask outs) c.args.words.now c.args.top in
     record {
       few = omega (arith, few);
       base = stays outs mask c.args.top number c.writing.base c.requires.enough few more base_is none;
       put = λ flat fit.
-          c.writing.invariant.put flat fit
-          ∙ stays_put outs mask c.args.top number c.writing.base c.requires.enough few more base_is none c.args.types.now (objects_in c.args.heap.now)
-          (on_top (outs_in mask outs) c.args.words.now c.args.top) c.args.out.now flat fit;
+          let output = found_there outs mask c.args.top number c.writing.base c.requires.enough few more base_is none types objects words c.args.out.now flat fit in
+          let there = is_there outs mask c.args.top number c.writing.base c.requires.enough few more base_is none types objects words c.args.out.now flat fit in
+          let put = c.writing.invariant.put flat fit in
+          c.remove.ensures output (ap (λ (os : List OutputView). slice_get os (number - 1)) put ∙ there)
+          ∙ ap (λ (os : List OutputView). slice_set os (number - 1) (absent output.size)) put
+          ∙ absent_put outs mask c.args.top number c.writing.base c.requires.enough few more base_is none types objects words c.args.out.now flat fit;
     }
 
 pub offset_bounds-words-base : goal.offset_bounds-words-base

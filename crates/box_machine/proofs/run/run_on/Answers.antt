@@ -30,7 +30,7 @@ write_outputs-base-requires-clause-room c =
       outs_fit c.args.types.now c.args.program.now halted.result.registers halted.new.words halted.new.heap halted.result.mask halted.result.left
           (outs_in halted.result.mask c.as_slice-outs.result.now)
           c.as_slice-outs.result.now c.requires.ends.end c.as_slice-outs.ensures refl halted.ensures.top is c.args.out.now
-          c.requires.ends.outputs_room c.requires.ends.absent,
+          c.requires.ends.outputs_room,
     )
 
 pub returns-clause-end : goal.returns-clause-end

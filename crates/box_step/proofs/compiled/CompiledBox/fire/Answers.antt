@@ -39,7 +39,7 @@ run_ready_rule-ran-requires c =
       its,
       fires.rule,
       map oldest before.side,
-      its_ready fires c.build.new.heap c.build.new.stack built c.self.inside.outputs refl c.build.new.outputs c.build.ensures.absent,
+      its_ready fires c.build.new.heap c.build.new.stack built c.self.inside.outputs refl,
     )
 
 pub put_last-requires : goal.put_last-requires
@@ -54,8 +54,8 @@ returns-clause-fired c = λ whole its before it_fires same_ports.
     let cells = subst (λ types. AreCellsOf c.args.core.now types c.args.ins.now before.side) ports (cells_of fires.core_is fires.at.inputs) in
     let built = c.build.ensures.built before.side cells (bare_fits fires) in
     let outputs = c.self.inside.outputs in
-    let ready = its_ready fires now.heap now.stack built outputs refl now.outputs c.build.ensures.absent in
+    let ready = its_ready fires now.heap now.stack built outputs refl in
     whole_fired c.self.view_is
-    (it_has_fired fires now.heap now.stack built outputs refl now.outputs c.build.ensures.absent c.run_ready_rule-ran.new.heap c.run_ready_rule-ran.new.stack
+    (it_has_fired fires now.heap now.stack built outputs refl c.run_ready_rule-ran.new.heap c.run_ready_rule-ran.new.stack
     c.run_ready_rule-ran.new.out c.run_ready_rule-ran.new.work c.run_ready_rule-ran.result (c.run_ready_rule-ran.ensures whole its fires.rule ins ready) c.put_last.new.order
     c.put_last.ensures now.ins (c.build.ensures.left before.side cells))
