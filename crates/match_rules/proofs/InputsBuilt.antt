@@ -61,11 +61,11 @@ objects_room : (heap : HeapView) (objects : List Object) → (with_objects heap 
 objects_room heap [] = refl
 objects_room heap (object ∷ objects) = objects_room (with_object heap object) objects
 
-words_words : (stack : StackView) (words : List ℕ) → (with_words stack words).words ≡ stack.words ++ words
+pub words_words : (stack : StackView) (words : List ℕ) → (with_words stack words).words ≡ stack.words ++ words
 words_words stack [] = sym (append-nil stack.words)
 words_words stack (word ∷ words) = words_words (with_word stack word) words ∙ append_assoc stack.words (word ∷ []) words
 
-words_room : (stack : StackView) (words : List ℕ) → (with_words stack words).room ≡ stack.room
+pub words_room : (stack : StackView) (words : List ℕ) → (with_words stack words).room ≡ stack.room
 words_room stack [] = refl
 words_room stack (word ∷ words) = words_room (with_word stack word) words
 

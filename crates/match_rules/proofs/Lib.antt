@@ -8,5 +8,6 @@ pub mod Fitting
 pub mod Objects
 pub mod ValuesBuilt
 pub mod InputsBuilt
+pub mod PlainRules
 pub mod SideCells
 pub mod Asserting

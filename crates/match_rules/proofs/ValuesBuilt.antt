@@ -54,7 +54,7 @@ none_tagged = λ k d less. absurd (omega (arith, less))
 
 -- the words that values take
 
-word_takes : (w : ℕ) → built_of (value.Word w) ≡ 0
+pub word_takes : (w : ℕ) → built_of (value.Word w) ≡ 0
 word_takes w = ap built_of (sym (value.rolls-Word w)) ∙ fold-roll-Value ℕ built_step (Value-F.Word w)
 
 tuple_takes : (vs : List Value) → built_of (value.Tuple vs) ≡ (1 + length vs) + sum (map built_of vs)

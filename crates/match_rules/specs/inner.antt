@@ -1,3 +1,4 @@
 pub mod WordTests
 pub mod Builders
 pub mod Consuming
+pub mod Words

@@ -65,13 +65,13 @@ fn take_position(
 {
     match pat {
         InPat::Built(_) => take_built(core, ty, cell, heap, stack),
-        _ => take_plain(pat, cell),
+        _ => take_unbuilt(pat, cell),
     }
 }
 
 // At a position without a pattern.
 #[inline(never)]
-fn take_plain(pat: &InPat, cell: &mut WireCell)
+fn take_unbuilt(pat: &InPat, cell: &mut WireCell)
     ensures { cell.new ≡ consumed_at pat.now cell.old }
 {
     match pat {
