@@ -80,7 +80,7 @@ impl WireCell {
         requires { 1 ≤ length self.now.values }
         ensures { slice_get self.now.values 0 ≡ Some result.now }
     {
-        self.ring.nth(0)
+        self.ring.front()
     }
 
     /// Drops the oldest value.

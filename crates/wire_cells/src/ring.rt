@@ -9,7 +9,7 @@ ghost use Rattle.hume_model.specs.declared.core_tree.WireC.{WireC};
 ghost use Rattle.hume_model.specs.Reading.{HaveReadableSizes};
 ghost use Rattle.hume_model.specs.WellFormed.{HasSoundFrame};
 ghost use Rattle.wire_cells.specs.Cells.{first_cell};
-ghost use Rattle.wire_cells.specs.inner.Rings.{wrapped};
+ghost use Rattle.wire_cells.specs.inner.Rings.{on_from, wrapped};
 
 use crate::flat_words::flatten;
 use hume_base::{Ty, Types, Value, size};
@@ -18,6 +18,7 @@ use std::alloc::{AllocError, Global};
 use std::marker::Model;
 
 /// The values on a wire as flat words, in a ring of as many rows as the wire may hold values.
+/// A row has `size` words, and there are `depth` rows. The oldest value begins at the word `first`, and the next value goes to the word `next`.
 #[derive(Drop)]
 pub(crate) struct Ring {
     number: u32,
@@ -26,27 +27,30 @@ pub(crate) struct Ring {
     size: usize,
     depth: usize,
     first: usize,
+    next: usize,
     count: usize,
 }
 
 impl Model for Ring {
-    ghost use Rattle.std.specs.Prelude.{◌≡◌, ◌<◌, ◌≤◌, ◌*◌, length, take};
+    ghost use Rattle.std.specs.Prelude.{◌≡◌, ◌<◌, ◌≤◌, ◌+◌, ◌*◌, ℕ, length};
     ghost use Rattle.hume_base.specs.declared.limits.TheConstants.{MAX_TYPE_WORDS, MAX_WIRE_DEPTH};
     ghost use Rattle.wire_cells.specs.Cells.{CellView};
-    ghost use Rattle.wire_cells.specs.inner.Rings.{rows, from_first};
+    ghost use Rattle.wire_cells.specs.inner.Rings.{rows, from_first, wrapped};
 
     ghost Value = { CellView };
 
     ghost view = { λ cell. record {
       number = cell.number;
       time = cell.time;
-      values = take cell.count (from_first cell.first (rows cell.depth cell.size cell.words.items));
+      values = rows cell.count cell.size (from_first cell.first cell.words.items);
       size = cell.size;
       depth = cell.depth;
     } };
 
-    ghost invariant = { λ cell. (cell.first < cell.depth) × (cell.count ≤ cell.depth) × (length cell.words.items ≡ cell.depth * cell.size)
-        × (cell.depth ≤ MAX_WIRE_DEPTH) × (cell.size ≤ MAX_TYPE_WORDS) };
+    // The oldest value stands in the row of the number `row`.
+    ghost invariant = { λ cell. (row : ℕ) × (row < cell.depth) × (cell.first ≡ row * cell.size)
+        × (cell.next ≡ wrapped (row + cell.count) cell.depth * cell.size) × (cell.count ≤ cell.depth)
+        × (length cell.words.items ≡ cell.depth * cell.size) × (cell.depth ≤ MAX_WIRE_DEPTH) × (cell.size ≤ MAX_TYPE_WORDS) };
 }
 
 impl Ring {
@@ -75,6 +79,7 @@ impl Ring {
             size,
             depth,
             first: 0,
+            next: on_from(count * size, depth * size),
             count,
         })
     }
@@ -122,7 +127,7 @@ impl Ring {
         requires { 1 ≤ length self.old.values }
         ensures { self.new ≡ record self.old { values = drop 1 self.old.values } }
     {
-        self.first = wrapped(self.first + 1, self.depth);
+        self.first = on_from(self.first + self.size, self.words.len());
         self.count -= 1;
     }
 
@@ -140,9 +145,11 @@ impl Ring {
         requires whole { length words.now ≡ self.old.size }
         ensures { self.new ≡ record self.old { values = self.old.values ++ words.now ∷ [] } }
     {
-        let start = wrapped(self.first + self.count, self.depth) * self.size;
-        write_row(words, &mut self.words, start);
+        // The words are written last: the compiler then reads no field twice.
+        let start = self.next;
+        self.next = on_from(start + self.size, self.words.len());
         self.count += 1;
+        write_row(words, &mut self.words, start);
     }
 
     /// How many values it holds.
@@ -153,23 +160,40 @@ impl Ring {
         self.count as u32
     }
 
+    /// The oldest value.
+    #[inline(always)]
+    pub(crate) fn front(&self) -> &[u64]
+        requires { 1 ≤ length self.now.values }
+        ensures { slice_get self.now.values 0 ≡ Some result.now }
+    {
+        row_at(&self.words, self.first, self.size)
+    }
+
     /// The value at a place, the oldest at 0.
     #[inline(always)]
     pub(crate) fn nth(&self, i: u32) -> &[u64]
         requires { i < length self.now.values }
         ensures { slice_get self.now.values i ≡ Some result.now }
     {
-        let start = wrapped(self.first + i as usize, self.depth) * self.size;
+        let start = wrapped(self.first + i as usize * self.size, self.words.len());
         row_at(&self.words, start, self.size)
     }
 }
 
+// A place in a ring, or the beginning of the ring where the place is at its end.
+#[inline(always)]
+fn on_from(place: usize, end: usize) -> usize
+    ensures { result ≡ on_from place end }
+{
+    if place < end { place } else { 0 }
+}
+
 // A place in a ring, once round it or not.
 #[inline(always)]
-fn wrapped(place: usize, depth: usize) -> usize
-    ensures { result ≡ wrapped place depth }
+fn wrapped(place: usize, end: usize) -> usize
+    ensures { result ≡ wrapped place end }
 {
-    if place < depth { place } else { place - depth }
+    if place < end { place } else { place - end }
 }
 
 // The words of a row.

@@ -1,12 +1,12 @@
-use Rattle.std.proofs.Common.{◌≡◌, ◌≤◌, ◌*◌, ◌++◌, ℕ, List, length, take, drop, map, ap, sym, ◌∙◌, arith}
+use Rattle.std.proofs.Common.{◌≡◌, ◌≤◌, ◌+◌, ◌*◌, ◌++◌, ℕ, List, length, take, drop, map, ap, sym, ◌∙◌, arith}
 use Rattle.hume_base.specs.Sizes.{size_of}
 use Rattle.std.specs.Option.{option_to_list}
 use Rattle.std.proofs.Math.Nat.{mul-le-mul_right}
 use Rattle.hume_base.specs.Flat.{flat}
 use Rattle.hume_model.specs.WireEnds.{HasEnds}
-use Rattle.wire_cells.specs.inner.Rings.{rows, from_first}
+use Rattle.wire_cells.specs.inner.Rings.{rows, from_first, wrapped}
 use Rattle.wire_cells.proofs.Frames.{readable, size_as_written}
-use Rattle.wire_cells.proofs.Rings.{refilled, one_at_most, first_values}
+use Rattle.wire_cells.proofs.Rings.{refilled, one_at_most, on_from_row, first_values}
 use Rattle.wire_cells.proofs.ring.Ring.of_wire.Goals as goal
 
 pub write_first-count-requires-clause-readable : goal.write_first-count-requires-clause-readable
@@ -36,9 +36,15 @@ invariant_of-result c =
     let few = one_at_most c.args.wire.now.initial in
     let whole : length c.write_first-count.new.into ≡ length c.in_ok-words.words.items = c.write_first-count.ensures.room
     ∙ ap length c.deref_mut.ensures.value in
-    let made : length c.in_ok-words.words.items ≡ c.args.wire.now.depth * c.size-size.result = sym c.in_ok-words.words.ok.0 ∙ c.in_ok-words.ensures.len in (
+    let made : length c.in_ok-words.words.items ≡ c.args.wire.now.depth * c.size-size.result = sym c.in_ok-words.words.ok.0 ∙ c.in_ok-words.ensures.len in
+    let fits : c.write_first-count.result ≤ c.args.wire.now.depth = omega (arith, ends.some_depth, few, c.write_first-count.ensures.count) in (
+      0,
       omega (arith, ends.some_depth),
-      omega (arith, ends.some_depth, few, c.write_first-count.ensures.count),
+      omega arith,
+      c.on_from.ensures ∙ on_from_row c.write_first-count.result c.args.wire.now.depth c.size-size.result fits
+          ∙ ap (λ n. wrapped n c.args.wire.now.depth * c.size-size.result)
+          (let e : c.write_first-count.result ≡ 0 + c.write_first-count.result = omega arith in e),
+      fits,
       ap length (refilled c.in_ok-words.words.items c.write_first-count.new.into c.in_ok-words.words.len c.in_ok-words.words.ok.0 whole) ∙ whole ∙ made,
       ends.depth,
       omega (arith, size, ends.written.words),
@@ -53,11 +59,12 @@ returns c =
     ∙ ap length c.deref_mut.ensures.value in
     let new = refilled c.in_ok-words.words.items c.write_first-count.new.into c.in_ok-words.words.len c.in_ok-words.words.ok.0 whole in
     let depth = c.args.wire.now.depth in
-    let values : take c.write_first-count.result (from_first 0 (rows depth c.size-size.result
-    (take c.in_ok-words.words.len (c.write_first-count.new.into ++ drop (length c.write_first-count.new.into) c.in_ok-words.words.items))))
+    let values : rows c.write_first-count.result c.size-size.result
+    (from_first 0 (take c.in_ok-words.words.len (c.write_first-count.new.into ++ drop (length c.write_first-count.new.into) c.in_ok-words.words.items)))
     ≡ map (flat c.args.core.now.types c.args.wire.now.ty) (option_to_list c.args.wire.now.initial) =
-    ap (λ ws. take c.write_first-count.result (from_first 0 (rows depth c.size-size.result ws))) new
-    ∙ first_values (flat c.args.core.now.types c.args.wire.now.ty) c.args.wire.now.initial depth c.size-size.result c.write_first-count.result c.write_first-count.new.into ends.some_depth
+    ap (λ ws. rows c.write_first-count.result c.size-size.result (from_first 0 ws)) new
+    ∙ first_values (flat c.args.core.now.types c.args.wire.now.ty) c.args.wire.now.initial c.size-size.result c.write_first-count.result
+    c.write_first-count.new.into
     c.write_first-count.ensures.count c.write_first-count.ensures.words in
     ap (λ (vs : List (List ℕ)). record { number = c.args.number; time = 0; values = vs; size = c.size-size.result; depth = depth }) values
     ∙ ap (λ n. record {
