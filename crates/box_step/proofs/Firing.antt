@@ -110,6 +110,7 @@ module _ {core : Core} {b : BoxC} {before : HalfStep} {box : CompiledView} {cell
             sizes = ap sizes_in given ∙ given_sizes core.types (port_types b.outs) buffer outs (sized ∙ fires.at.box_at.sizes) many_outs;
             pending = ap (λ os. Some (words_in os)) given
                 ∙ ap (λ ws. Some ws) (given_words core.types (port_types b.outs) buffer outs (sized ∙ fires.at.box_at.sizes) many_outs);
+            plain = fires.at.box_at.plain;
           };
           inputs = left_held core (taken_at fires.rule.pats ins) fires.at.inputs;
         }

@@ -32,6 +32,7 @@ module _ {core : Core} {b : BoxC} {before : HalfStep} {box : CompiledView} {cell
       order = at.box_at.order;
       sizes = at.box_at.sizes;
       pending = at.box_at.pending;
+      plain = at.box_at.plain;
     };
     inputs = at.inputs;
   }

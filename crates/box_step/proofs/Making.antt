@@ -1,5 +1,5 @@
 -- A box before its first step.
-use Rattle.std.proofs.Common.{◌≡◌, ℕ, None, All, List, [], ◌∷◌, length, map, refl, ap, ◌∙◌, arith}
+use Rattle.std.proofs.Common.{◌≡◌, ℕ, Bool, None, All, List, [], ◌∷◌, length, map, refl, ap, ◌∙◌, arith}
 use Rattle.std.specs.List.{range_with_len}
 use Rattle.std.proofs.lemmas.List.Elements.{All-head, All-tail}
 use Rattle.hume_base.specs.declared.types.Types.{Types}
@@ -16,7 +16,8 @@ use Rattle.box_code.specs.declared.program.BoxProgram.{BoxProgram}
 use Rattle.box_code.specs.RepresentsBox.{RepresentsBox}
 use Rattle.box_step.specs.Boxes.{AreBareForms, IsBoxAt, first_part}
 use Rattle.box_step.specs.inner.Buffers.{sizes_in}
-use Rattle.box_step.proofs.BareForms.{few_bare_rules, small_box}
+use Rattle.match_rules.specs.Plain.{plain_box}
+use Rattle.box_step.proofs.BareForms.{bare_plain, few_bare_rules, small_box}
 
 -- outputs of the written sizes have the sizes of the types
 sizes_as_written : (types : Types) (ports : List PortC) → All (IsSmallBoxPort types) ports
@@ -33,9 +34,10 @@ module _ {core : Core} {b : BoxC} {bare : Core} {bare_b : BoxC} (forms : AreBare
       → (stack : StackView) → stack ≡ record { words = []; peak = 0; room = program.stack }
       → (order : List ℕ) → order ≡ range_with_len 0 (length bare_b.rules)
       → (outputs : List OutputView) → outputs ≡ map absent (map (λ ty. written_size (size_of bare.types ty)) (port_types bare_b.outs))
+      → (plain : Bool) → plain ≡ plain_box bare_b
       → IsBoxAt core b (first_part b)
-      (record { program = program; order = order; heap = heap; stack = stack; sizes = sizes_in outputs; pending = None; work = 0 })
-  begins heap heap_is stack stack_is order order_is outputs outputs_are =
+      (record { program = program; order = order; heap = heap; stack = stack; sizes = sizes_in outputs; pending = None; work = 0; plain = plain })
+  begins heap heap_is stack stack_is order order_is outputs outputs_are plain plain_is =
       let room = ap (λ (s : StackView). s.room) stack_is in
       let peak = ap (λ (s : StackView). s.peak) stack_is in
       record {
@@ -49,4 +51,5 @@ module _ {core : Core} {b : BoxC} {bare : Core} {bare_b : BoxC} (forms : AreBare
         sizes = ap sizes_in (outputs_are ∙ λ i. map absent (map (λ ty. written_size (size_of (forms.core_is i).types ty)) (port_types (forms.box_is i).outs)))
             ∙ sizes_as_written core.types b.outs (small_box forms.sound).each_output;
         pending = refl;
+        plain = plain_is ∙ bare_plain forms;
       }

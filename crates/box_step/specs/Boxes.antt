@@ -20,6 +20,7 @@ use Rattle.box_code.specs.RepresentsBox.{RepresentsBox}
 use Rattle.box_machine.specs.declared.ran.Ran.{Ran}
 use Rattle.code_laws.specs.Ending.{flat_outputs}
 use Rattle.match_rules.specs.Inputs.{AreCellsOf}
+use Rattle.match_rules.specs.Plain.{plain_box}
 use Rattle.wire_cells.specs.Cells.{CellView}
 use Rattle.box_step.specs.Views.{CompiledView}
 use Rattle.box_step.specs.Steps.{execute_spent, execute_answer}
@@ -49,13 +50,14 @@ pub record HasItsRoom (box : CompiledView) : Type 0 where
   pub within : box.stack.peak ≤ box.stack.room
 
 -- The compiled box runs the code of the box, has its room, and is at the part: it has the part's order of rules, outputs of the
--- sizes of their types, and just the outputs pending that the part has, as flat words.
+-- sizes of their types, and just the outputs pending that the part has, as flat words. It knows whether the box's rules are plain.
 pub record IsBoxAt (core : Core) (b : BoxC) (part : Part) (box : CompiledView) : Type 0 where
   pub represents : RepresentsBox core b box.program
   pub room : HasItsRoom box
   pub order : box.order ≡ part.order
   pub sizes : box.sizes ≡ map (size_of core.types) (port_types b.outs)
   pub pending : box.pending ≡ option_map (flat_outputs core.types (port_types b.outs)) part.pending
+  pub plain : box.plain ≡ plain_box b
 
 -- the compiled box is at the part, and the cells hold what is on the wires of its inputs
 pub record IsAt (core : Core) (b : BoxC) (at : HalfStep) (box : CompiledView) (cells : List CellView) : Type 0 where

@@ -1,12 +1,13 @@
 -- What a compiled box has.
-use Rattle.std.specs.Prelude.{ℕ, List, Option, slice_get}
+use Rattle.std.specs.Prelude.{ℕ, Bool, List, Option, slice_get}
 use Rattle.std.specs.Option.{option_and_then}
 use Rattle.box_heap.specs.Heaps.{HeapView}
 use Rattle.box_heap.specs.Stacks.{StackView}
 use Rattle.box_code.specs.declared.program.BoxProgram.{BoxProgram}
 
 -- Its program, the order of its rules, its heap and its stack; how many words each output has; the words of each output while
--- they are pending, with none for an output that is absent; and how many instructions the last execute step ran.
+-- they are pending, with none for an output that is absent; how many instructions the last execute step ran; and whether its
+-- rules take all inputs as they are.
 pub record CompiledView : Type 0 where
   pub program : BoxProgram
   pub order : List ℕ
@@ -15,6 +16,7 @@ pub record CompiledView : Type 0 where
   pub sizes : List ℕ
   pub pending : Option (List (Option (List ℕ)))
   pub work : ℕ
+  pub plain : Bool
 
 -- the words of the output of the number, counted from 0; none where it is absent, and none where nothing is pending
 abbrev pub pending_words : CompiledView → ℕ → Option (List ℕ)

@@ -15,11 +15,12 @@ use box_code::BoxProgram;
 use box_heap::{BoxHeap, BoxStack, OutBuf};
 use hume_base::{Types, size};
 use hume_model::{BoxC, Core, PortC};
-use match_rules::RuleOrder;
+use match_rules::{RuleOrder, is_plain};
 use std::alloc::{AllocError, Global};
 use std::marker::Model;
 
-/// A box as code: its program, the order of its rules, its heap and stack, and its outputs, which may be pending.
+/// A box as code: its program, the order of its rules, its heap and stack, and its outputs, which may be pending. It is plain where
+/// its rules take all inputs as they are.
 #[derive(Drop)]
 pub struct CompiledBox {
     pub(crate) program: BoxProgram,
@@ -29,6 +30,7 @@ pub struct CompiledBox {
     pub(crate) outputs: OutBuf,
     pub(crate) pending: bool,
     pub(crate) work: u32,
+    pub(crate) plain: bool,
 }
 
 impl Model for CompiledBox {
@@ -49,6 +51,7 @@ impl Model for CompiledBox {
       sizes = sizes_in box.outputs;
       pending = pending_in box.pending box.outputs;
       work = box.work;
+      plain = box.plain;
     } };
 }
 
@@ -79,6 +82,7 @@ impl CompiledBox {
             outputs,
             pending: false,
             work: 0,
+            plain: is_plain(b),
         })
     }
 

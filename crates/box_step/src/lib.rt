@@ -4,9 +4,10 @@
 //!
 //! A `CompiledBox` is a box with its program, the order of its rules, a heap and a stack of exactly the printed lengths, and
 //! its pending outputs. `CompiledBox::execute` makes its execute step over the cells of its inputs: it takes no memory, and
-//! gets only the bare forms of core and box, so it can make outputs by the code alone. `output` gives the words of a pending
-//! output, and `forget_outputs` drops them. `Views.antt` says what a compiled box has, `Boxes.antt` when it is at a part of a
-//! state and where the step leaves it, and `Steps.antt` what the step takes.
+//! gets only the bare forms of core and box, so it can make outputs by the code alone. Where the rules of the box take all inputs
+//! as they are, it looks at neither patterns nor types. `output` gives the words of a pending output, and `forget_outputs` drops
+//! them. `Views.antt` says what a compiled box has, `Boxes.antt` when it is at a part of a state and where the step leaves it, and
+//! `Steps.antt` what the step takes.
 //!
 //! Proved: `CompiledBox::execute` makes the execute step of the meaning: from a box that is at a part of a state (`IsBoxAt`:
 //! its program represents the box, it has the part's order of rules and its pending outputs as flat words) and cells that hold

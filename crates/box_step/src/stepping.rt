@@ -1,9 +1,9 @@
 //! The execute step of a compiled box.
-ghost use Rattle.std.specs.Prelude.{◌≡◌, ◌≤◌, ℕ, List, length, map, true, if◌then◌else◌, Some, slice_get};
+ghost use Rattle.std.specs.Prelude.{◌≡◌, ◌+◌, ◌≤◌, ℕ, List, length, map, true, if◌then◌else◌, Some, slice_get};
 ghost use Rattle.hume_base.specs.declared.types.Value.{Value};
 ghost use Rattle.hume_model.specs.declared.core_tree.BoxC.{BoxC as AnyBox};
 ghost use Rattle.hume_model.specs.declared.core_tree.Core.{Core as AnyCore};
-ghost use Rattle.hume_model.specs.BoxTyping.{port_types};
+ghost use Rattle.hume_model.specs.BoxTyping.{BoxHasFrame, port_types};
 ghost use Rattle.hume_model.specs.Matching.{fits, taken_at};
 ghost use Rattle.hume_model.specs.WellFormed.{HasSoundFrame};
 ghost use Rattle.hume_net.specs.declared.state.HalfStep.{HalfStep};
@@ -11,7 +11,9 @@ ghost use Rattle.hume_net.specs.HalfSteps.{moved_last, oldest};
 ghost use Rattle.box_costs.specs.Bounds.{built_patterns};
 ghost use Rattle.box_costs.specs.ResultSpending.{built_values, inputs_built};
 ghost use Rattle.wire_cells.specs.Cells.{without_values};
-ghost use Rattle.match_rules.specs.Inputs.{AreCellsOf, left_in};
+ghost use Rattle.match_rules.specs.Choosing.{first_fitting};
+ghost use Rattle.match_rules.specs.Inputs.{AreBuilt, AreCellsOf, left_in};
+ghost use Rattle.match_rules.specs.Plain.{plain_box, plain_rule};
 ghost use Rattle.box_step.specs.Boxes.{AreBareForms, HasExecuted, IsAt};
 ghost use Rattle.box_step.specs.inner.Firing.{AreBuiltAnew, Fires, HasFired};
 
@@ -20,7 +22,9 @@ use crate::runs::run_ready_rule;
 use box_heap::{BoxHeap, BoxStack};
 use box_machine::Ran;
 use hume_model::{BoxC, Core, PortC, RuleC};
-use match_rules::{RuleOrder, first_match, orders_have_each_rule_once, take_inputs};
+use match_rules::{
+    RuleOrder, first_match, first_plain, orders_have_each_rule_once, take_inputs, take_plain,
+};
 use wire_cells::WireCell;
 
 impl CompiledBox {
@@ -36,7 +40,7 @@ impl CompiledBox {
         if self.pending {
             return None;
         }
-        let Some(number) = first_match(core, b, &self.order, ins) else {
+        let Some(number) = first_rule(core, b, self.plain, &self.order, ins) else {
             return None;
         };
         match b.rules.get(number) {
@@ -64,6 +68,7 @@ impl CompiledBox {
             core,
             b.ins.as_slice(),
             rule,
+            self.plain,
             ins,
             &mut self.heap,
             &mut self.stack,
@@ -88,11 +93,13 @@ fn build(
     core: &Core,
     ports: &[PortC],
     rule: &RuleC,
+    plain: bool,
     ins: &mut [WireCell],
     heap: &mut BoxHeap,
     stack: &mut BoxStack,
 )
     requires core { HasSoundFrame core.now }
+    requires plain { plain ≡ true → plain_rule (port_types ports.now) rule.now ≡ true }
     requires fitting { (values : List (List Value)) × AreCellsOf core.now (port_types ports.now) ins.old values
         × (fits rule.now.pats (map oldest values) ≡ true)
         × (inputs_built rule.now.pats (map oldest values) ≤ heap.old.room)
@@ -101,12 +108,64 @@ fn build(
         → fits rule.now.pats (map oldest values) ≡ true
         → AreBuiltAnew (built_values rule.now.pats (map oldest values)) heap.old heap.new stack.old stack.new }
     ensures left { (values : List (List Value)) → AreCellsOf core.now (port_types ports.now) ins.old values
-        → ins.new ≡ left_in (taken_at rule.now.pats (map oldest values)) ins.old }
+        → fits rule.now.pats (map oldest values) ≡ true → ins.new ≡ left_in (taken_at rule.now.pats (map oldest values)) ins.old }
     ensures rest { map without_values ins.new ≡ map without_values ins.old }
 {
     heap.empty();
     stack.empty();
-    take_inputs(core, ports, rule, ins, heap, stack);
+    take(core, ports, rule, plain, ins, heap, stack);
+}
+
+// Takes the inputs of a rule that fits, and builds those that its patterns look into. A plain rule takes words as they are.
+#[inline(always)]
+fn take(
+    core: &Core,
+    ports: &[PortC],
+    rule: &RuleC,
+    plain: bool,
+    ins: &mut [WireCell],
+    heap: &mut BoxHeap,
+    stack: &mut BoxStack,
+)
+    requires core { HasSoundFrame core.now }
+    requires plain { plain ≡ true → plain_rule (port_types ports.now) rule.now ≡ true }
+    requires fitting { (values : List (List Value)) × AreCellsOf core.now (port_types ports.now) ins.old values
+        × (fits rule.now.pats (map oldest values) ≡ true)
+        × (length heap.old.words + inputs_built rule.now.pats (map oldest values) ≤ heap.old.room)
+        × (length stack.old.words + length (built_patterns rule.now.pats) ≤ stack.old.room) }
+    ensures built { (values : List (List Value)) → AreCellsOf core.now (port_types ports.now) ins.old values → fits rule.now.pats (map oldest values) ≡ true
+        → AreBuilt (built_values rule.now.pats (map oldest values)) heap.old heap.new stack.old stack.new }
+    ensures left { (values : List (List Value)) → AreCellsOf core.now (port_types ports.now) ins.old values
+        → fits rule.now.pats (map oldest values) ≡ true → ins.new ≡ left_in (taken_at rule.now.pats (map oldest values)) ins.old }
+    ensures rest { map without_values ins.new ≡ map without_values ins.old }
+{
+    if plain {
+        take_plain(ins, stack);
+    } else {
+        take_inputs(core, ports, rule, ins, heap, stack);
+    }
+}
+
+// The number of the first rule in the order that fits. A plain box needs no look at patterns.
+#[inline(always)]
+fn first_rule(
+    core: &Core,
+    b: &BoxC,
+    plain: bool,
+    order: &RuleOrder,
+    ins: &[WireCell],
+) -> Option<usize>
+    requires core { HasSoundFrame core.now }
+    requires typed { BoxHasFrame core.now b.now }
+    requires plain { plain ≡ plain_box b.now }
+    ensures { (values : List (List Value)) → AreCellsOf core.now (port_types b.now.ins) ins.now values
+        → result ≡ first_fitting b.now order.now (map oldest values) }
+{
+    if plain {
+        first_plain(b, order, ins)
+    } else {
+        first_match(core, b, order, ins)
+    }
 }
 
 // The rule, which stands in the order, goes last in that of a fair box.

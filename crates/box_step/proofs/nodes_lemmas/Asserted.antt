@@ -90,6 +90,7 @@ box_forgets core b part box at = record {
   order = at.order;
   sizes = at.sizes;
   pending = refl;
+  plain = at.plain;
 }
 
 box_when : (core : Core) (b : BoxC) (part : Part) (box : CompiledView) (side wires : List (List Value)) (gone : Bool) → IsBoxAt core b part box
@@ -154,6 +155,7 @@ module _ (opening : Opening) (bare : Core) (n time : ℕ) (cells : List CellView
     order = right.at.order;
     sizes = right.at.sizes;
     pending = sym (ap (option_map (flat_outputs opening.core.types (port_types b.outs))) is);
+    plain = right.at.plain;
   }
 
   leaves_pending : (pending : Option (List (Option Value))) → part.pending ≡ pending → Leaves (assert_pending part (map cell_has_room cells) sides pending)

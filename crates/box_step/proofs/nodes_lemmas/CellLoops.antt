@@ -3,6 +3,7 @@ use Rattle.std.proofs.Common.{◌≡◌, ◌≤◌, ◌<◌, ◌+◌, ◌^◌, �
 use Rattle.std.proofs.Math.ListN.{set}
 use Rattle.std.proofs.Math.Seq.{drop-cons}
 use Rattle.std.proofs.lemmas.Bool.{and_parts}
+use Rattle.std.proofs.lemmas.Option.{slice_get-get_or}
 use Rattle.std.proofs.lemmas.List.{take_more_set, drop-set-lt, take_all, drop_all}
 use Rattle.wire_cells.specs.Cells.{CellView}
 use Rattle.match_rules.specs.Outputs.{has_room_for, have_room_for, cell_with, cells_with, FitCells}
@@ -29,9 +30,18 @@ all_done F cells i none past =
     ap (λ xs. take i cells ++ F i xs) (drop_all i cells past) ∙ ap (λ xs. take i cells ++ xs) none
     ∙ append-nil (take i cells) ∙ take_all i cells past
 
--- outputs that are put: those before a place are, and those from it on have room and fit
+-- what stands at a later place stays
+later_kept : {X : Type 0} (xs : List X) (i k : ℕ) (y x : X) → suc i ≤ k → slice_get (set xs i y) k ≡ Some x → slice_get xs k ≡ Some x
+later_kept [] i k y x later found = found
+later_kept (z ∷ xs) zero zero y x later found = absurd (omega (arith, later))
+later_kept (z ∷ xs) zero (suc k) y x later found = found
+later_kept (z ∷ xs) (suc i) zero y x later found = absurd (omega (arith, later))
+later_kept (z ∷ xs) (suc i) (suc k) y x later found = later_kept xs i k y x (omega (arith, later)) found
+
+-- outputs that are put into cells that go on: those before a place are, and those from it on are early, have room and fit
 pub record ArePut (outputs : ℕ → Option (List ℕ)) (i : ℕ) (old now : List CellView) : Type 0 where
-  pub done : take i now ++ cells_with outputs i (drop i now) ≡ cells_with outputs 0 old
+  pub done : take i now ++ map ticked (cells_with outputs i (drop i now)) ≡ map ticked (cells_with outputs 0 old)
+  pub early : (k : ℕ) (cell : CellView) → i ≤ k → slice_get now k ≡ Some cell → cell.time < 2 ^ 40
   pub room : have_room_for outputs i (drop i now) ≡ true
   pub fit : FitCells outputs i (drop i now)
 
@@ -51,18 +61,24 @@ module _ (outputs : ℕ → Option (List ℕ)) (i : ℕ) (old now : List CellVie
   pub fit_here : (words : List ℕ) → outputs i ≡ Some words → length words ≡ (get_or now i d).size
   fit_here = fit_parts.0
 
-  pub one_put : (new : CellView) → new ≡ cell_with (outputs i) (get_or now i d) → ArePut outputs (i + 1) old (set now i new)
+  pub early_here : (get_or now i d).time < 2 ^ 40
+  early_here = are.early i (get_or now i d) (omega arith) (slice_get-get_or now i d less)
+
+  pub one_put : (new : CellView) → new ≡ ticked (cell_with (outputs i) (get_or now i d)) → ArePut outputs (i + 1) old (set now i new)
   one_put new is =
       let back : drop (suc i) (set now i new) ≡ drop (suc i) now = drop-set-lt (suc i) now i new (omega arith) in
       let next : ArePut outputs (suc i) old (set now i new) = record {
-        done = one_done (λ k cells. cells_with outputs k cells) (λ k cell. cell_with (outputs k) cell) (λ k cell cells. refl) now i d new less is ∙ are.done;
+        done = one_done (λ k cells. map ticked (cells_with outputs k cells)) (λ k cell. ticked (cell_with (outputs k) cell)) (λ k cell cells. refl) now i d new
+            less is ∙ are.done;
+        early = λ k cell later found. are.early k cell (omega (arith, later)) (later_kept now i k new cell later found);
         room = ap (have_room_for outputs (suc i)) back ∙ room_parts.1;
         fit = subst (FitCells outputs (suc i)) (sym back) fit_parts.1;
       } in
       subst (λ k. ArePut outputs k old (set now i new)) (let e : suc i ≡ i + 1 = omega arith in e) next
 
-pub all_put : (outputs : ℕ → Option (List ℕ)) (i : ℕ) (old now : List CellView) → length now ≤ i → ArePut outputs i old now → now ≡ cells_with outputs 0 old
-all_put outputs i old now past are = sym (all_done (λ k cells. cells_with outputs k cells) now i refl past) ∙ are.done
+pub all_put : (outputs : ℕ → Option (List ℕ)) (i : ℕ) (old now : List CellView) → length now ≤ i → ArePut outputs i old now
+    → now ≡ map ticked (cells_with outputs 0 old)
+all_put outputs i old now past are = sym (all_done (λ k cells. map ticked (cells_with outputs k cells)) now i refl past) ∙ are.done
 
 -- room for outputs
 pub room_next : (outputs : ℕ → Option (List ℕ)) (cells : List CellView) (i : ℕ) (d : CellView) → i < length cells
@@ -73,13 +89,6 @@ room_next outputs cells i d less = ap (have_room_for outputs i) (drop-cons cells
 pub record AreTicking (i : ℕ) (old now : List CellView) : Type 0 where
   pub done : take i now ++ map ticked (drop i now) ≡ map ticked old
   pub early : (k : ℕ) (cell : CellView) → i ≤ k → slice_get now k ≡ Some cell → cell.time < 2 ^ 40
-
-later_kept : {X : Type 0} (xs : List X) (i k : ℕ) (y x : X) → suc i ≤ k → slice_get (set xs i y) k ≡ Some x → slice_get xs k ≡ Some x
-later_kept [] i k y x later found = found
-later_kept (z ∷ xs) zero zero y x later found = absurd (omega (arith, later))
-later_kept (z ∷ xs) zero (suc k) y x later found = found
-later_kept (z ∷ xs) (suc i) zero y x later found = absurd (omega (arith, later))
-later_kept (z ∷ xs) (suc i) (suc k) y x later found = later_kept xs i k y x (omega (arith, later)) found
 
 pub one_ticked : (i : ℕ) (old now : List CellView) (d new : CellView) → i < length now → AreTicking i old now → new ≡ ticked (get_or now i d)
     → AreTicking (i + 1) old (set now i new)

@@ -1,5 +1,5 @@
 -- What the half step of a node may rest on, for an opening.
-use Rattle.std.specs.Prelude.{◌≡◌, ◌%◌, ℕ, zero, suc, List, Option, None, slice_get}
+use Rattle.std.specs.Prelude.{◌≡◌, ◌<◌, ◌%◌, ◌^◌, ℕ, zero, suc, List, Option, None, Some, slice_get}
 use Rattle.hume_model.specs.declared.core_tree.Core.{Core}
 use Rattle.wire_cells.specs.Cells.{CellView}
 use Rattle.box_step.specs.nodes.Openings.{Opening, IsOpeningOf}
@@ -24,3 +24,7 @@ pub record CanAssert (opening : Opening) (bare : Core) (n time : ℕ) (cells : L
 abbrev pub next_row : List (List ℕ) → ℕ → Option (List ℕ)
 next_row rows zero = slice_get rows 0
 next_row rows (suc place) = None
+
+-- each cell may go on by one half step
+abbrev pub AreEarly : List CellView → Type 0
+AreEarly cells = (place : ℕ) (cell : CellView) → slice_get cells place ≡ Some cell → cell.time < 2 ^ 40

@@ -41,7 +41,6 @@ impl BoxCell {
     {
         let _core = core;
         assert_kind(self.number, &mut self.kind, outs);
-        tick_all(outs);
         self.time += 1;
     }
 }

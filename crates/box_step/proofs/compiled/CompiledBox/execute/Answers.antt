@@ -5,7 +5,7 @@ use Rattle.hume_model.specs.declared.core_tree.BoxC.{BoxC}
 use Rattle.hume_model.specs.BoxTyping.{BoxHasFrame, port_types}
 use Rattle.match_rules.specs.Inputs.{AreCellsOf}
 use Rattle.box_step.specs.inner.Buffers.{pending_in, words_in}
-use Rattle.box_step.proofs.BareForms.{box_frame_of, cells_of, frame_of}
+use Rattle.box_step.proofs.BareForms.{bare_plain, box_frame_of, cells_of, frame_of}
 use Rattle.box_step.proofs.Fitting.{fires_so, free, none_there, same_found, small_number, waits}
 use Rattle.box_step.proofs.Firing.{executes}
 use Rattle.box_step.proofs.Idling.{blocked, none_fits}
@@ -18,18 +18,24 @@ returns-then-self-clause-executed c = λ whole its before forms here.
     whole_executed c.self.view_is
     (blocked at (waits forms at (words_in c.self.inside.outputs) (ap (λ pending. pending_in pending c.self.inside.outputs) c.if-self.true)))
 
-pub first_match-requires-clause-core : goal.first_match-requires-clause-core
-first_match-requires-clause-core c = let forms = c.requires.3 in frame_of forms.sound forms.core_is
+pub first_rule-requires-clause-core : goal.first_rule-requires-clause-core
+first_rule-requires-clause-core c = let forms = c.requires.3 in frame_of forms.sound forms.core_is
 
-pub first_match-requires-clause-typed : goal.first_match-requires-clause-typed
-first_match-requires-clause-typed c =
+pub first_rule-requires-clause-typed : goal.first_rule-requires-clause-typed
+first_rule-requires-clause-typed c =
     let forms = c.requires.3 in
     subst (BoxHasFrame c.args.core.now) (sym forms.box_is) (box_frame_of forms.sound forms.core_is)
+
+pub first_rule-requires-clause-plain : goal.first_rule-requires-clause-plain
+first_rule-requires-clause-plain c =
+    let forms = c.requires.3 in
+    let at = inside_at c.self.view_is c.requires.4 in
+    at.box_at.plain ∙ sym (bare_plain forms)
 
 pub returns-in_default-clause-executed : goal.returns-in_default-clause-executed
 returns-in_default-clause-executed c = λ whole its before forms here.
     let at = inside_at c.self.view_is here in
-    let found = same_found forms at c.first_match.result (c.first_match.ensures before.side
+    let found = same_found forms at c.first_rule.result (c.first_rule.ensures before.side
     (subst (λ b. AreCellsOf c.args.core.now (port_types b.ins) c.args.ins.now before.side) (sym forms.box_is) (cells_of forms.core_is at.inputs))) in
     let is_free = free forms at (ap (λ pending. pending_in pending c.self.inside.outputs) c.if-self.false) in
     whole_executed c.self.view_is (none_fits at is_free (ap (option_and_then (slice_get its.rules)) (found ∙ c.in_default.is)))
@@ -43,7 +49,7 @@ fire-requires c =
     let before = c.requires.2 in
     let forms = c.requires.3 in
     let at = inside_at c.self.view_is c.requires.4 in
-    let found = same_found forms at c.first_match.result (c.first_match.ensures before.side
+    let found = same_found forms at c.first_rule.result (c.first_rule.ensures before.side
     (subst (λ b. AreCellsOf c.args.core.now (port_types b.ins) c.args.ins.now before.side) (sym forms.box_is) (cells_of forms.core_is at.inputs))) in
     let is_free = free forms at (ap (λ pending. pending_in pending c.self.inside.outputs) c.if-self.false) in (
       c.requires.0,
@@ -56,7 +62,7 @@ fire-requires c =
 pub returns-in-None-clause-executed : goal.returns-in-None-clause-executed
 returns-in-None-clause-executed c = λ whole its before forms here.
     let at = inside_at c.self.view_is here in
-    let found = same_found forms at c.first_match.result (c.first_match.ensures before.side
+    let found = same_found forms at c.first_rule.result (c.first_rule.ensures before.side
     (subst (λ b. AreCellsOf c.args.core.now (port_types b.ins) c.args.ins.now before.side) (sym forms.box_is) (cells_of forms.core_is at.inputs))) in
     let is_free = free forms at (ap (λ pending. pending_in pending c.self.inside.outputs) c.if-self.false) in
     whole_executed c.self.view_is (none_fits at is_free (none_there forms at c.in-Some.number (found ∙ c.in-Some.is) c.in-None.ensures))
@@ -64,7 +70,7 @@ returns-in-None-clause-executed c = λ whole its before forms here.
 pub returns-in-Some-get-clause-executed : goal.returns-in-Some-get-clause-executed
 returns-in-Some-get-clause-executed c = λ whole its before forms here.
     let at = inside_at c.self.view_is here in
-    let found = same_found forms at c.first_match.result (c.first_match.ensures before.side
+    let found = same_found forms at c.first_rule.result (c.first_rule.ensures before.side
     (subst (λ b. AreCellsOf c.args.core.now (port_types b.ins) c.args.ins.now before.side) (sym forms.box_is) (cells_of forms.core_is at.inputs))) in
     let is_free = free forms at (ap (λ pending. pending_in pending c.self.inside.outputs) c.if-self.false) in
     let fires = fires_so forms at c.in-Some.number c.in-Some-get.rule.now (found ∙ c.in-Some.is) c.in-Some-get.ensures is_free in

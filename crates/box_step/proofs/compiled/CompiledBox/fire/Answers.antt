@@ -1,10 +1,11 @@
-use Rattle.std.proofs.Common.{◌≤◌, length, map, refl, ap, sym, ◌∙◌, subst}
+use Rattle.std.proofs.Common.{◌≡◌, ◌≤◌, true, length, map, refl, ap, sym, ◌∙◌, subst}
 use Rattle.hume_model.specs.BoxTyping.{port_types}
 use Rattle.hume_net.specs.HalfSteps.{oldest}
 use Rattle.box_costs.specs.Bounds.{built_patterns}
 use Rattle.box_costs.specs.ResultSpending.{inputs_built}
 use Rattle.match_rules.specs.Inputs.{AreCellsOf}
-use Rattle.box_step.proofs.BareForms.{cells_of, frame_of}
+use Rattle.match_rules.specs.Plain.{plain_rule}
+use Rattle.box_step.proofs.BareForms.{cells_of, frame_of, plain_there}
 use Rattle.box_step.proofs.Built.{bare_fits, it_has_fired, its_ready, stands_there}
 use Rattle.box_step.proofs.Opening.{inside_fires, whole_fired}
 use Rattle.box_step.proofs.Ready.{heap_fits, same_patterns, stack_fits}
@@ -12,6 +13,14 @@ use Rattle.box_step.proofs.compiled.CompiledBox.fire.Goals as goal
 
 pub build-requires-clause-core : goal.build-requires-clause-core
 build-requires-clause-core c = let fires = c.requires.3 in frame_of fires.sound fires.core_is
+
+pub build-requires-clause-plain : goal.build-requires-clause-plain
+build-requires-clause-plain c = λ is.
+    let its = c.requires.1 in
+    let fires = inside_fires c.self.view_is c.requires.3 in
+    let ports = sym (ap port_types c.as_slice.ensures ∙ c.requires.4) in
+    subst (λ types. plain_rule types c.args.rule.now ≡ true) ports
+    (plain_there its c.args.number fires.rule c.args.rule.now (sym fires.at.box_at.plain ∙ is) fires.there fires.rule_is)
 
 pub build-requires-clause-fitting : goal.build-requires-clause-fitting
 build-requires-clause-fitting c =
@@ -58,4 +67,4 @@ returns-clause-fired c = λ whole its before it_fires same_ports.
     whole_fired c.self.view_is
     (it_has_fired fires now.heap now.stack built outputs refl c.run_ready_rule-ran.new.heap c.run_ready_rule-ran.new.stack
     c.run_ready_rule-ran.new.out c.run_ready_rule-ran.new.work c.run_ready_rule-ran.result (c.run_ready_rule-ran.ensures whole its fires.rule ins ready) c.put_last.new.order
-    c.put_last.ensures now.ins (c.build.ensures.left before.side cells))
+    c.put_last.ensures now.ins (c.build.ensures.left before.side cells (bare_fits fires)))

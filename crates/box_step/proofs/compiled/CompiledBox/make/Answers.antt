@@ -26,3 +26,4 @@ returns-clause-at c = λ whole its forms represents.
     c.make-order.result (c.make-order.ensures ∙ ap (range_with_len 0) c.len.ensures) c.in_ok-outputs.outputs
     (c.in_ok-outputs.ensures ∙ ap (map absent) (c.deref.ensures.value ∙ c.in_ok-sizes.ensures
     ∙ ap (λ ports. map (λ ty. written_size (size_of c.args.core.now.types ty)) (port_types ports)) c.as_slice.ensures))
+    c.is_plain.result c.is_plain.ensures

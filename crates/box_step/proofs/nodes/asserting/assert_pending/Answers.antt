@@ -1,8 +1,9 @@
-use Rattle.std.proofs.Common.{length, ap, ◌∙◌, subst}
+use Rattle.std.proofs.Common.{length, map, ap, ◌∙◌, subst}
 use Rattle.std.specs.Option.{is_some}
 use Rattle.std.proofs.lemmas.List.{length-map}
 use Rattle.box_heap.specs.Outputs.{OutputView}
 use Rattle.match_rules.specs.Outputs.{FitCells}
+use Rattle.box_step.specs.nodes.Sides.{ticked}
 use Rattle.box_step.proofs.PendingWords.{same_words}
 use Rattle.box_step.proofs.nodes_lemmas.NoOutputs.{nothing_asserted, nothing_forgotten}
 use Rattle.box_step.proofs.nodes.asserting.assert_pending.Goals as goal
@@ -11,7 +12,8 @@ pub returns-in_default-clause-compiled : goal.returns-in_default-clause-compiled
 returns-in_default-clause-compiled c = nothing_forgotten c.args.compiled.now (ap is_some c.in_default.ensures) c.args.outs.now
 
 pub returns-in_default-clause-outs : goal.returns-in_default-clause-outs
-returns-in_default-clause-outs c = nothing_asserted c.args.compiled.now (ap is_some c.in_default.ensures) c.args.outs.now
+returns-in_default-clause-outs c =
+    c.tick_all.ensures ∙ ap (map ticked) (nothing_asserted c.args.compiled.now (ap is_some c.in_default.ensures) c.args.outs.now)
 
 pub assert_outputs-requires-clause-long : goal.assert_outputs-requires-clause-long
 assert_outputs-requires-clause-long c =
