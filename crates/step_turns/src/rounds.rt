@@ -11,6 +11,7 @@ use crate::turns::turn;
 use box_step::nodes::BoxCell;
 use hume_base::List;
 use hume_model::Core;
+use std::mem;
 use wire_cells::WireCell;
 
 /// Makes the half steps that are left of `steps` supersteps: all of them from times 0, and at any balanced times those by which each
@@ -62,9 +63,13 @@ pub fn sweep(
     ensures bench { (vec_len bench.new ≡ 0) × (vec_capacity bench.new ≡ vec_capacity bench.old) }
     ensures right { (opening : Opening) → IsOpeningOf core.now opening → AllRight opening nodes.old home.old → AllRight opening nodes.new home.new }
 {
+    // The bench is held in a variable of its own, so that the build keeps its place and its length at hand.
+    let alloc = *bench.allocator();
+    let mut held = mem::replace(bench, Vec::new(alloc));
     for n in 0..nodes.len() {
-        turn_if_due(core, sides, time, n, nodes, home, bench);
+        turn_if_due(core, sides, time, n, nodes, home, &mut held);
     }
+    *bench = held;
 }
 
 // The node makes its half step if it is at the time.

@@ -10,6 +10,6 @@ invariant-loop-n l = record {
   swept : AreSwept l.time l.n l.nodes;
   until : (most : ℕ) → l.time < most → AreUntil most l.fn.nodes → AreUntil most l.nodes;
   right : (opening : Opening) → IsOpeningOf l.core opening → AllRight opening l.fn.nodes l.fn.home → AllRight opening l.nodes l.home;
-  clear : vec_len l.bench ≡ 0;
-  capacity : vec_capacity l.bench ≡ vec_capacity l.fn.bench;
+  clear : vec_len l.held ≡ 0;
+  capacity : vec_capacity l.held ≡ vec_capacity l.fn.bench;
 }
