@@ -95,9 +95,12 @@ def constants(types):
             yield name, m.group(2), says, path
 
 
-def print_constants(types):
-    print("## Constants that definitions cite\n\n| constant | value | of what | file |\n|---|---|---|---|")
-    for name, value, says, path in constants(types):
+def print_constants(types, title):
+    rows = list(constants(types))
+    if not rows:
+        return
+    print(f"{title}\n\n| constant | value | of what | file |\n|---|---|---|---|")
+    for name, value, says, path in rows:
         print(f"| `{name}` | {value} | {says} | `{shown(path)}` |")
     print()
 
@@ -113,26 +116,39 @@ def print_port():
                     print(f"```\n{trait.group(1)}\n```\n")
 
 
-def print_types(types):
-    print("## Types that the definitions speak of\n")
+def types_in(types):
+    """The types by file and name, with what their comments say."""
     rows = {}
     for _, crate, inside in types:
         found = doc_of_type(crate, inside.split(".The")[0])
         if found and found[1]:
             rows[found[0], found[1]] = found[2]
+    return rows
+
+
+def print_types(rows, title):
+    if not rows:
+        return
+    print(f"{title}\n")
     for (path, name), says in sorted(rows.items()):
         print(f"- `{name}` (`{shown(path)}`)" + (f": {says}" if says else ""))
     print()
 
 
-def print_console(public, order, known):
+def print_console(public, order, known, types):
     """What the contract of `console` rests on besides; the definitions that are printed."""
     head = function_of(CONSOLE, public)
-    more = [it for it in reached(begins(head, known), known)[0] if it not in order]
+    rests, spoken = reached(begins(head, known), known)
+    more = [it for it in rests if it not in order]
     print("## What the promise of sessions rests on besides\n")
     print(f"The promise of sessions is the contract of `{head.name}` in `{shown(head.path)}`. Its clauses reach {len(more)} definitions, {lines_of(more)} lines,")
     print("that those of `hume` don't reach:\n")
     listing(more, "###")
+    cited = {(path, name) for name, _, _, path in constants(types)}
+    own = [it for it in spoken if it not in types]
+    print_constants([it for it in own if not cited & {(path, name) for name, _, _, path in constants([it])}], "### Constants that these cite")
+    before = types_in(types)
+    print_types({key: says for key, says in types_in(own).items() if key not in before}, "### Types that these speak of")
     return more
 
 
@@ -167,10 +183,10 @@ def promise():
     for at, ((title, _), ring) in enumerate(zip(RINGS, rings), 1):
         print(f"## Ring {at}: {title[0].lower()}{title[1:]}\n")
         listing(ring, "###")
-    print_constants(types)
+    print_constants(types, "## Constants that definitions cite")
     print_port()
-    print_types(types)
-    print_promised_laws(public, order + print_console(public, order, known), known)
+    print_types(types_in(types), "## Types that the definitions speak of")
+    print_promised_laws(public, order + print_console(public, order, known, types), known)
     print_corollaries(order, known)
     print("## Public laws\n")
     print("Nobody has to believe these: they are proved, and say that the definitions fit each other. Each is the contract of that function.\n")
