@@ -1,7 +1,7 @@
 """restore2.py CRATE.. : puts the newest kept rlib of each crate into /work/c/gate2."""
 import json,os,sys,shutil,glob
 for name in sys.argv[1:]:
-    d=max(glob.glob(f'/opt/rattle-kept/proof-{name}-*'),key=lambda p: os.path.getmtime(p+'/made.json'))
+    d=max([p for p in glob.glob(f'/opt/rattle-kept/proof-{name}-*') if os.path.exists(p+'/made.json')],key=lambda p: os.path.getmtime(p+'/made.json'))
     made=json.load(open(d+'/made.json'))
     out=f'/work/c/gate2/crates/{name}/out'
     shutil.rmtree(out,ignore_errors=True)
