@@ -5,7 +5,6 @@ use Rattle.std.specs.Option.{option_map}
 use Rattle.std.proofs.lemmas.Option.{slice_get-map, slice_get-get_or, slice_get_within}
 use Rattle.std.proofs.lemmas.List.{length-map}
 use Rattle.std.proofs.lemmas.List.Elements.{All-get_or}
-use Rattle.std.proofs.lemmas.List.Sums.{AllPass-from_list_all}
 use Rattle.hume_base.specs.declared.limits.TheConstants.{MAX_RULES}
 use Rattle.hume_base.specs.declared.types.Ty.{Ty}
 use Rattle.hume_base.specs.declared.types.Value.{Value}
@@ -24,6 +23,7 @@ use Rattle.match_rules.specs.Inputs.{IsCellOf, AreCellsOf}
 use Rattle.box_step.specs.Boxes.{AreBareForms, IsSoundBox}
 use Rattle.match_rules.specs.Choosing.{first_fitting}
 use Rattle.match_rules.specs.Plain.{plain_box, plain_rule}
+use Rattle.match_rules.proofs.PlainRules.{rule_plain}
 
 pub frame_of : {core : Core} {b : BoxC} {bare : Core} → IsSoundBox core b → bare ≡ bare_of core → HasSoundFrame bare
 frame_of {core = core} sound is = subst HasSoundFrame (sym is) (bare_frame core sound.formed.frame)
@@ -103,16 +103,8 @@ rules_plain types (rule ∷ rules) = ap (λ others. plain_rule types rule && oth
 pub bare_plain : {core : Core} {b : BoxC} {bare : Core} {bare_b : BoxC} → AreBareForms core b bare bare_b → plain_box bare_b ≡ plain_box b
 bare_plain {b = b} forms = ap plain_box forms.box_is ∙ rules_plain (port_types b.ins) b.rules
 
-one_plain : (types : List Ty) (rules : List RuleC) (number : ℕ) (rule : RuleC) → list_all (plain_rule types) rules ≡ true
-    → slice_get rules number ≡ Some rule → plain_rule types rule ≡ true
-one_plain types rules number rule all there =
-    let inside = slice_get_within rules number rule there in
-    let both = sym (slice_get-get_or rules number rule inside) ∙ there in
-    let same : get_or rules number rule ≡ rule = cc in
-    subst (λ r. plain_rule types r ≡ true) same (AllPass-from_list_all (plain_rule types) rules all number rule inside)
-
 -- a rule of a plain box is plain, and so is its bare form
 pub plain_there : (b : BoxC) (number : ℕ) (rule bare : RuleC) → plain_box b ≡ true → slice_get b.rules number ≡ Some rule → bare ≡ bare_rule rule
     → plain_rule (port_types b.ins) bare ≡ true
 plain_there b number rule bare all there is =
-    ap (plain_rule (port_types b.ins)) is ∙ one_plain (port_types b.ins) b.rules number rule all there
+    ap (plain_rule (port_types b.ins)) is ∙ rule_plain b number rule all there

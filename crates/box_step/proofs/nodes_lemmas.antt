@@ -1,3 +1,5 @@
+pub mod HomeCells
+pub mod OneCell
 pub mod SideCells
 pub mod NodeSteps
 pub mod Executed

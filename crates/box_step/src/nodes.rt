@@ -1,4 +1,5 @@
-//! The cells of nodes, each at its own time, and their half steps over the cells of wires.
+//! The cells of nodes, each at its own time, and their half steps over the cells of wires, which are at home: each in the place of its
+//! number. A half step is told the numbers of its node's side, in order, and leaves all other cells as they are.
 //!
 //! Main calls: `BoxCell::execute` and `BoxCell::super_step`. A `BoxCell` is what runs a node: a box as code, the queue of an input
 //! stream, or the log of an output stream, with the number of the node and its time. `Openings.antt` says what a round opens

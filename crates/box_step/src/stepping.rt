@@ -10,7 +10,8 @@ ghost use Rattle.hume_net.specs.declared.state.HalfStep.{HalfStep};
 ghost use Rattle.hume_net.specs.HalfSteps.{moved_last, oldest};
 ghost use Rattle.box_costs.specs.Bounds.{built_patterns};
 ghost use Rattle.box_costs.specs.ResultSpending.{built_values, inputs_built};
-ghost use Rattle.wire_cells.specs.Cells.{without_values};
+ghost use Rattle.wire_cells.specs.Cells.{CellView, without_values};
+ghost use Rattle.wire_cells.specs.Homes.{AreApart, AreAtHome, AreOthersKept};
 ghost use Rattle.match_rules.specs.Choosing.{first_fitting};
 ghost use Rattle.match_rules.specs.Inputs.{AreBuilt, AreCellsOf, left_in};
 ghost use Rattle.match_rules.specs.Plain.{plain_box, plain_rule};
@@ -28,24 +29,36 @@ use match_rules::{
 use wire_cells::WireCell;
 
 impl CompiledBox {
-    /// Makes the execute step over the cells of the box's inputs, by the bare forms of core and box. The answer is how the rule
-    /// ran that fired, and none exactly where none did. Of the cells nothing changes but their values. It takes no memory.
-    pub fn execute(&mut self, core: &Core, b: &BoxC, ins: &mut [WireCell]) -> Option<Ran>
-        requires { (whole : AnyCore) × (its : AnyBox) × (before : HalfStep) × AreBareForms whole its core.now b.now × IsAt whole its before self.old ins.old }
-        ensures executed { (whole : AnyCore) (its : AnyBox) (before : HalfStep) → AreBareForms whole its core.now b.now → IsAt whole its before self.old ins.old
-            → HasExecuted whole its before self.old self.new ins.new result }
-        ensures rest { map without_values ins.new ≡ map without_values ins.old }
+    /// Makes the execute step over the cells of the box's inputs, which are at home at the numbers of the side, by the bare forms of
+    /// core and box. The answer is how the rule ran that fired, and none exactly where none did. Of the cells nothing changes but
+    /// their values. It takes no memory.
+    pub fn execute(
+        &mut self,
+        core: &Core,
+        b: &BoxC,
+        side: &[u32],
+        home: &mut [Option<WireCell>],
+    ) -> Option<Ran>
+        requires apart { AreApart side.now }
+        requires at { (whole : AnyCore) × (its : AnyBox) × (before : HalfStep) × (ins : List CellView) × AreAtHome side.now home.old ins
+            × AreBareForms whole its core.now b.now × IsAt whole its before self.old ins }
+        ensures executed { (whole : AnyCore) (its : AnyBox) (before : HalfStep) (ins : List CellView) → AreAtHome side.now home.old ins
+            → AreBareForms whole its core.now b.now → IsAt whole its before self.old ins
+            → (after : List CellView) × AreAtHome side.now home.new after × HasExecuted whole its before self.old self.new after result }
+        ensures rest { (ins after : List CellView) → AreAtHome side.now home.old ins → AreAtHome side.now home.new after
+            → map without_values after ≡ map without_values ins }
+        ensures others { AreOthersKept side.now home.old home.new }
     {
         self.work = 0;
         if self.pending {
             return None;
         }
-        let Some(number) = first_rule(core, b, self.plain, &self.order, ins) else {
+        let Some(number) = first_rule(core, b, self.plain, &self.order, side, home) else {
             return None;
         };
         match b.rules.get(number) {
             None => None,
-            Some(rule) => Some(self.fire(core, b, number as u32, rule, ins)),
+            Some(rule) => Some(self.fire(core, b, number as u32, rule, side, home)),
         }
     }
 
@@ -56,20 +69,26 @@ impl CompiledBox {
         b: &BoxC,
         number: u32,
         rule: &RuleC,
-        ins: &mut [WireCell],
+        side: &[u32],
+        home: &mut [Option<WireCell>],
     ) -> Ran
-        requires { (whole : AnyCore) × (its : AnyBox) × (before : HalfStep) × Fires whole its before self.old ins.old core.now b.now.fair number rule.now
-            × (port_types b.now.ins ≡ port_types its.ins) }
-        ensures fired { (whole : AnyCore) (its : AnyBox) (before : HalfStep) → Fires whole its before self.old ins.old core.now b.now.fair number rule.now
-            → port_types b.now.ins ≡ port_types its.ins → HasFired whole its before number self.old self.new ins.new result }
-        ensures rest { map without_values ins.new ≡ map without_values ins.old }
+        requires apart { AreApart side.now }
+        requires fires { (whole : AnyCore) × (its : AnyBox) × (before : HalfStep) × (ins : List CellView) × AreAtHome side.now home.old ins
+            × Fires whole its before self.old ins core.now b.now.fair number rule.now × (port_types b.now.ins ≡ port_types its.ins) }
+        ensures fired { (whole : AnyCore) (its : AnyBox) (before : HalfStep) (ins : List CellView) → AreAtHome side.now home.old ins
+            → Fires whole its before self.old ins core.now b.now.fair number rule.now → port_types b.now.ins ≡ port_types its.ins
+            → (after : List CellView) × AreAtHome side.now home.new after × HasFired whole its before number self.old self.new after result }
+        ensures rest { (ins after : List CellView) → AreAtHome side.now home.old ins → AreAtHome side.now home.new after
+            → map without_values after ≡ map without_values ins }
+        ensures others { AreOthersKept side.now home.old home.new }
     {
         build(
             core,
             b.ins.as_slice(),
             rule,
             self.plain,
-            ins,
+            side,
+            home,
             &mut self.heap,
             &mut self.stack,
         );
@@ -94,26 +113,32 @@ fn build(
     ports: &[PortC],
     rule: &RuleC,
     plain: bool,
-    ins: &mut [WireCell],
+    side: &[u32],
+    home: &mut [Option<WireCell>],
     heap: &mut BoxHeap,
     stack: &mut BoxStack,
 )
     requires core { HasSoundFrame core.now }
     requires plain { plain ≡ true → plain_rule (port_types ports.now) rule.now ≡ true }
-    requires fitting { (values : List (List Value)) × AreCellsOf core.now (port_types ports.now) ins.old values
+    requires apart { AreApart side.now }
+    requires fitting { (ins : List CellView) × (values : List (List Value)) × AreAtHome side.now home.old ins
+        × AreCellsOf core.now (port_types ports.now) ins values
         × (fits rule.now.pats (map oldest values) ≡ true)
         × (inputs_built rule.now.pats (map oldest values) ≤ heap.old.room)
         × (length (built_patterns rule.now.pats) ≤ stack.old.room) }
-    ensures built { (values : List (List Value)) → AreCellsOf core.now (port_types ports.now) ins.old values
-        → fits rule.now.pats (map oldest values) ≡ true
+    ensures built { (ins : List CellView) (values : List (List Value)) → AreAtHome side.now home.old ins
+        → AreCellsOf core.now (port_types ports.now) ins values → fits rule.now.pats (map oldest values) ≡ true
         → AreBuiltAnew (built_values rule.now.pats (map oldest values)) heap.old heap.new stack.old stack.new }
-    ensures left { (values : List (List Value)) → AreCellsOf core.now (port_types ports.now) ins.old values
-        → fits rule.now.pats (map oldest values) ≡ true → ins.new ≡ left_in (taken_at rule.now.pats (map oldest values)) ins.old }
-    ensures rest { map without_values ins.new ≡ map without_values ins.old }
+    ensures left { (ins : List CellView) (values : List (List Value)) → AreAtHome side.now home.old ins
+        → AreCellsOf core.now (port_types ports.now) ins values → fits rule.now.pats (map oldest values) ≡ true
+        → AreAtHome side.now home.new (left_in (taken_at rule.now.pats (map oldest values)) ins) }
+    ensures rest { (ins after : List CellView) → AreAtHome side.now home.old ins → AreAtHome side.now home.new after
+        → map without_values after ≡ map without_values ins }
+    ensures others { AreOthersKept side.now home.old home.new }
 {
     heap.empty();
     stack.empty();
-    take(core, ports, rule, plain, ins, heap, stack);
+    take(core, ports, rule, plain, side, home, heap, stack);
 }
 
 // Takes the inputs of a rule that fits, and builds those that its patterns look into. A plain rule takes words as they are.
@@ -123,26 +148,33 @@ fn take(
     ports: &[PortC],
     rule: &RuleC,
     plain: bool,
-    ins: &mut [WireCell],
+    side: &[u32],
+    home: &mut [Option<WireCell>],
     heap: &mut BoxHeap,
     stack: &mut BoxStack,
 )
     requires core { HasSoundFrame core.now }
     requires plain { plain ≡ true → plain_rule (port_types ports.now) rule.now ≡ true }
-    requires fitting { (values : List (List Value)) × AreCellsOf core.now (port_types ports.now) ins.old values
+    requires apart { AreApart side.now }
+    requires fitting { (ins : List CellView) × (values : List (List Value)) × AreAtHome side.now home.old ins
+        × AreCellsOf core.now (port_types ports.now) ins values
         × (fits rule.now.pats (map oldest values) ≡ true)
         × (length heap.old.words + inputs_built rule.now.pats (map oldest values) ≤ heap.old.room)
         × (length stack.old.words + length (built_patterns rule.now.pats) ≤ stack.old.room) }
-    ensures built { (values : List (List Value)) → AreCellsOf core.now (port_types ports.now) ins.old values → fits rule.now.pats (map oldest values) ≡ true
+    ensures built { (ins : List CellView) (values : List (List Value)) → AreAtHome side.now home.old ins
+        → AreCellsOf core.now (port_types ports.now) ins values → fits rule.now.pats (map oldest values) ≡ true
         → AreBuilt (built_values rule.now.pats (map oldest values)) heap.old heap.new stack.old stack.new }
-    ensures left { (values : List (List Value)) → AreCellsOf core.now (port_types ports.now) ins.old values
-        → fits rule.now.pats (map oldest values) ≡ true → ins.new ≡ left_in (taken_at rule.now.pats (map oldest values)) ins.old }
-    ensures rest { map without_values ins.new ≡ map without_values ins.old }
+    ensures left { (ins : List CellView) (values : List (List Value)) → AreAtHome side.now home.old ins
+        → AreCellsOf core.now (port_types ports.now) ins values → fits rule.now.pats (map oldest values) ≡ true
+        → AreAtHome side.now home.new (left_in (taken_at rule.now.pats (map oldest values)) ins) }
+    ensures rest { (ins after : List CellView) → AreAtHome side.now home.old ins → AreAtHome side.now home.new after
+        → map without_values after ≡ map without_values ins }
+    ensures others { AreOthersKept side.now home.old home.new }
 {
     if plain {
-        take_plain(ins, stack);
+        take_plain(side, home, stack);
     } else {
-        take_inputs(core, ports, rule, ins, heap, stack);
+        take_inputs(core, ports, rule, side, home, heap, stack);
     }
 }
 
@@ -153,18 +185,20 @@ fn first_rule(
     b: &BoxC,
     plain: bool,
     order: &RuleOrder,
-    ins: &[WireCell],
+    side: &[u32],
+    home: &[Option<WireCell>],
 ) -> Option<usize>
     requires core { HasSoundFrame core.now }
     requires typed { BoxHasFrame core.now b.now }
     requires plain { plain ≡ plain_box b.now }
-    ensures { (values : List (List Value)) → AreCellsOf core.now (port_types b.now.ins) ins.now values
-        → result ≡ first_fitting b.now order.now (map oldest values) }
+    requires home { (ins : List CellView) × AreAtHome side.now home.now ins }
+    ensures { (ins : List CellView) (values : List (List Value)) → AreAtHome side.now home.now ins
+        → AreCellsOf core.now (port_types b.now.ins) ins values → result ≡ first_fitting b.now order.now (map oldest values) }
 {
     if plain {
-        first_plain(b, order, ins)
+        first_plain(b, order, side, home)
     } else {
-        first_match(core, b, order, ins)
+        first_match(core, b, order, side, home)
     }
 }
 

@@ -4,6 +4,7 @@ pub mod Orders
 pub mod Taking
 pub mod FieldWords
 pub mod Testing
+pub mod Passing
 pub mod Fitting
 pub mod Objects
 pub mod ValuesBuilt

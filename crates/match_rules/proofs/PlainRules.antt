@@ -3,7 +3,7 @@ use Rattle.std.proofs.Common.{◌≡◌, ℕ, zero, suc, ◌+◌, ◌<◌, ◌�
 use Rattle.std.specs.List.{list_all, find}
 use Rattle.std.specs.Option.{is_some}
 use Rattle.std.proofs.lemmas.Bool.{and_parts, eqb-true, lt-ltb, le-ltb}
-use Rattle.std.proofs.lemmas.Option.{slice_get_within}
+use Rattle.std.proofs.lemmas.Option.{slice_get_within, get_or_from_slice_get}
 use Rattle.hume_base.specs.declared.types.Ty.{Ty, out-Ty, roll-Ty, roll-out-Ty, map-Ty, fold-roll-Ty}
 use Rattle.hume_base.specs.declared.types.Ty.TheOpen.{Ty-F}
 use Rattle.hume_base.specs.declared.types.Types.{Types}
@@ -35,6 +35,8 @@ use Rattle.box_heap.specs.Heaps.{HeapView, HasObjects, Object}
 use Rattle.box_heap.specs.Stacks.{StackView, with_word, with_words}
 use Rattle.box_heap.specs.Standing.{Stands, AllStand}
 use Rattle.wire_cells.specs.Cells.{CellView, without_values}
+use Rattle.wire_cells.specs.Homes.{AreApart, AreAtHome}
+use Rattle.wire_cells.proofs.AtHome.{one_set}
 use Rattle.match_rules.specs.Choosing.{first_fitting}
 use Rattle.match_rules.specs.Inputs.{IsCellOf, AreCellsOf, AreBuilt, left_in}
 use Rattle.match_rules.specs.Plain.{is_variable, plain_pattern, scalar, plain_rule, plain_box, ArePlainInputs}
@@ -202,12 +204,12 @@ word_at (AreWords.more p w later others is rest) (suc i) d less = word_at rest i
 abbrev pub first_less : ℕ → List CellView → List CellView
 first_less i cells = map without_first (take i cells) ++ drop i cells
 
-pub still_first : (cells : List CellView) (i : ℕ) (d : CellView) → i < length cells → get_or (first_less i cells) i d ≡ get_or cells i d
+still_first : (cells : List CellView) (i : ℕ) (d : CellView) → i < length cells → get_or (first_less i cells) i d ≡ get_or cells i d
 still_first [] i d less = absurd (omega (arith, less))
 still_first (cell ∷ cells) zero d less = refl
 still_first (cell ∷ cells) (suc i) d less = still_first cells i d (omega (arith, less))
 
-pub next_less : (cells : List CellView) (i : ℕ) (d : CellView) → i < length cells
+next_less : (cells : List CellView) (i : ℕ) (d : CellView) → i < length cells
     → slice_set (first_less i cells) i (without_first (get_or cells i d)) ≡ first_less (suc i) cells
 next_less [] i d less = absurd (omega (arith, less))
 next_less (cell ∷ cells) zero d less = refl
@@ -217,6 +219,23 @@ pub all_less : (cells : List CellView) (i : ℕ) → i ≡ length cells → firs
 all_less [] i is = ap (λ k. first_less k []) (let e : i ≡ 0 = omega (arith, is) in e)
 all_less (cell ∷ cells) zero is = absurd (omega (arith, is))
 all_less (cell ∷ cells) (suc i) is = ap (λ cs. without_first cell ∷ cs) (all_less cells i (omega (arith, is)))
+
+-- the cell that is at home at a number whose turn is still to come
+pub first_here : (side : List ℕ) (home : List (Option CellView)) (cells : List CellView) (i w : ℕ) (cell : CellView) → AreAtHome side home (first_less i cells)
+    → slice_get side i ≡ Some w → slice_get home w ≡ Some (Some cell) → i < length cells → cell ≡ get_or cells i cell
+first_here side home cells i w cell at here there less =
+    let done = first_less i cells in
+    let found : slice_get done i ≡ Some cell = (let both : Some (slice_get done i) ≡ Some (Some cell) = sym (at.each i w here) ∙ there in cc) in
+    sym (get_or_from_slice_get done i cell cell found) ∙ still_first cells i cell less
+
+-- one cell more
+pub next_first : (side : List ℕ) → AreApart side → (home : List (Option CellView)) (cells : List CellView) (i w : ℕ) (cell new : CellView)
+    → AreAtHome side home (first_less i cells) → slice_get side i ≡ Some w → slice_get home w ≡ Some (Some cell) → i < length cells
+    → new ≡ without_first cell → AreAtHome side (slice_set home w (Some new)) (first_less (suc i) cells)
+next_first side apart home cells i w cell new at here there less left =
+    let next : new ≡ without_first (get_or cells i cell) = left ∙ ap without_first (first_here side home cells i w cell at here there less) in
+    subst (AreAtHome side (slice_set home w (Some new))) (ap (slice_set (first_less i cells) i) next ∙ next_less cells i cell less)
+    (one_set side apart i w here home new (first_less i cells) at)
 
 -- the words of the cells before a place
 abbrev pub words_before : ℕ → List CellView → List ℕ
@@ -242,6 +261,12 @@ pushed_many stack (cell ∷ cells) (suc i) less =
     length_one (w ∷ words) word = let e = length_one words word in omega (arith, e)
 
 -- which rules fit
+
+pub next_full : (cells : List CellView) (i : ℕ) (cell : CellView) → slice_get cells i ≡ Some cell
+    → list_all is_full (drop i cells) ≡ (is_full cell && list_all is_full (drop (suc i) cells))
+next_full [] i cell is = cc
+next_full (x ∷ cells) zero cell is = let same : x ≡ cell = cc in ap (λ c. is_full c && list_all is_full cells) same
+next_full (x ∷ cells) (suc i) cell is = next_full cells i cell is
 
 variable_layer : (l : PatC-F PatC) → is_variable l ≡ true → l ≡ PatC-F.Var
 variable_layer PatC-F.Var is = refl

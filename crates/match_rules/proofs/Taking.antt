@@ -1,5 +1,6 @@
 -- What is left in cells once values are taken.
-use Rattle.std.proofs.Common.{◌≡◌, ℕ, zero, suc, ◌<◌, min, Bool, true, false, cond, List, [], ◌∷◌, ◌++◌, length, map, take, drop, get_or, slice_set, refl, ap, sym, ◌∙◌, subst, arith}
+use Rattle.std.proofs.Common.{◌≡◌, ℕ, zero, suc, ◌<◌, min, Bool, true, false, cond, List, [], ◌∷◌, ◌++◌, length, map, take, drop, get_or, slice_set, Option, Some, slice_get, refl, ap, sym, ◌∙◌, subst, arith}
+use Rattle.std.proofs.lemmas.Option.{get_or_from_slice_get}
 use Rattle.hume_base.specs.declared.types.Ty.{Ty}
 use Rattle.hume_base.specs.declared.types.Value.{Value}
 use Rattle.hume_model.specs.declared.core_tree.Core.{Core}
@@ -8,11 +9,13 @@ use Rattle.hume_model.specs.declared.core_tree.InPat.TheVariants.{Star, AnyStar,
 use Rattle.hume_model.specs.Matching.{taken_by, taken_at}
 use Rattle.hume_net.specs.HalfSteps.{oldest, without_oldest, without_taken}
 use Rattle.wire_cells.specs.Cells.{CellView, without_values}
+use Rattle.wire_cells.specs.Homes.{AreApart, AreAtHome}
+use Rattle.wire_cells.proofs.AtHome.{one_set}
 use Rattle.wire_cells.proofs.Holding.{less_held}
 use Rattle.match_rules.specs.Inputs.{IsCellOf, AreCellsOf, left_in}
 use Rattle.match_rules.specs.inner.Consuming.{consumed_at, consumed}
 
-pub consumed_next : (pats : List InPat) (cells : List CellView) (i : ℕ) (p : InPat) (d : CellView) → i < length pats → i < length cells
+consumed_next : (pats : List InPat) (cells : List CellView) (i : ℕ) (p : InPat) (d : CellView) → i < length pats → i < length cells
     → slice_set (consumed (take i pats) (take i cells) ++ drop i cells) i
     (consumed_at (get_or pats i p) (get_or (consumed (take i pats) (take i cells) ++ drop i cells) i d))
     ≡ consumed (take (suc i) pats) (take (suc i) cells) ++ drop (suc i) cells
@@ -23,12 +26,33 @@ consumed_next (pat ∷ pats) (cell ∷ cells) (suc i) p d less fits = ap (λ cs.
     (consumed_next pats cells i p d (omega (arith, less)) (omega (arith, fits)))
 
 -- a cell whose turn is still to come is as it was
-pub still_there : (pats : List InPat) (cells : List CellView) (i : ℕ) (d : CellView) → i < length pats → i < length cells
+still_there : (pats : List InPat) (cells : List CellView) (i : ℕ) (d : CellView) → i < length pats → i < length cells
     → get_or (consumed (take i pats) (take i cells) ++ drop i cells) i d ≡ get_or cells i d
 still_there [] cells i d less fits = absurd (omega (arith, less))
 still_there (pat ∷ pats) [] i d less fits = absurd (omega (arith, fits))
 still_there (pat ∷ pats) (cell ∷ cells) zero d less fits = refl
 still_there (pat ∷ pats) (cell ∷ cells) (suc i) d less fits = still_there pats cells i d (omega (arith, less)) (omega (arith, fits))
+
+-- the cell that is at home at a number whose turn is still to come
+pub here_still : (side : List ℕ) (home : List (Option CellView)) (pats : List InPat) (cells : List CellView) (i w : ℕ) (cell : CellView)
+    → AreAtHome side home (consumed (take i pats) (take i cells) ++ drop i cells) → slice_get side i ≡ Some w → slice_get home w ≡ Some (Some cell)
+    → i < length pats → i < length cells → cell ≡ get_or cells i cell
+here_still side home pats cells i w cell at here there less fits =
+    let done = consumed (take i pats) (take i cells) ++ drop i cells in
+    let found : slice_get done i ≡ Some cell = (let both : Some (slice_get done i) ≡ Some (Some cell) = sym (at.each i w here) ∙ there in cc) in
+    sym (get_or_from_slice_get done i cell cell found) ∙ still_there pats cells i cell less fits
+
+-- one position more
+pub next_home : (side : List ℕ) → AreApart side → (home : List (Option CellView)) (pats : List InPat) (cells : List CellView) (i w : ℕ) (pat : InPat)
+    (cell new : CellView) → AreAtHome side home (consumed (take i pats) (take i cells) ++ drop i cells) → slice_get side i ≡ Some w
+    → slice_get home w ≡ Some (Some cell) → i < length pats → i < length cells → pat ≡ get_or pats i pat → new ≡ consumed_at pat cell
+    → AreAtHome side (slice_set home w (Some new)) (consumed (take (suc i) pats) (take (suc i) cells) ++ drop (suc i) cells)
+next_home side apart home pats cells i w pat cell new at here there less fits is left =
+    let done = consumed (take i pats) (take i cells) ++ drop i cells in
+    let now : cell ≡ get_or done i cell = here_still side home pats cells i w cell at here there less fits ∙ sym (still_there pats cells i cell less fits) in
+    let next : new ≡ consumed_at (get_or pats i pat) (get_or done i cell) = left ∙ ap (λ p. consumed_at p cell) is ∙ ap (consumed_at (get_or pats i pat)) now in
+    subst (AreAtHome side (slice_set home w (Some new))) (ap (slice_set done i) next ∙ consumed_next pats cells i pat cell less fits)
+    (one_set side apart i w here home new done at)
 
 none_consumed : (cells : List CellView) → consumed [] cells ≡ cells
 none_consumed [] = refl

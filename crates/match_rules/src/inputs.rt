@@ -8,7 +8,8 @@ ghost use Rattle.hume_net.specs.HalfSteps.{oldest};
 ghost use Rattle.box_costs.specs.Building.{built_of};
 ghost use Rattle.box_costs.specs.Bounds.{built_patterns};
 ghost use Rattle.box_costs.specs.ResultSpending.{built_value, built_values, inputs_built, position_built};
-ghost use Rattle.wire_cells.specs.Cells.{without_values};
+ghost use Rattle.wire_cells.specs.Cells.{CellView, without_values};
+ghost use Rattle.wire_cells.specs.Homes.{AreApart, AreAtHome, AreOthersKept};
 ghost use Rattle.match_rules.specs.Inputs.{IsCellOf, AreCellsOf, AreBuilt, left_in};
 ghost use Rattle.match_rules.specs.inner.Consuming.{consumed_at};
 
@@ -16,33 +17,42 @@ use crate::building::build_value;
 use box_heap::{BoxHeap, BoxStack};
 use hume_base::Ty;
 use hume_model::{Core, InPat, PortC, RuleC};
-use wire_cells::WireCell;
+use wire_cells::{WireCell, cell_in};
 
 /// Takes the oldest value at each position of a rule that fits that consumes one that is there, and at no other. Each value at a
 /// position with a pattern other than `_`, `*` and `_*` is built, in order, and the word that stands for it is pushed. Of the cells
 /// nothing changes but their values. It takes no memory.
+#[inline(never)]
 pub fn take_inputs(
     core: &Core,
     ports: &[PortC],
     rule: &RuleC,
-    ins: &mut [WireCell],
+    side: &[u32],
+    home: &mut [Option<WireCell>],
     heap: &mut BoxHeap,
     stack: &mut BoxStack,
 )
     requires core { HasSoundFrame core.now }
-    requires fitting { (values : List (List Value)) × AreCellsOf core.now (port_types ports.now) ins.old values
+    requires apart { AreApart side.now }
+    requires fitting { (cells : List CellView) × (values : List (List Value)) × AreAtHome side.now home.old cells
+        × AreCellsOf core.now (port_types ports.now) cells values
         × (fits rule.now.pats (map oldest values) ≡ true)
         × (length heap.old.words + inputs_built rule.now.pats (map oldest values) ≤ heap.old.room)
         × (length stack.old.words + length (built_patterns rule.now.pats) ≤ stack.old.room) }
-    ensures built { (values : List (List Value)) → AreCellsOf core.now (port_types ports.now) ins.old values → fits rule.now.pats (map oldest values) ≡ true
+    ensures built { (cells : List CellView) (values : List (List Value)) → AreAtHome side.now home.old cells
+        → AreCellsOf core.now (port_types ports.now) cells values → fits rule.now.pats (map oldest values) ≡ true
         → AreBuilt (built_values rule.now.pats (map oldest values)) heap.old heap.new stack.old stack.new }
-    ensures left { (values : List (List Value)) → AreCellsOf core.now (port_types ports.now) ins.old values
-        → ins.new ≡ left_in (taken_at rule.now.pats (map oldest values)) ins.old }
-    ensures rest { map without_values ins.new ≡ map without_values ins.old }
+    ensures left { (cells : List CellView) (values : List (List Value)) → AreAtHome side.now home.old cells
+        → AreCellsOf core.now (port_types ports.now) cells values
+        → AreAtHome side.now home.new (left_in (taken_at rule.now.pats (map oldest values)) cells) }
+    ensures rest { (cells after : List CellView) → AreAtHome side.now home.old cells → AreAtHome side.now home.new after
+        → map without_values after ≡ map without_values cells }
+    ensures others { AreOthersKept side.now home.old home.new }
 {
     let pats = rule.pats.as_slice();
-    for i in 0..pats.len().min(ins.len()).min(ports.len()) {
-        take_position(core, &ports[i].ty, &pats[i], &mut ins[i], heap, stack);
+    for i in 0..pats.len().min(side.len()).min(ports.len()) {
+        let cell = cell_in(&mut home[side[i] as usize]);
+        take_position(core, &ports[i].ty, &pats[i], cell, heap, stack);
     }
 }
 

@@ -3,7 +3,8 @@
 //! `first_match` finds the first rule in an order that fits the oldest values, and `take_inputs` takes those that the rule
 //! consumes, and builds those that its patterns look into, in heap and stack. A `RuleOrder` is the order in which a box tries
 //! its rules. For a box that takes all inputs as they are, each a single word (`is_plain`), `first_plain` and `take_plain` do the
-//! same without a look at patterns and types. None of them takes memory. `Matching.antt` of `hume_model` says what fits and what is
+//! same without a look at patterns and types. They find each cell at home, by the number of its wire (`Homes.antt` of `wire_cells`),
+//! and change no other. None of them takes memory. `Matching.antt` of `hume_model` says what fits and what is
 //! taken; `Inputs.antt` says which cells are a box's inputs and what is built of them, `Plain.antt` which boxes are plain, and
 //! `Outputs.antt` what asserting outputs leaves.
 //!

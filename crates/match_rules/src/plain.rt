@@ -12,7 +12,8 @@ ghost use Rattle.box_costs.specs.Bounds.{built_patterns};
 ghost use Rattle.box_costs.specs.ResultSpending.{built_values};
 ghost use Rattle.box_heap.specs.Heaps.{HeapView};
 ghost use Rattle.box_heap.specs.Stacks.{with_word};
-ghost use Rattle.wire_cells.specs.Cells.{without_values};
+ghost use Rattle.wire_cells.specs.Cells.{CellView, without_values};
+ghost use Rattle.wire_cells.specs.Homes.{AreApart, AreAtHome, AreOthersKept};
 ghost use Rattle.match_rules.specs.Choosing.{first_fitting};
 ghost use Rattle.match_rules.specs.Inputs.{AreCellsOf, AreBuilt, left_in};
 ghost use Rattle.match_rules.specs.Plain.{plain_pattern, scalar, plain_rule, plain_box, ArePlainInputs};
@@ -23,7 +24,7 @@ use box_heap::BoxStack;
 use hume_base::Ty;
 use hume_base::limits::MAX_WIDTH;
 use hume_model::{BoxC, InPat, PatC, PortC, RuleC};
-use wire_cells::WireCell;
+use wire_cells::{WireCell, cell_at, cell_in};
 
 /// Whether each rule of the box takes all inputs as they are, and each input is a single word.
 pub fn is_plain(b: &BoxC) -> bool
@@ -82,12 +83,18 @@ fn is_scalar(ty: &Ty) -> bool
 /// The number of the first rule in the order that fits the oldest values, in a box whose rules are plain; none exactly where none
 /// does. It takes no memory.
 #[inline(always)]
-pub fn first_plain(b: &BoxC, order: &RuleOrder, ins: &[WireCell]) -> Option<usize>
+pub fn first_plain(
+    b: &BoxC,
+    order: &RuleOrder,
+    side: &[u32],
+    home: &[Option<WireCell>],
+) -> Option<usize>
     requires plain { plain_box b.now ≡ true }
-    ensures { (core : Core) (values : List (List Value)) → AreCellsOf core (port_types b.now.ins) ins.now values
-        → result ≡ first_fitting b.now order.now (map oldest values) }
+    requires home { (cells : List CellView) × AreAtHome side.now home.now cells }
+    ensures { (core : Core) (cells : List CellView) (values : List (List Value)) → AreAtHome side.now home.now cells
+        → AreCellsOf core (port_types b.now.ins) cells values → result ≡ first_fitting b.now order.now (map oldest values) }
 {
-    if all_full(ins) {
+    if all_full(side, home) {
         first_below(order, b.rules.len())
     } else {
         None
@@ -95,11 +102,12 @@ pub fn first_plain(b: &BoxC, order: &RuleOrder, ins: &[WireCell]) -> Option<usiz
 }
 
 #[inline(always)]
-fn all_full(ins: &[WireCell]) -> bool
-    ensures { result ≡ list_all is_full ins.now }
+fn all_full(side: &[u32], home: &[Option<WireCell>]) -> bool
+    requires home { (cells : List CellView) × AreAtHome side.now home.now cells }
+    ensures { (cells : List CellView) → AreAtHome side.now home.now cells → result ≡ list_all is_full cells }
 {
-    for cell in ins {
-        if !cell.full() {
+    for number in side {
+        if !cell_at(home, *number).full() {
             return false;
         }
     }
@@ -123,18 +131,22 @@ fn first_below(order: &RuleOrder, count: usize) -> Option<usize>
 /// Takes the oldest value at each position of a plain rule that fits, and pushes the word that it is, in order. Nothing is built. Of
 /// the cells nothing changes but their values. It takes no memory.
 #[inline(always)]
-pub fn take_plain(ins: &mut [WireCell], stack: &mut BoxStack)
-    requires fitting { (core : Core) × (types : List Ty) × (rule : RuleC) × (values : List (List Value))
-        × ArePlainInputs core types rule ins.old values
+pub fn take_plain(side: &[u32], home: &mut [Option<WireCell>], stack: &mut BoxStack)
+    requires apart { AreApart side.now }
+    requires fitting { (cells : List CellView) × (core : Core) × (types : List Ty) × (rule : RuleC) × (values : List (List Value))
+        × AreAtHome side.now home.old cells × ArePlainInputs core types rule cells values
         × (length stack.old.words + length (built_patterns rule.pats) ≤ stack.old.room) }
-    ensures built { (core : Core) (types : List Ty) (rule : RuleC) (values : List (List Value)) → ArePlainInputs core types rule ins.old values
+    ensures built { (cells : List CellView) (core : Core) (types : List Ty) (rule : RuleC) (values : List (List Value)) → AreAtHome side.now home.old cells
+        → ArePlainInputs core types rule cells values
         → (heap : HeapView) → AreBuilt (built_values rule.pats (map oldest values)) heap heap stack.old stack.new }
-    ensures left { (core : Core) (types : List Ty) (rule : RuleC) (values : List (List Value)) → ArePlainInputs core types rule ins.old values
-        → ins.new ≡ left_in (taken_at rule.pats (map oldest values)) ins.old }
-    ensures rest { map without_values ins.new ≡ map without_values ins.old }
+    ensures left { (cells : List CellView) (core : Core) (types : List Ty) (rule : RuleC) (values : List (List Value)) → AreAtHome side.now home.old cells
+        → ArePlainInputs core types rule cells values → AreAtHome side.now home.new (left_in (taken_at rule.pats (map oldest values)) cells) }
+    ensures rest { (cells after : List CellView) → AreAtHome side.now home.old cells → AreAtHome side.now home.new after
+        → map without_values after ≡ map without_values cells }
+    ensures others { AreOthersKept side.now home.old home.new }
 {
-    for i in 0..ins.len() {
-        take_word(&mut ins[i], stack);
+    for i in 0..side.len() {
+        take_word(cell_in(&mut home[side[i] as usize]), stack);
     }
 }
 

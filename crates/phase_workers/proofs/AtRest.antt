@@ -1,12 +1,9 @@
 -- An engine between two calls: all its cells are at time 0.
-use Rattle.std.proofs.Common.{◌≡◌, ◌≤◌, ◌<◌, ◌+◌, ◌*◌, ◌/◌, ℕ, List, map, length, Option, None, Some, slice_get, slice_index_or, refl, ap, sym, ◌∙◌, subst, arith}
+use Rattle.std.proofs.Common.{◌≡◌, ◌<◌, ℕ, List, map, length, Option, None, Some, slice_get, refl, ap, sym, ◌∙◌, subst, arith}
 use Rattle.std.proofs.lemmas.Option.{slice_get_within}
-use Rattle.hume_base.specs.declared.types.Ty.{Ty}
-use Rattle.hume_base.specs.declared.types.Value.{Value}
 use Rattle.hume_base.specs.Flat.{flat}
 use Rattle.hume_base.specs.Sizes.{size_of}
-use Rattle.hume_model.specs.declared.core_tree.NodeC.{NodeC}
-use Rattle.hume_model.specs.declared.core_tree.NodeC.TheVariants.{Rules, From, To}
+use Rattle.hume_model.specs.declared.core_tree.NodeC.TheVariants.{From, To}
 use Rattle.hume_model.specs.declared.core_tree.WireC.{WireC}
 use Rattle.hume_model.specs.declared.core_tree.Core.{Core}
 use Rattle.hume_net.specs.declared.state.Part.{Part}
@@ -14,7 +11,7 @@ use Rattle.hume_net.specs.declared.state.State.{State}
 use Rattle.hume_net.specs.Lockstep.{at_time, node_at}
 use Rattle.hume_net.specs.Nodes.{IsInput, IsInputStream, IsOutput, IsOutputStream}
 use Rattle.hume_net.specs.Plan.{plan_of, producer_of, consumer_of}
-use Rattle.hume_net.specs.Sides.{on_wire, part_of, wire_from, wire_to}
+use Rattle.hume_net.specs.Sides.{on_wire, part_of}
 use Rattle.hume_net.specs.Times.{wire_time}
 use Rattle.hume_net.proofs.FoundWires.{from_comes, from_each, to_each, to_leads}
 use Rattle.hume_streams.specs.declared.queue.InQueue.{InQueue}
@@ -102,8 +99,8 @@ has_log opening n time (Coded box) is right = absurd (subst IsOutput right.there
 has_log opening n time (Queued queue) is right = absurd (subst IsOutput right.there is)
 has_log opening n time (Logged log) is right = (log.value, refl, right.values, right.width)
 
-module _ (core bare : Core) (sides : Sides) (span : ℕ) (state : State) (nodes : List BoxCell) (home : List (Option CellView)) (count room : ℕ)
-    (whole : IsWhole core bare sides span state nodes home count room) where
+module _ (core bare : Core) (sides : Sides) (span : ℕ) (state : State) (nodes : List BoxCell) (home : List (Option CellView))
+    (whole : IsWhole core bare sides span state nodes home) where
   pub home_at : (w : ℕ) → w < length bare.wires → IsHome w 0 home
   home_at w less = subst (λ t. IsHome w t home) (zero_wire bare nodes (zero_times nodes whole.begun) w) (whole.place.wires w less)
 
@@ -111,7 +108,7 @@ module _ (core bare : Core) (sides : Sides) (span : ℕ) (state : State) (nodes 
   wire_time_is w cell at =
       let inside = slice_get_within home w (Some cell) at in
       let held = whole.wires in
-      let all = bare_wires core bare sides span state nodes home count room whole in
+      let all = bare_wires core bare sides span state nodes home whole in
       let is = home_at w (omega (arith, inside, held, all)) in
       let same : cell ≡ is.cell = (let both : Some (Some cell) ≡ Some (Some is.cell) = sym at ∙ is.there in cc) in
       ap (λ (c : CellView). c.time) same ∙ is.at
@@ -121,7 +118,7 @@ module _ (core bare : Core) (sides : Sides) (span : ℕ) (state : State) (nodes 
       → (cell : CellView) × (slice_get home w ≡ Some (Some cell)) × (cell.number ≡ w)
       × ((its : WireC) → slice_get core.wires w ≡ Some its → Holds core.types its cell (on_wire state w))
   wire_there w less =
-      let all = bare_wires core bare sides span state nodes home count room whole in
+      let all = bare_wires core bare sides span state nodes home whole in
       let is = home_at w (omega (arith, less, all)) in
       let right = whole.right.wires.each w is.cell is.there in
       let state_is : Holds core.types right.wire is.cell (on_wire state is.cell.number) =
@@ -144,8 +141,8 @@ module _ (core bare : Core) (sides : Sides) (span : ℕ) (state : State) (nodes 
       × (size_of core.types (type_at core n) ≡ (queue_view queue).width) × (span ≡ (queue_view queue).span)
   queue_there n is =
       let node = node_of_input core n is in
-      let cell = cell_at core bare sides span state nodes home count room whole n (slice_get_within core.nodes n (From node.0) node.1) in
-      let right = right_cell core bare sides span state nodes home count room whole n cell.0 cell.1 in
+      let cell = cell_at core bare sides span state nodes home whole n (slice_get_within core.nodes n (From node.0) node.1) in
+      let right = right_cell core bare sides span state nodes home whole n cell.0 cell.1 in
       let queue = has_queue (opening_at core state nodes) n 0 cell.0.kind is right in
       let seen = (seen_at nodes n cell.0 cell.1).2 ∙ ap queue_without queue.1 in
       let kept = whole.queues n is in (
@@ -166,8 +163,8 @@ module _ (core bare : Core) (sides : Sides) (span : ℕ) (state : State) (nodes 
       × ((log_view log).width ≡ size_of core.types (taken_type core n)) × ((log_view log).span ≡ span)
   log_there n is =
       let node = node_of_output core n is in
-      let cell = cell_at core bare sides span state nodes home count room whole n (slice_get_within core.nodes n (To node.0) node.1) in
-      let right = right_cell core bare sides span state nodes home count room whole n cell.0 cell.1 in
+      let cell = cell_at core bare sides span state nodes home whole n (slice_get_within core.nodes n (To node.0) node.1) in
+      let right = right_cell core bare sides span state nodes home whole n cell.0 cell.1 in
       let log = has_log (opening_at core state nodes) n 0 cell.0.kind is right in
       let seen = (seen_at nodes n cell.0 cell.1).3 ∙ ap log_without log.1 in
       let kept = whole.logs n node.0 node.1 in (

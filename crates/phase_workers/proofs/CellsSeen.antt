@@ -1,11 +1,8 @@
 -- What is seen of cells of nodes, and cells that are right for what is seen of them.
-use Rattle.std.proofs.Common.{◌≡◌, ◌≤◌, ◌<◌, ◌+◌, ◌*◌, ◌/◌, ℕ, max, List, [], ◌∷◌, map, length, Option, None, Some, slice_get, slice_index_or, refl, ap, sym, ◌∙◌, subst, arith, inl, inr, ◌⊎◌}
+use Rattle.std.proofs.Common.{◌≡◌, ◌+◌, ◌*◌, ◌/◌, ℕ, max, List, [], ◌∷◌, map, Option, None, Some, slice_get, slice_index_or, refl, ap, sym, ◌∙◌, subst, arith}
 use Rattle.std.specs.List.{range_with_len}
-use Rattle.std.proofs.lemmas.Bool.{cases_lt}
-use Rattle.std.proofs.lemmas.Option.{slice_get_past, slice_get_within}
 use Rattle.hume_model.specs.declared.core_tree.NodeC.{NodeC}
 use Rattle.hume_model.specs.declared.core_tree.NodeC.TheVariants.{Rules, From, To}
-use Rattle.hume_model.specs.declared.core_tree.BoxC.{BoxC}
 use Rattle.hume_model.specs.declared.core_tree.StreamC.{StreamC}
 use Rattle.hume_model.specs.declared.core_tree.Core.{Core}
 use Rattle.hume_net.specs.declared.state.State.{State}
@@ -13,8 +10,7 @@ use Rattle.hume_net.specs.Lockstep.{lockstep}
 use Rattle.box_costs.specs.declared.cost.Cost.{Cost}
 use Rattle.box_costs.specs.Costs.{any_of, either, nothing}
 use Rattle.net_costs.specs.Steps.{node_step_spent, peaks, step_spent}
-use Rattle.hume_streams.specs.Queues.{QueueView, queue_view, first_view}
-use Rattle.hume_streams.specs.Logs.{LogView, log_view}
+use Rattle.hume_streams.specs.Queues.{first_view}
 use Rattle.box_step.specs.declared.nodes.cell.Kind.{Kind}
 use Rattle.box_step.specs.declared.nodes.cell.Kind.TheVariants.{Coded, Queued, Logged}
 use Rattle.box_step.specs.declared.nodes.cell.BoxCell.{BoxCell}
@@ -22,7 +18,7 @@ use Rattle.box_step.specs.nodes.Lends.{queue_in, log_in}
 use Rattle.box_step.specs.nodes.Openings.{Opening}
 use Rattle.box_step.specs.nodes.Right.{IsRightNode, heap_peak_of, stack_peak_of}
 use Rattle.phase_workers.specs.inner.Whole.{queue_without, log_without, queues_of, logs_of, heaps_of, stacks_of, opening_at}
-use Rattle.phase_workers.proofs.Indexes.{index_mapped, index_past}
+use Rattle.phase_workers.proofs.Indexes.{index_mapped}
 
 -- at time 0 nothing was taken since
 abbrev pub IsSeenAt : List BoxCell → ℕ → Kind → Type 0

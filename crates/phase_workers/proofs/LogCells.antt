@@ -1,5 +1,5 @@
 -- An engine of which an output stream has another log.
-use Rattle.std.proofs.Common.{◌≡◌, ◌≤◌, ◌<◌, ℕ, true, List, [], ◌∷◌, map, length, Option, None, Some, slice_get, slice_set, refl, ap, sym, ◌∙◌, subst, arith, inl, inr, ◌⊎◌}
+use Rattle.std.proofs.Common.{◌≡◌, ◌<◌, ℕ, true, List, [], ◌∷◌, map, length, Option, Some, slice_get, slice_set, refl, ap, sym, ◌∙◌, subst, arith, inl, inr}
 use Rattle.std.specs.List.{AllZip, list_all}
 use Rattle.std.specs.Option.{unwrap_or}
 use Rattle.std.proofs.lemmas.Bool.{and_parts, cases_eq}
@@ -10,8 +10,7 @@ use Rattle.hume_base.specs.Values.{is_value}
 use Rattle.hume_base.specs.declared.types.Ty.{Ty}
 use Rattle.hume_base.specs.declared.types.Types.{Types}
 use Rattle.hume_base.specs.declared.types.Value.{Value}
-use Rattle.hume_model.specs.declared.core_tree.NodeC.TheVariants.{From, To}
-use Rattle.hume_model.specs.declared.core_tree.WireC.{WireC}
+use Rattle.hume_model.specs.declared.core_tree.NodeC.TheVariants.{To}
 use Rattle.hume_model.specs.declared.core_tree.Core.{Core}
 use Rattle.hume_net.specs.declared.state.Part.{Part}
 use Rattle.hume_net.specs.declared.state.State.{State}
@@ -23,7 +22,7 @@ use Rattle.hume_net.specs.StateTyping.{IsTypedState}
 use Rattle.hume_net.proofs.FoundWires.{to_each, to_leads}
 use Rattle.hume_text.specs.Printed.{AreWordsOf}
 use Rattle.hume_streams.specs.declared.log.OutLog.{OutLog}
-use Rattle.hume_streams.specs.Logs.{LogView, log_view}
+use Rattle.hume_streams.specs.Logs.{log_view}
 use Rattle.wire_cells.specs.Cells.{CellView}
 use Rattle.box_step.specs.declared.nodes.cell.Kind.{Kind}
 use Rattle.box_step.specs.declared.nodes.cell.Kind.TheVariants.{Coded, Queued, Logged}
@@ -80,8 +79,8 @@ right_log before opening n (Logged old) log later same had right values width re
       rest = rest;
     }
 
-module _ (core bare : Core) (sides : Sides) (span : ℕ) (state : State) (nodes : List BoxCell) (home : List (Option CellView)) (count room : ℕ)
-    (whole : IsWhole core bare sides span state nodes home count room) (node : ℕ) (is : IsOutputStream core node) (cell new : BoxCell)
+module _ (core bare : Core) (sides : Sides) (span : ℕ) (state : State) (nodes : List BoxCell) (home : List (Option CellView))
+    (whole : IsWhole core bare sides span state nodes home) (node : ℕ) (is : IsOutputStream core node) (cell new : BoxCell)
     (at : slice_get nodes node ≡ Some cell) (log later : OutLog) (had : log_in cell.kind ≡ Some log)
     (new_is : new ≡ record cell { kind = with_log cell.kind later }) where
   new_kind : new.kind ≡ with_log cell.kind later
@@ -101,7 +100,7 @@ module _ (core bare : Core) (sides : Sides) (span : ℕ) (state : State) (nodes 
   -- what the log holds
   pub log_holds : (log_view log).values ≡ map (flat core.types (type_at core node)) (part_of state node).taken
   log_holds =
-      let its = log_there core bare sides span state nodes home count room whole node is in
+      let its = log_there core bare sides span state nodes home whole node is in
       let cells : its.0 ≡ cell = (let both : Some its.0 ≡ Some cell = sym its.1 ∙ at in cc) in
       let logs : its.2 ≡ log = (let both : Some its.2 ≡ Some log = sym its.3 ∙ ap (λ (c : BoxCell). log_in c.kind) cells ∙ had in cc) in
       sym (ap (λ l. (log_view l).values) logs) ∙ its.4
@@ -121,7 +120,7 @@ module _ (core bare : Core) (sides : Sides) (span : ℕ) (state : State) (nodes 
 
     wide : (log_view log).span ≡ span
     wide =
-        let its = log_there core bare sides span state nodes home count room whole node is in
+        let its = log_there core bare sides span state nodes home whole node is in
         let cells : its.0 ≡ cell = (let both : Some its.0 ≡ Some cell = sym its.1 ∙ at in cc) in
         let logs : its.2 ≡ log = (let both : Some its.2 ≡ Some log = sym its.3 ∙ ap (λ (c : BoxCell). log_in c.kind) cells ∙ had in cc) in
         sym (ap (λ l. (log_view l).span) logs) ∙ its.6
@@ -132,15 +131,15 @@ module _ (core bare : Core) (sides : Sides) (span : ℕ) (state : State) (nodes 
         ∙ ap (λ (p : Part). map (flat core.types (taken_type core node)) p.taken) (sym (part_at_first core next node)) in
         subst (IsRightNode seen node 0) (sym new_kind)
         (right_log (opening_at core state nodes) seen node cell.kind log later refl had
-        (right_cell core bare sides span state nodes home count room whole node cell at) all width
+        (right_cell core bare sides span state nodes home whole node cell at) all width
         (sym ((seen_at (slice_set nodes node new) node new here).3 ∙ ap log_without log_is)))
 
     no_input : IsInputStream core node → ⊥
     no_input input = (let its = node_of_output core node is in subst IsInput its.1 input)
 
-    pub log_whole : IsWhole core bare sides span next (slice_set nodes node new) home count room
+    pub log_whole : IsWhole core bare sides span next (slice_set nodes node new) home
     log_whole =
-        one_whole core bare sides span state nodes home count room whole node cell new at (ap (λ (c : BoxCell). c.number) new_is)
+        one_whole core bare sides span state nodes home whole node cell new at (ap (λ (c : BoxCell). c.number) new_is)
         (ap (λ (c : BoxCell). c.time) new_is) next wires parts right typed fits (λ input. absurd (no_input input))
         (λ stream there. ap (λ o. (log_without o).span) log_is ∙ span_is ∙ wide)
 

@@ -10,7 +10,6 @@ use Rattle.hume_model.specs.declared.core_tree.NodeC.{NodeC}
 use Rattle.hume_model.specs.declared.core_tree.NodeC.TheVariants.{Rules, From, To}
 use Rattle.hume_model.specs.declared.core_tree.WireC.{WireC}
 use Rattle.hume_model.specs.declared.core_tree.Core.{Core}
-use Rattle.hume_net.specs.declared.state.Part.{Part}
 use Rattle.hume_net.specs.Sides.{part_of}
 use Rattle.hume_net.specs.Start.{start, no_values, written_order}
 use Rattle.hume_net.proofs.Gathered.{numbered_get}
@@ -24,7 +23,6 @@ use Rattle.box_compile.proofs.BoxNumbers.{program_at, after_box, after_input, af
 use Rattle.wire_cells.specs.Cells.{CellView, first_cell}
 use Rattle.box_step.specs.declared.nodes.cell.BoxCell.{BoxCell}
 use Rattle.box_step.specs.nodes.Beginnings.{BeginsAt, HasItsProgram, first_part_of}
-use Rattle.box_step.specs.nodes.Openings.{IsOpeningOf}
 use Rattle.box_step.proofs.AcceptedBoxes.{takes_little}
 use Rattle.phase_workers.specs.inner.Making.{AreFirstNodes, AreFirstWires, IsFirstNode, IsNextProgram, first_opening}
 

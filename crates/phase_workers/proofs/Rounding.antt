@@ -67,8 +67,8 @@ node_of_output core n is = by (slice_get core.nodes n) refl is
     by (Some (From stream)) e i = absurd i
     by (Some (To stream)) e i = (stream, e)
 
-module _ (core bare : Core) (sides : Sides) (span : ℕ) (state : State) (nodes : List BoxCell) (home : List (Option CellView)) (count room : ℕ)
-    (whole : IsWhole core bare sides span state nodes home count room) where
+module _ (core bare : Core) (sides : Sides) (span : ℕ) (state : State) (nodes : List BoxCell) (home : List (Option CellView))
+    (whole : IsWhole core bare sides span state nodes home) where
   abbrev opening : Opening
   opening = opening_at core state nodes
 
@@ -326,7 +326,7 @@ module _ (core bare : Core) (sides : Sides) (span : ℕ) (state : State) (nodes 
     next_queue : (n : ℕ) → IsInputStream core n → IsQueueFor core span n (slice_index_or (queues_of cells) n (first_view 0 0))
     next_queue n is = subst (IsQueueFor core span n) (sym (queue_same n)) (whole.queues n is)
 
-    pub next_whole : IsWhole core bare sides span next cells wires count room
+    pub next_whole : IsWhole core bare sides span next cells wires
     next_whole = record {
       runnable = whole.runnable;
       opens = record {
@@ -341,17 +341,14 @@ module _ (core bare : Core) (sides : Sides) (span : ℕ) (state : State) (nodes 
       wires = length-map laid begun_wire ∙ laid_long ∙ bare_wires;
       begun = λ n cell at. (let was = was_there begun_cell later n cell at in sym (ap (λ (c : BoxCell). c.time) was.2));
       sides_are = whole.sides_are;
-      clear = whole.clear;
       queues = next_queue;
       logs = λ n stream at. ap (λ (l : LogView). l.span) (log_same n (slice_get_within core.nodes n (To stream) at)) ∙ whole.logs n stream at;
       fits = lockstep_state core state whole.fits steps;
     }
 
-    pub whole_after : (s : State) (ns : List BoxCell) (hs : List (Option CellView)) (k r : ℕ) → s ≡ next → ns ≡ cells → hs ≡ wires → k ≡ count → r ≡ room
-        → IsWhole core bare sides span s ns hs k r
-    whole_after s ns hs k r same_state same_nodes same_home same_count same_room =
-        subst (λ x. IsWhole core bare sides span x ns hs k r) (sym same_state)
-        (subst (λ x. IsWhole core bare sides span next x hs k r) (sym same_nodes)
-        (subst (λ x. IsWhole core bare sides span next cells x k r) (sym same_home)
-        (subst (λ x. IsWhole core bare sides span next cells wires x r) (sym same_count)
-        (subst (λ x. IsWhole core bare sides span next cells wires count x) (sym same_room) next_whole))))
+    pub whole_after : (s : State) (ns : List BoxCell) (hs : List (Option CellView)) → s ≡ next → ns ≡ cells → hs ≡ wires
+        → IsWhole core bare sides span s ns hs
+    whole_after s ns hs same_state same_nodes same_home =
+        subst (λ x. IsWhole core bare sides span x ns hs) (sym same_state)
+        (subst (λ x. IsWhole core bare sides span next x hs) (sym same_nodes)
+        (subst (λ x. IsWhole core bare sides span next cells x) (sym same_home) next_whole))

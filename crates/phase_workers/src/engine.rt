@@ -33,7 +33,6 @@ use crate::streams::{clear_cell, drain_cell, fill_cell, rebind_cell};
 use box_code::BoxProgram;
 use box_step::nodes::BoxCell;
 use hume_base::List;
-use hume_base::limits::{MAX_INPUTS, MAX_OUTPUTS};
 use hume_model::Core;
 use hume_ports::{Failed, Port};
 use hume_streams::{FillError, OutLog};
@@ -47,8 +46,7 @@ use turn_workers::Gate;
 use wire_cells::WireCell;
 use wiring_check::Wiring;
 
-/// The cells of a core's net, each at time 0, with the sides of its nodes, and a bench for the cells of one side. All memory that a
-/// run needs is taken when it is made.
+/// The cells of a core's net, each at time 0, with the sides of its nodes. All memory that a run needs is taken when it is made.
 #[derive(Drop)]
 pub struct Engine {
     pub(crate) core: Core,
@@ -57,13 +55,11 @@ pub struct Engine {
     pub(crate) nodes: Vec<BoxCell>,
     // at the number of each wire its cell
     pub(crate) home: Vec<Option<WireCell>>,
-    pub(crate) bench: Vec<WireCell>,
     pub(crate) span: u32,
     pub(crate) seen: Seen,
 }
 
 impl Model for Engine {
-    ghost use Rattle.std.specs.Prelude.{vec_len, vec_capacity};
     ghost use Rattle.std.specs.Coded.{codes};
     ghost use Rattle.hume_model.specs.contracts.core_tree.Core as core_type;
     ghost use Rattle.hume_net.specs.contracts.state.State as state_type;
@@ -77,7 +73,7 @@ impl Model for Engine {
 
     ghost view = { λ a. engine_view a.core a.span a.seen.state a.nodes.items };
 
-    ghost invariant = { λ a. IsWhole a.core a.bare a.sides a.span a.seen.state a.nodes.items a.home.items (vec_len a.bench) (vec_capacity a.bench) };
+    ghost invariant = { λ a. IsWhole a.core a.bare a.sides a.span a.seen.state a.nodes.items a.home.items };
 }
 
 impl Engine {
@@ -111,7 +107,6 @@ impl Engine {
         let sides = Sides::make(alloc, &core, wiring)?;
         let nodes = make_nodes(alloc, &core, &bare, programs, span)?;
         let home = make_home(alloc, &core)?;
-        let bench = Vec::with_capacity(alloc, MAX_INPUTS + MAX_OUTPUTS)?;
         let seen = Seen::new().then(&Deed::Opened(&core));
         Ok(Engine {
             core,
@@ -119,7 +114,6 @@ impl Engine {
             sides,
             nodes,
             home,
-            bench,
             span,
             seen,
         })
@@ -196,7 +190,6 @@ impl Engine {
             gate,
             &mut self.nodes,
             &mut self.home,
-            &mut self.bench,
         );
         begin_nodes(&mut self.nodes);
         begin_wires(&mut self.home);

@@ -25,14 +25,12 @@ pub struct Halfway {
     nodes: Vec<BoxCell>,
     // at the number of each wire its cell
     home: Vec<Option<WireCell>>,
-    bench: Vec<WireCell>,
     span: u32,
     // the state before the execute steps
     seen: Seen,
 }
 
 impl Model for Halfway {
-    ghost use Rattle.std.specs.Prelude.{vec_len, vec_capacity};
     ghost use Rattle.phase_workers.specs.Engines.{EngineView};
     ghost use Rattle.phase_workers.specs.contracts.engine.Engine as engine_type;
 
@@ -44,7 +42,7 @@ impl Model for Halfway {
 
     ghost view = { λ a. midst_view a.core a.span a.seen.state a.nodes.items };
 
-    ghost invariant = { λ a. IsMidst a.core a.bare a.sides a.span a.seen.state a.nodes.items a.home.items (vec_len a.bench) (vec_capacity a.bench) };
+    ghost invariant = { λ a. IsMidst a.core a.bare a.sides a.span a.seen.state a.nodes.items a.home.items };
 }
 
 impl Engine {
@@ -66,18 +64,16 @@ impl Engine {
             sides,
             mut nodes,
             mut home,
-            mut bench,
             span,
             seen,
         } = self;
-        sweep_all(&bare, &sides, 0, &mut nodes, &mut home, &mut bench);
+        sweep_all(&bare, &sides, 0, &mut nodes, &mut home);
         Halfway {
             core,
             bare,
             sides,
             nodes,
             home,
-            bench,
             span,
             seen,
         }
@@ -106,11 +102,10 @@ impl Halfway {
             sides,
             mut nodes,
             mut home,
-            mut bench,
             span,
             seen,
         } = self;
-        sweep_all(&bare, &sides, 1, &mut nodes, &mut home, &mut bench);
+        sweep_all(&bare, &sides, 1, &mut nodes, &mut home);
         begin_nodes(&mut nodes);
         begin_wires(&mut home);
         let seen = seen.then(&Deed::Stepped(&core, 1));
@@ -120,7 +115,6 @@ impl Halfway {
             sides,
             nodes,
             home,
-            bench,
             span,
             seen,
         }

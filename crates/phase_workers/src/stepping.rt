@@ -1,11 +1,13 @@
 //! All half steps of a round: those that workers made, and those that are left. And those of one time.
-ghost use Rattle.std.specs.Prelude.{◌≡◌, ◌+◌, ◌*◌, ◌%◌, ◌<◌, ◌≤◌, ◌^◌, ℕ, length, vec_len, vec_capacity};
+ghost use Rattle.std.specs.Prelude.{◌≡◌, ◌+◌, ◌*◌, ◌%◌, ◌<◌, ◌≤◌, ◌^◌, ℕ, length};
+ghost use Rattle.hume_base.specs.declared.limits.TheConstants.{MAX_INPUTS, MAX_OUTPUTS};
 ghost use Rattle.hume_net.specs.Plan.{IsPlan, plan_of};
 ghost use Rattle.box_step.specs.nodes.Openings.{Opening, IsOpeningOf};
 ghost use Rattle.step_turns.specs.Rounds.{AllRight, AreFrom, AreInPlace, AreSides, AreUntil, HasSpan, HaveSpan};
 ghost use Rattle.turn_locker.specs.Held.{items_of};
 
 use box_step::nodes::BoxCell;
+use hume_base::limits::{MAX_INPUTS, MAX_OUTPUTS};
 use hume_model::Core;
 use std::thread::Threads;
 use step_turns::Sides;
@@ -23,31 +25,28 @@ pub(crate) fn step_all<R: Threads + Sync, G: Gate>(
     gate: &G,
     nodes: &mut Vec<BoxCell>,
     home: &mut Vec<Option<WireCell>>,
-    bench: &mut Vec<WireCell>,
 )
     requires plan { IsPlan (plan_of core.now) × (items_of (plan_of core.now) < 2 ^ 32) }
     requires workers { workers ≤ 2 ^ 16 }
     requires place { AreInPlace core.now nodes.old.items home.old.items }
     requires wires { length home.old.items ≡ length core.now.wires }
     requires begun { AreUntil 0 nodes.old.items }
-    requires sides { AreSides core.now (vec_capacity bench.old) sides.now }
-    requires bench { vec_len bench.old ≡ 0 }
+    requires sides { AreSides core.now (MAX_INPUTS + MAX_OUTPUTS) sides.now }
     requires right { (opening : Opening) × IsOpeningOf core.now opening × AllRight opening nodes.old.items home.old.items × HaveSpan opening steps }
     ensures place { AreInPlace core.now nodes.new.items home.new.items }
     ensures wires { length home.new.items ≡ length core.now.wires }
     ensures until { AreUntil (2 * steps) nodes.new.items }
     ensures from { AreFrom (2 * steps) nodes.new.items }
-    ensures bench { (vec_len bench.new ≡ 0) × (vec_capacity bench.new ≡ vec_capacity bench.old) }
     ensures right { (opening : Opening) → IsOpeningOf core.now opening → AllRight opening nodes.old.items home.old.items
         → AllRight opening nodes.new.items home.new.items }
 {
-    let alloc = *bench.allocator();
-    let room = bench.capacity();
+    let alloc = *nodes.allocator();
+    let room = MAX_INPUTS + MAX_OUTPUTS;
     // out of memory, it has changed nothing
     let _refused = share_round(
         rt, alloc, core, sides, room, steps, workers, gate, nodes, home,
     );
-    step_turns::round(core, sides, steps, nodes, home, bench);
+    step_turns::round(core, sides, steps, nodes, home);
 }
 
 /// Makes the half step of each node that is at the time. No node is before it.
@@ -57,23 +56,20 @@ pub(crate) fn sweep_all(
     time: u64,
     nodes: &mut Vec<BoxCell>,
     home: &mut Vec<Option<WireCell>>,
-    bench: &mut Vec<WireCell>,
 )
     requires time { time < 2 ^ 40 }
     requires plan { IsPlan (plan_of core.now) }
     requires place { AreInPlace core.now nodes.old.items home.old.items }
     requires wires { length home.old.items ≡ length core.now.wires }
     requires from { AreFrom time nodes.old.items }
-    requires sides { AreSides core.now (vec_capacity bench.old) sides.now }
-    requires bench { vec_len bench.old ≡ 0 }
+    requires sides { AreSides core.now (MAX_INPUTS + MAX_OUTPUTS) sides.now }
     requires right { (opening : Opening) × IsOpeningOf core.now opening × AllRight opening nodes.old.items home.old.items × (time % 2 ≡ 0 → HasSpan opening time) }
     ensures place { AreInPlace core.now nodes.new.items home.new.items }
     ensures wires { length home.new.items ≡ length core.now.wires }
     ensures from { AreFrom (time + 1) nodes.new.items }
     ensures until { (most : ℕ) → time < most → AreUntil most nodes.old.items → AreUntil most nodes.new.items }
-    ensures bench { (vec_len bench.new ≡ 0) × (vec_capacity bench.new ≡ vec_capacity bench.old) }
     ensures right { (opening : Opening) → IsOpeningOf core.now opening → AllRight opening nodes.old.items home.old.items
         → AllRight opening nodes.new.items home.new.items }
 {
-    step_turns::sweep(core, sides, time, nodes, home, bench);
+    step_turns::sweep(core, sides, time, nodes, home);
 }

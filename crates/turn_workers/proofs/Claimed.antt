@@ -1,5 +1,5 @@
 -- A worker on its way through the side of a node: what its seat holds after each call, and what it may pass and put back.
-use Rattle.std.proofs.Common.{◌≡◌, ◌≢◌, ℕ, suc, ◌+◌, ◌-◌, ◌*◌, ◌<◌, ◌≤◌, List, [], ◌∷◌, ◌++◌, drop, length, sym, ap, ◌∙◌, subst, arith}
+use Rattle.std.proofs.Common.{◌≡◌, ◌≢◌, ℕ, suc, ◌+◌, ◌-◌, ◌*◌, ◌<◌, ◌≤◌, List, [], ◌∷◌, ◌++◌, drop, length, Option, Some, sym, ap, ◌∙◌, subst, arith}
 use Rattle.std.specs.Prelude.{slice_index}
 use Rattle.std.proofs.lemmas.Option.{get_or_from_slice_get}
 use Rattle.hume_model.specs.declared.core_tree.Core.{Core}
@@ -34,21 +34,21 @@ some_left side k place is not_all few = let apart : k ≢ length side = (λ e. n
 module _ (opened : Opening → Type 0) (nodes steps node t : ℕ) (side : List ℕ) where
   -- The first so many wires of the side were claimed, and the rest was tried: the cell of the last one is off the bench again, and the
   -- seat holds what it held then.
-  pub record IsBack (k m time : ℕ) (v : View) (rest : List CellView) (cell : CellView) : Type 0 where
+  pub record IsBack (k m time : ℕ) (v : View) (rest : List (Option CellView)) (cell : CellView) : Type 0 where
     pub near : k < length side
     pub longer : m ≡ k + 1
     pub held : v.held ≡ stack nodes node t side m
     pub top : IsTop opened side steps time k cell rest
 
-  pub came_back : (k m place wire now time : ℕ) (v claimed new : View) (cells rest : List CellView) (cell : CellView)
+  pub came_back : (k m place wire now time : ℕ) (v claimed new : View) (bench rest : List (Option CellView)) (cell : CellView)
       → place ≡ k → (place ≡ length side → ⊥) → k ≤ length side
       → v.held ≡ stack nodes node t side k → m ≡ k + 1 → wire ≡ slice_index side k → now ≡ t → claimed ≡ claims (nodes + wire) now v → new.held ≡ claimed.held
-      → AreHeld opened side time cells → cells ≡ rest ++ cell ∷ [] → length rest ≡ k → time ≤ 2 * steps → IsBack k m time new rest cell
-  came_back k m place wire now time v claimed new cells rest cell at not_all few held longer is same view kept bench popped long until = record {
+      → AreHeld opened side time bench → bench ≡ rest ++ Some cell ∷ [] → length rest ≡ k → time ≤ 2 * steps → IsBack k m time new rest cell
+  came_back k m place wire now time v claimed new bench rest cell at not_all few held longer is same view kept on popped long until = record {
     near = some_left side k place at not_all few;
     longer = longer;
     held = kept ∙ more_held nodes node t side k m wire now v claimed held longer is same view;
-    top = top_of opened side steps time k cells rest cell bench popped long until;
+    top = top_of opened side steps time k bench rest cell on popped long until;
   }
 
 module _ (opened : Opening → Type 0) (nodes steps : ℕ) (core : Core) (locker : LockerView) (shared : IsShared opened nodes steps core locker)
@@ -66,7 +66,7 @@ module _ (opened : Opening → Type 0) (nodes steps : ℕ) (core : Core) (locker
   of_plan k near = (is_side.of_side k near).0
 
   -- the wire on top
-  module _ (k m time : ℕ) (v : View) (rest : List CellView) (cell : CellView) (back : IsBack opened nodes steps node t side k m time v rest cell) where
+  module _ (k m time : ℕ) (v : View) (rest : List (Option CellView)) (cell : CellView) (back : IsBack opened nodes steps node t side k m time v rest cell) where
     at : cell.number ≡ slice_index side k
     at = sym (get_or_from_slice_get side k cell.number 0 back.top.number)
 

@@ -14,7 +14,7 @@ use Rattle.box_step.specs.declared.nodes.cell.BoxCell.{BoxCell}
 use Rattle.box_step.specs.nodes.Openings.{Opening, IsOpeningOf}
 use Rattle.box_step.specs.nodes.Right.{IsRightWire}
 use Rattle.step_turns.specs.Rounds.{AllRight, AreInPlace, AreUntil, node_time, time_there}
-use Rattle.step_turns.proofs.Lifting.{take_get}
+use Rattle.step_turns.proofs.Lists.{take_get}
 use Rattle.turn_locker.specs.Closing.{AreHome}
 use Rattle.turn_locker.specs.Held.{items_of}
 use Rattle.turn_workers.specs.declared.cells.NetCell.{NetCell}

@@ -1,3 +1,5 @@
+pub mod OnBench
+pub mod FewCells
 pub mod Stacks
 pub mod Claimed
 pub mod Turning

@@ -8,7 +8,7 @@ use Rattle.hume_net.specs.declared.plan.Plan.{Plan}
 use Rattle.wire_cells.specs.Cells.{CellView}
 use Rattle.box_step.specs.declared.nodes.cell.BoxCell.{BoxCell}
 use Rattle.box_step.specs.nodes.Openings.{Opening}
-use Rattle.step_turns.proofs.Lifting.{last_get, take_get}
+use Rattle.step_turns.proofs.Lists.{last_get, take_get}
 use Rattle.turn_locker.specs.declared.view.View.{View}
 use Rattle.turn_locker.specs.Held.{held_at, without}
 use Rattle.turn_locker.specs.Views.{held_at_first, newcomer, puts_back}

@@ -1,16 +1,17 @@
 -- Cells on the bench of a worker: one more, one less, and all of them one half step later.
-use Rattle.std.proofs.Common.{◌≡◌, ◌+◌, ◌*◌, ◌<◌, ◌≤◌, ℕ, List, [], ◌∷◌, ◌++◌, length, length-append, Option, Some, slice_get, ap, sym, subst, ◌∙◌, inl, inr, arith}
+use Rattle.std.proofs.Common.{◌≡◌, ◌+◌, ◌*◌, ◌<◌, ◌≤◌, ℕ, List, [], ◌∷◌, ◌++◌, length, length-append, Option, Some, slice_get, refl, ap, sym, subst, ◌∙◌, inl, inr, arith}
 use Rattle.std.proofs.lemmas.Bool.{cases_eq}
 use Rattle.std.proofs.lemmas.Option.{slice_get_within}
 use Rattle.model_bare.proofs.Frames.{was_there, there}
 use Rattle.wire_cells.specs.Cells.{CellView, without_values}
 use Rattle.box_step.specs.nodes.Openings.{Opening}
-use Rattle.box_step.specs.nodes.Right.{AreRightWires, IsRightWire}
+use Rattle.box_step.specs.nodes.Right.{AreRightWires}
 use Rattle.box_step.specs.nodes.Sides.{AreOfSide, AreTicked, ticked}
 use Rattle.step_turns.specs.Homes.{AreNumbers}
-use Rattle.step_turns.proofs.Lifting.{last_get, front_get}
 use Rattle.turn_workers.specs.Items.{IsWireRight}
-use Rattle.turn_workers.specs.inner.Benches.{AreHeld}
+use Rattle.turn_workers.specs.inner.Benches.{cells_on, AreHeld, IsFull, IsHeld}
+use Rattle.step_turns.proofs.Lists.{last_get, front_get}
+use Rattle.turn_workers.proofs.OnBench.{cell_of, full_by, full_long, place_of}
 
 module _ {X : Type 0} (xs : List X) (x : X) where
   -- what holds at each place of a list holds at each of a longer one if it does at the new place
@@ -37,70 +38,83 @@ module _ {X : Type 0} (xs : List X) (x : X) where
   )
 
 module _ (opened : Opening → Type 0) (side : List ℕ) where
-  pub side_held : (time count : ℕ) (found : ℕ → Option ℕ) (cells : List CellView) → AreHeld opened side time cells → length cells ≡ length side
-      → AreNumbers count found side → AreOfSide count found time cells
-  side_held time count found cells held whole numbers = record {
-    long = whole ∙ numbers.long;
-    each = λ k cell at. numbers.each k cell.number (held.numbers k cell at);
-    times = held.times;
+  pub held_full : (time : ℕ) (bench : List (Option CellView)) → AreHeld opened side time bench → IsFull bench
+  held_full time bench held = full_by bench (λ k place at. let it = held.each k place at in (it.0, it.1))
+
+  held_cell : (time : ℕ) (bench : List (Option CellView)) → AreHeld opened side time bench → (k : ℕ) (cell : CellView) → slice_get (cells_on bench) k ≡ Some cell
+      → IsHeld opened side time k cell
+  held_cell time bench held k cell at =
+      let it = held.each k (Some cell) (place_of bench (held_full time bench held) k cell at) in
+      let is = it.1 in
+      let same : it.0 ≡ cell = cc in
+      subst (IsHeld opened side time k) same it.2
+
+  pub side_held : (time count : ℕ) (found : ℕ → Option ℕ) (bench : List (Option CellView)) → AreHeld opened side time bench → length bench ≡ length side
+      → AreNumbers count found side → AreOfSide count found time (cells_on bench)
+  side_held time count found bench held whole numbers = record {
+    long = full_long bench (held_full time bench held) ∙ whole ∙ numbers.long;
+    each = λ k cell at. numbers.each k cell.number (held_cell time bench held k cell at).number;
+    times = λ k cell at. (held_cell time bench held k cell at).at;
   }
 
-  pub wires_held : (time : ℕ) (cells : List CellView) → AreHeld opened side time cells → (opening : Opening) → opened opening → AreRightWires opening cells
-  wires_held time cells held opening is = record { each = held.right opening is }
+  pub wires_held : (time : ℕ) (bench : List (Option CellView)) → AreHeld opened side time bench → (opening : Opening) → opened opening
+      → AreRightWires opening (cells_on bench)
+  wires_held time bench held opening is = record { each = λ k cell at. (held_cell time bench held k cell at).right opening is }
 
-  pub held_later : (time : ℕ) (old new : List CellView) → AreHeld opened side time old → AreTicked old new
-      → ((opening : Opening) → opened opening → AreRightWires opening new) → AreHeld opened side (time + 1) new
-  held_later time old new held rest right = record {
-    numbers = λ k cell at. let b = before k cell at in held.numbers k b.0 b.1 ∙ ap (λ (c : CellView). Some c.number) b.2;
-    times = λ k cell at. let b = before k cell at in sym (ap (λ (c : CellView). c.time) b.2) ∙ ap (λ t. t + 1) (held.times k b.0 b.1);
-    right = λ opening is. (right opening is).each;
+  pub held_later : (time : ℕ) (old new : List (Option CellView)) → AreHeld opened side time old → IsFull new → AreTicked (cells_on old) (cells_on new)
+      → ((opening : Opening) → opened opening → AreRightWires opening (cells_on new)) → AreHeld opened side (time + 1) new
+  held_later time old new held full rest right = record {
+    each = λ k place at.
+        let there = cell_of new full k place at in
+        let b = before k there.0 there.1 in
+        let was = held_cell time old held k b.0 b.1 in (
+          there.0,
+          sym there.2,
+          record {
+            number = was.number ∙ ap (λ (c : CellView). Some c.number) b.2;
+            at = sym (ap (λ (c : CellView). c.time) b.2) ∙ ap (λ t. t + 1) was.at;
+            right = λ opening is. (right opening is).each k there.0 there.1;
+          },
+        );
   }
     where
-      before : (k : ℕ) (cell : CellView) → slice_get new k ≡ Some cell
-          → (was : CellView) × (slice_get old k ≡ Some was) × (without_values (ticked was) ≡ without_values cell)
-      before k cell at = was_there (λ c. without_values (ticked c)) old k (without_values cell)
-          (ap (λ cs. slice_get cs k) (sym rest) ∙ there without_values new k cell at)
+      before : (k : ℕ) (cell : CellView) → slice_get (cells_on new) k ≡ Some cell
+          → (was : CellView) × (slice_get (cells_on old) k ≡ Some was) × (without_values (ticked was) ≡ without_values cell)
+      before k cell at = was_there (λ c. without_values (ticked c)) (cells_on old) k (without_values cell)
+          (ap (λ cs. slice_get cs k) (sym rest) ∙ there without_values (cells_on new) k cell at)
 
-  pub held_more : (steps time : ℕ) (cells : List CellView) (cell : CellView) → AreHeld opened side time cells → slice_get side (length cells) ≡ Some cell.number
-      → cell.time ≡ time → IsWireRight opened steps cell → AreHeld opened side time (cells ++ cell ∷ [])
-  held_more steps time cells cell held number at right = record {
-    numbers = at_one_more cells cell (λ k c. slice_get side k ≡ Some c.number) held.numbers number;
-    times = at_one_more cells cell (λ k c. c.time ≡ time) held.times at;
-    right = λ opening is. at_one_more cells cell (λ k c. IsRightWire opening c) (held.right opening is) (right.right opening is);
+  pub held_more : (steps time : ℕ) (bench : List (Option CellView)) (cell : CellView) → AreHeld opened side time bench
+      → slice_get side (length bench) ≡ Some cell.number → cell.time ≡ time → IsWireRight opened steps cell → AreHeld opened side time (bench ++ Some cell ∷ [])
+  held_more steps time bench cell held number at right = record {
+    each = at_one_more bench (Some cell) (λ k place. (c : CellView) × (place ≡ Some c) × IsHeld opened side time k c) held.each
+        (cell, refl, record { number = number; at = at; right = right.right });
   }
 
-  pub held_less : (time : ℕ) (cells : List CellView) (cell : CellView) → AreHeld opened side time (cells ++ cell ∷ []) → AreHeld opened side time cells
-  held_less time cells cell held = record {
-    numbers = (at_one_less cells cell (λ k c. slice_get side k ≡ Some c.number) held.numbers).0;
-    times = (at_one_less cells cell (λ k c. c.time ≡ time) held.times).0;
-    right = λ opening is. (at_one_less cells cell (λ k c. IsRightWire opening c) (held.right opening is)).0;
-  }
-
-  module _ (time : ℕ) (cells : List CellView) (cell : CellView) (held : AreHeld opened side time (cells ++ cell ∷ [])) where
-    pub last_number : slice_get side (length cells) ≡ Some cell.number
-    last_number = held.numbers (length cells) cell (last_get cells cell)
-
-    pub last_time : cell.time ≡ time
-    last_time = held.times (length cells) cell (last_get cells cell)
-
-    pub last_right : (steps : ℕ) → time ≤ 2 * steps → IsWireRight opened steps cell
-    last_right steps until = record {
-      until = (let at = last_time in omega (arith, at, until));
-      right = λ opening is. held.right opening is (length cells) cell (last_get cells cell);
-    }
+  -- the last cell and those before it
+  pub held_less : (time : ℕ) (bench : List (Option CellView)) (place : Option CellView) → AreHeld opened side time (bench ++ place ∷ [])
+      → AreHeld opened side time bench × ((c : CellView) × (place ≡ Some c) × IsHeld opened side time (length bench) c)
+  held_less time bench place held =
+      let both = at_one_less bench place (λ k place. (c : CellView) × (place ≡ Some c) × IsHeld opened side time k c) held.each in
+      (record { each = both.0 }, both.1)
 
   -- the cell on top
-  pub record IsTop (steps time k : ℕ) (cell : CellView) (rest : List CellView) : Type 0 where
+  pub record IsTop (steps time k : ℕ) (cell : CellView) (rest : List (Option CellView)) : Type 0 where
     pub number : slice_get side k ≡ Some cell.number
     pub at : cell.time ≡ time
     pub right : IsWireRight opened steps cell
     pub below : AreHeld opened side time rest
 
-  pub top_of : (steps time k : ℕ) (cells rest : List CellView) (cell : CellView) → AreHeld opened side time cells → cells ≡ rest ++ cell ∷ [] → length rest ≡ k
-      → time ≤ 2 * steps → IsTop steps time k cell rest
-  top_of steps time k cells rest cell held is long until = let all = subst (AreHeld opened side time) is held in record {
-    number = subst (λ n. slice_get side n ≡ Some cell.number) long (last_number time rest cell all);
-    at = last_time time rest cell all;
-    right = last_right time rest cell all steps until;
-    below = held_less time rest cell all;
-  }
+  pub top_of : (steps time k : ℕ) (bench rest : List (Option CellView)) (cell : CellView) → AreHeld opened side time bench → bench ≡ rest ++ Some cell ∷ []
+      → length rest ≡ k → time ≤ 2 * steps → IsTop steps time k cell rest
+  top_of steps time k bench rest cell held is long until =
+      let all = held_less time rest (Some cell) (subst (AreHeld opened side time) is held) in
+      let last = all.1 in
+      let there = last.1 in
+      let same : last.0 ≡ cell = cc in
+      let one = subst (IsHeld opened side time (length rest)) same last.2 in
+      record {
+        number = subst (λ n. slice_get side n ≡ Some cell.number) long one.number;
+        at = one.at;
+        right = record { until = (let at = one.at in omega (arith, at, until)); right = one.right };
+        below = all.0;
+      }

@@ -1,5 +1,6 @@
 //! The half step of one node between cells that one worker has claimed.
-ghost use Rattle.std.specs.Prelude.{◌≡◌, ◌+◌, ◌-◌, ◌*◌, ◌<◌, ◌≤◌, ◌%◌, ◌^◌, [], drop, length, if◌then◌else◌, IfSome, IfNone, vec_len, vec_capacity};
+ghost use Rattle.std.specs.Prelude.{◌≡◌, ◌+◌, ◌-◌, ◌*◌, ◌<◌, ◌≤◌, ◌%◌, ◌^◌, [], ◌∷◌, ◌++◌, drop, length, if◌then◌else◌, IfSome, IfNone, Some, vec_len, vec_capacity};
+ghost use Rattle.wire_cells.specs.Cells.{CellView};
 ghost use Rattle.box_step.specs.nodes.Openings.{Opening, IsOpeningOf};
 ghost use Rattle.box_step.specs.nodes.Right.{AreRight, HasRoom};
 ghost use Rattle.box_step.specs.nodes.Sides.{AreInputs, AreOutputs, AreTicked};
@@ -11,7 +12,7 @@ ghost use Rattle.turn_locker.specs.Seats.{IsSeatOf, view_of};
 ghost use Rattle.turn_locker.specs.Views.{claims, passes, puts_back};
 ghost use Rattle.turn_workers.specs.Items.{IsNodeRight, IsWireRight};
 ghost use Rattle.turn_workers.specs.inner.Rounds.{IsIdle, IsShared};
-ghost use Rattle.turn_workers.specs.inner.Benches.{AreHeld};
+ghost use Rattle.turn_workers.specs.inner.Benches.{AreHeld, ArePlaces, IsFull, cells_on};
 ghost use Rattle.turn_workers.specs.inner.Stacks.{AreAlike, pairs_of, stack};
 
 use crate::gate::Gate;
@@ -21,6 +22,9 @@ use hume_model::Core;
 use turn_locker::{Locker, Seat};
 use wire_cells::WireCell;
 
+// The numbers of all places that a bench may have: no node has more inputs, or more outputs.
+const PLACES: [u32; 16] = [0, 1, 2, 3, 4, 5, 6, 7, 8, 9, 10, 11, 12, 13, 14, 15];
+
 /// Makes the half step of a node at a time, if the node and the wires of its side are at home at that time. The bench is empty before
 /// and afterwards.
 pub(crate) fn try_turn<O: Opens, G: Gate>(
@@ -28,7 +32,7 @@ pub(crate) fn try_turn<O: Opens, G: Gate>(
     gate: &G,
     locker: &Locker<Item<O>>,
     seat: &mut Seat<Item<O>>,
-    bench: &mut Vec<WireCell>,
+    bench: &mut Vec<Option<WireCell>>,
     nodes: u32,
     node: u32,
     side: &[u32],
@@ -64,7 +68,7 @@ fn turn_wires<O: Opens, G: Gate>(
     gate: &G,
     locker: &Locker<Item<O>>,
     seat: &mut Seat<Item<O>>,
-    bench: &mut Vec<WireCell>,
+    bench: &mut Vec<Option<WireCell>>,
     nodes: u32,
     node: &mut BoxCell,
     side: &[u32],
@@ -95,11 +99,9 @@ fn turn_wires<O: Opens, G: Gate>(
     let Some(cell) = claim_wire(locker, seat, nodes, side[place], node.time()) else {
         return false;
     };
-    bench.push_reserved(cell);
+    bench.push_reserved(Some(cell));
     let made = turn_wires(core, gate, locker, seat, bench, nodes, node, side);
-    let Some(cell) = bench.pop() else {
-        unreachable!()
-    };
+    let cell = take_top(bench);
     if made {
         pass_wire(locker, seat, nodes, cell);
     } else {
@@ -108,12 +110,36 @@ fn turn_wires<O: Opens, G: Gate>(
     made
 }
 
+// The cell on top of a bench on which there is a cell in each place.
+fn take_top(bench: &mut Vec<Option<WireCell>>) -> WireCell
+    requires full { IsFull bench.old.items }
+    requires some { 0 < vec_len bench.old }
+    ensures top { bench.old.items ≡ bench.new.items ++ Some result ∷ [] }
+    ensures long { vec_len bench.old ≡ vec_len bench.new + 1 }
+    ensures capacity { vec_capacity bench.new ≡ vec_capacity bench.old }
+{
+    match bench.pop() {
+        Some(top) => into_cell(top),
+        None => unreachable!(),
+    }
+}
+
+fn into_cell(place: Option<WireCell>) -> WireCell
+    requires { (cell : CellView) × (place ≡ Some cell) }
+    ensures { place ≡ Some result }
+{
+    match place {
+        Some(cell) => cell,
+        None => unreachable!(),
+    }
+}
+
 // Makes the half step of a node whose whole side is on the bench.
 fn step_held<O: Opens, G: Gate>(
     core: &Core,
     gate: &G,
     node: &mut BoxCell,
-    bench: &mut Vec<WireCell>,
+    bench: &mut Vec<Option<WireCell>>,
     side: &[u32],
 )
     requires opens { (opening : Opening) → O.opened opening → IsOpeningOf core.now opening }
@@ -128,29 +154,42 @@ fn step_held<O: Opens, G: Gate>(
     ensures time { node.new.time ≡ node.old.time + 1 }
 {
     let _side = side;
-    half_step(core, gate, node, bench);
+    half_step(core, gate, node, bench.as_mut_slice());
 }
 
-// Makes the execute step of a node at an even time, behind the gate, and its super step at an odd one.
-fn half_step<G: Gate>(core: &Core, gate: &G, node: &mut BoxCell, bench: &mut Vec<WireCell>)
+// Makes the execute step of a node at an even time, behind the gate, and its super step at an odd one. The cells on the bench are at
+// home there by the numbers of their places.
+fn half_step<G: Gate>(core: &Core, gate: &G, node: &mut BoxCell, bench: &mut [Option<WireCell>])
     requires time { node.old.time < 2 ^ 40 }
     requires room { node.old.time % 2 ≡ 0 → HasRoom node.old.kind }
-    requires even { node.old.time % 2 ≡ 0 → AreInputs core.now node.old.number node.old.time bench.old.items }
-    requires odd { node.old.time % 2 ≡ 1 → AreOutputs core.now node.old.number node.old.time bench.old.items }
-    requires right { (opening : Opening) × IsOpeningOf core.now opening × AreRight opening node.old bench.old.items }
+    requires full { IsFull bench.old }
+    requires even { node.old.time % 2 ≡ 0 → AreInputs core.now node.old.number node.old.time (cells_on bench.old) }
+    requires odd { node.old.time % 2 ≡ 1 → AreOutputs core.now node.old.number node.old.time (cells_on bench.old) }
+    requires right { (opening : Opening) × IsOpeningOf core.now opening × AreRight opening node.old (cells_on bench.old) }
     ensures number { node.new.number ≡ node.old.number }
     ensures time { node.new.time ≡ node.old.time + 1 }
-    ensures rest { AreTicked bench.old.items bench.new.items }
-    ensures long { vec_len bench.new ≡ vec_len bench.old }
-    ensures capacity { vec_capacity bench.new ≡ vec_capacity bench.old }
-    ensures right { (opening : Opening) → IsOpeningOf core.now opening → AreRight opening node.old bench.old.items → AreRight opening node.new bench.new.items }
+    ensures full { IsFull bench.new }
+    ensures rest { AreTicked (cells_on bench.old) (cells_on bench.new) }
+    ensures long { length bench.new ≡ length bench.old }
+    ensures right { (opening : Opening) → IsOpeningOf core.now opening → AreRight opening node.old (cells_on bench.old)
+        → AreRight opening node.new (cells_on bench.new) }
 {
+    let side = places(bench.len());
     if node.time() % 2 == 0 {
         gate.pass(node.number());
-        node.execute(core, bench.as_mut_slice());
+        node.execute(core, side, bench);
     } else {
-        node.super_step(core, bench.as_mut_slice());
+        node.super_step(core, side, bench);
     }
+}
+
+// The numbers of so many places, from 0 on.
+fn places(count: usize) -> &'static [u32]
+    requires { count ≤ 16 }
+    ensures long { length result.now ≡ count }
+    ensures places { ArePlaces result.now }
+{
+    &PLACES[..count]
 }
 
 fn claim_node<O: Opens>(

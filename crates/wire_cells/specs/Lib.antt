@@ -1,2 +1,4 @@
 pub mod Cells
+pub mod Homes
+pub mod Lending
 pub mod inner

@@ -1,9 +1,9 @@
 -- Loops over the cells of a side.
-use Rattle.std.proofs.Common.{◌≡◌, ◌≤◌, ◌<◌, ◌+◌, ◌^◌, ◌&&◌, ℕ, zero, suc, true, List, [], ◌∷◌, ◌++◌, map, length, take, drop, get_or, Option, Some, slice_get, refl, ap, sym, ◌∙◌, subst, append_assoc, append-nil, arith}
+use Rattle.std.proofs.Common.{◌≡◌, ◌≤◌, ◌<◌, ◌+◌, ◌^◌, ◌&&◌, ℕ, zero, suc, true, false, List, [], ◌∷◌, ◌++◌, map, length, take, drop, get_or, Option, Some, slice_get, refl, ap, sym, ◌∙◌, subst, append_assoc, append-nil, arith}
 use Rattle.std.proofs.Math.ListN.{set}
 use Rattle.std.proofs.Math.Seq.{drop-cons}
 use Rattle.std.proofs.lemmas.Bool.{and_parts}
-use Rattle.std.proofs.lemmas.Option.{slice_get-get_or}
+use Rattle.std.proofs.lemmas.Option.{slice_get-get_or, slice_get_within, get_or_from_slice_get}
 use Rattle.std.proofs.lemmas.List.{take_more_set, drop-set-lt, take_all, drop_all}
 use Rattle.wire_cells.specs.Cells.{CellView}
 use Rattle.match_rules.specs.Outputs.{has_room_for, have_room_for, cell_with, cells_with, FitCells}
@@ -81,9 +81,30 @@ pub all_put : (outputs : ℕ → Option (List ℕ)) (i : ℕ) (old now : List Ce
 all_put outputs i old now past are = sym (all_done (λ k cells. map ticked (cells_with outputs k cells)) now i refl past) ∙ are.done
 
 -- room for outputs
-pub room_next : (outputs : ℕ → Option (List ℕ)) (cells : List CellView) (i : ℕ) (d : CellView) → i < length cells
-    → have_room_for outputs i (drop i cells) ≡ (has_room_for (outputs i) (get_or cells i d) && have_room_for outputs (suc i) (drop (suc i) cells))
-room_next outputs cells i d less = ap (have_room_for outputs i) (drop-cons cells i d less)
+
+room_next : (outputs : ℕ → Option (List ℕ)) (cells : List CellView) (i : ℕ) (cell : CellView) → slice_get cells i ≡ Some cell
+    → have_room_for outputs i (drop i cells) ≡ (has_room_for (outputs i) cell && have_room_for outputs (i + 1) (drop (i + 1) cells))
+room_next outputs cells i cell there =
+    let next : suc i ≡ i + 1 = omega arith in
+    ap (have_room_for outputs i) (drop-cons cells i cell (slice_get_within cells i cell there))
+    ∙ ap (λ x. has_room_for (outputs i) x && have_room_for outputs (suc i) (drop (suc i) cells)) (get_or_from_slice_get cells i cell cell there)
+    ∙ ap (λ k. has_room_for (outputs i) cell && have_room_for outputs k (drop k cells)) next
+
+-- a cell has none
+pub no_room_here : (outputs : ℕ → Option (List ℕ)) (cells : List CellView) (i : ℕ) (cell : CellView) → slice_get cells i ≡ Some cell
+    → has_room_for (outputs i) cell ≡ false → have_room_for outputs i (drop i cells) ≡ false
+no_room_here outputs cells i cell there none =
+    room_next outputs cells i cell there ∙ ap (λ r. r && have_room_for outputs (i + 1) (drop (i + 1) cells)) none
+
+-- a cell has some
+pub room_goes_on : (outputs : ℕ → Option (List ℕ)) (cells : List CellView) (i : ℕ) (cell : CellView) → slice_get cells i ≡ Some cell
+    → has_room_for (outputs i) cell ≡ true → have_room_for outputs i (drop i cells) ≡ have_room_for outputs (i + 1) (drop (i + 1) cells)
+room_goes_on outputs cells i cell there some =
+    room_next outputs cells i cell there ∙ ap (λ r. r && have_room_for outputs (i + 1) (drop (i + 1) cells)) some
+
+-- there are no more cells
+pub no_more_room : (outputs : ℕ → Option (List ℕ)) (cells : List CellView) (i : ℕ) → length cells ≤ i → have_room_for outputs i (drop i cells) ≡ true
+no_more_room outputs cells i past = ap (have_room_for outputs i) (drop_all i cells past)
 
 -- cells that go on: those before a place have, and those from it on are early
 pub record AreTicking (i : ℕ) (old now : List CellView) : Type 0 where

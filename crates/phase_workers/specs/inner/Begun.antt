@@ -1,5 +1,4 @@
 -- Cells that go back to time 0.
-use Rattle.std.specs.Prelude.{List, map}
 use Rattle.std.specs.Option.{option_map}
 use Rattle.std.specs.Prelude.{Option}
 use Rattle.wire_cells.specs.Cells.{CellView}

@@ -14,12 +14,12 @@ use Rattle.phase_workers.specs.inner.Whole.{IsWhole, engine_view, opening_at}
 abbrev pub midst_view : Core → ℕ → State → List BoxCell → EngineView
 midst_view core span before nodes = engine_view core span (mid core before) nodes
 
--- The cells are those of a whole engine one half step later. No cell is on the bench.
-pub record IsMidst (core bare : Core) (sides : Sides) (span : ℕ) (before : State) (nodes : List BoxCell) (home : List (Option CellView)) (count room : ℕ)
+-- The cells are those of a whole engine one half step later.
+pub record IsMidst (core bare : Core) (sides : Sides) (span : ℕ) (before : State) (nodes : List BoxCell) (home : List (Option CellView))
     : Type 0 where
   pub first_nodes : List BoxCell
   pub first_home : List (Option CellView)
-  pub whole : IsWhole core bare sides span before first_nodes first_home count room
+  pub whole : IsWhole core bare sides span before first_nodes first_home
   pub right : AllRight (opening_at core before first_nodes) nodes home
   pub place : AreInPlace bare nodes home
   pub wires : length home ≡ length bare.wires

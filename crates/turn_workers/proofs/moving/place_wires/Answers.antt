@@ -1,5 +1,5 @@
 use Rattle.std.proofs.Common.{◌-◌, slice_get, ap, ◌∙◌, arith}
-use Rattle.step_turns.proofs.Lifting.{set_elsewhere}
+use Rattle.wire_cells.proofs.AtHome.{set_elsewhere}
 use Rattle.turn_workers.proofs.Placing.{wire_by}
 use Rattle.turn_workers.proofs.moving.place_wires.Goals as goal
 

@@ -1,7 +1,7 @@
 use Rattle.std.proofs.Common.{rules, ◌≡◌, ℕ, ◌+◌, ◌-◌, ◌<◌, length, take, vec_len, Some, slice_get, slice_set, sym, ap, ◌∙◌, inl, inr, arith}
 use Rattle.std.proofs.lemmas.Bool.{cases_eq}
 use Rattle.std.proofs.lemmas.List.{take-take}
-use Rattle.step_turns.proofs.Lifting.{set_here, set_elsewhere}
+use Rattle.wire_cells.proofs.AtHome.{set_here, set_elsewhere}
 use Rattle.turn_workers.specs.declared.cells.NetCell.TheVariants.{Wire}
 use Rattle.turn_workers.specs.inner.Moved.{cells_of}
 use Rattle.turn_workers.proofs.Placing.{taken_item}

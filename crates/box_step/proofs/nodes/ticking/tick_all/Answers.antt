@@ -1,23 +1,34 @@
-use Rattle.std.proofs.Common.{◌≤◌, ◌<◌, length, get_or, refl, arith}
+use Rattle.std.proofs.Common.{◌+◌, map, get_or, refl, arith}
 use Rattle.std.proofs.lemmas.Option.{slice_get-get_or}
-use Rattle.box_step.proofs.nodes_lemmas.CellLoops.{one_ticked, every_ticked}
+use Rattle.box_step.specs.nodes.Sides.{ticked}
+use Rattle.box_step.proofs.nodes_lemmas.CellLoops.{AreTicking, one_ticked, every_ticked}
+use Rattle.box_step.proofs.nodes_lemmas.HomeCells.{none_led, one_led, all_led, cell_led}
 use Rattle.box_step.proofs.nodes.ticking.tick_all.Goals as goal
 
-pub loop-i-init : goal.loop-i-init
-loop-i-init c = record { done = refl; early = λ k cell later found. c.requires k cell found }
+pub loop-k-init : goal.loop-k-init
+loop-k-init c =
+    none_led c.args.side.now (AreTicking 0) c.args.home.now
+    (λ cells at. record { done = refl; early = λ k cell later found. c.requires.early cells at k cell found })
 
-pub tick-requires : goal.tick-requires
-tick-requires c =
-    let less : c.loop-i.i < length c.loop-i.cells = omega arith in
-    c.loop-i.invariant.early c.loop-i.i (get_or c.loop-i.cells c.loop-i.i c.index-cells-i.result) (omega arith)
-    (slice_get-get_or c.loop-i.cells c.loop-i.i c.index-cells-i.result less)
+pub tick_at-requires : goal.tick_at-requires
+tick_at-requires c =
+    let k = c.loop-k.k in
+    let here = slice_get-get_or c.args.side.now k 0 c.loop-k-test.true in
+    let cell = cell_led c.args.side.now (AreTicking k) c.args.home.now c.loop-k.home k (get_or c.args.side.now k 0) here c.requires.home c.loop-k.invariant in
+    (cell.cell, cell.there, cell.done.early k cell.cell (omega arith) cell.found)
 
-pub loop-i-preserved : goal.loop-i-preserved
-loop-i-preserved c =
-    let less : c.loop-i.i < length c.loop-i.cells = omega arith in
-    one_ticked c.loop-i.i c.args.cells.now c.loop-i.cells c.index-cells-i.result c.tick.new.self less c.loop-i.invariant c.tick.ensures
+pub loop-k-preserved : goal.loop-k-preserved
+loop-k-preserved c =
+    let k = c.loop-k.k in
+    let here = slice_get-get_or c.args.side.now k 0 c.loop-k-test.true in
+    one_led c.args.side.now c.requires.apart (AreTicking k) (AreTicking (k + 1)) c.args.home.now c.loop-k.home c.tick_at.new.home k
+    (get_or c.args.side.now k 0) ticked here c.requires.home c.loop-k.invariant c.tick_at.ensures
+    (λ before after d at less ticking. one_ticked k before after d (ticked (get_or after k d)) less ticking refl)
 
-pub returns : goal.returns
-returns c =
-    let past : length c.loop-i.cells ≤ c.loop-i.i = omega arith in
-    every_ticked c.loop-i.i c.args.cells.now c.loop-i.cells past c.loop-i.invariant
+pub returns-clause-others : goal.returns-clause-others
+returns-clause-others c = c.loop-k.invariant.kept
+
+pub returns-clause-cells : goal.returns-clause-cells
+returns-clause-cells c =
+    all_led c.args.side.now (AreTicking c.loop-k.k) (map ticked) c.args.home.now c.loop-k.home c.loop-k.invariant
+    (λ before after long ticking. every_ticked c.loop-k.k before after (omega (arith, long)) ticking)

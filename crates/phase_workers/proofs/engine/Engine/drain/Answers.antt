@@ -1,4 +1,4 @@
-use Rattle.std.proofs.Common.{[], sym, ap, ◌∙◌, subst, slice_index_or, slice_set, refl, map, vec_len, vec_capacity}
+use Rattle.std.proofs.Common.{[], sym, ap, ◌∙◌, subst, slice_index_or, slice_set, refl, map}
 use Rattle.std.proofs.lemmas.Option.{slice_get_within}
 use Rattle.hume_base.specs.Flat.{flat}
 use Rattle.hume_net.specs.Nodes.{IsOutputStream}
@@ -20,7 +20,7 @@ use Rattle.phase_workers.proofs.engine.Engine.drain.Goals as goal
 pub drain_cell-requires-clause-log : goal.drain_cell-requires-clause-log
 drain_cell-requires-clause-log g c =
     let is = subst (λ (v : EngineView). IsOutputStream (core_of v) c.args.node) (sym c.self.view_is) c.requires.output in
-    let its = log_there _ _ _ _ _ _ _ _ _ c.self.invariant c.args.node is in
+    let its = log_there _ _ _ _ _ _ _ c.self.invariant c.args.node is in
     let cell = index_at c.self.inside.nodes.items c.args.node its.0 c.index_mut-cell.result.now its.1 c.index_mut-cell.ensures.value in
     (its.2, ap (λ (k : BoxCell). log_in k.kind) cell ∙ its.3)
 
@@ -30,15 +30,14 @@ invariant_of-self g c =
     let whole = c.self.invariant in
     let n = c.args.node in
     let is = subst (λ (v : EngineView). IsOutputStream (core_of v) n) (sym c.self.view_is) c.requires.output in
-    let its = log_there _ _ _ _ _ _ _ _ _ whole n is in
+    let its = log_there _ _ _ _ _ _ _ whole n is in
     let cell = index_at inside.nodes.items n its.0 c.index_mut-cell.result.now its.1 c.index_mut-cell.ensures.value in
     let done = subst (λ k. HasLog k c.drain_cell.new.cell (λ (log : LogView). record log { values = [] })) cell c.in-Ok.ensures.drained in
     let node = node_of_output inside.core n is in
     let within = slice_get_within inside.core.nodes n _ node.1 in
     let none = cleared_here inside.core n inside.seen.state within whole.fits in
-    subst (λ s. IsWhole inside.core inside.bare inside.sides inside.span s (slice_set inside.nodes.items n c.drain_cell.new.cell) inside.home.items
-    (vec_len inside.bench) (vec_capacity inside.bench)) (sym c.then-self-inside.ensures)
-    (log_whole _ _ _ _ _ _ _ _ _ whole n is its.0 c.drain_cell.new.cell its.1 done.log done.later done.had done.cell (cleared n inside.seen.state) refl
+    subst (λ s. IsWhole inside.core inside.bare inside.sides inside.span s (slice_set inside.nodes.items n c.drain_cell.new.cell) inside.home.items) (sym c.then-self-inside.ensures)
+    (log_whole _ _ _ _ _ _ _ whole n is its.0 c.drain_cell.new.cell its.1 done.log done.later done.had done.cell (cleared n inside.seen.state) refl
     (cleared_other inside.core n inside.seen.state within whole.fits)
     (ap (λ (l : LogView). l.values) done.changed ∙ sym (ap (map (flat inside.core.types (type_at inside.core n))) none))
     (ap (λ (l : LogView). l.width) done.changed) (ap (λ (l : LogView). l.span) done.changed)
@@ -51,11 +50,11 @@ invariant_of-self-in-Err g c =
     let whole = c.self.invariant in
     let n = c.args.node in
     let is = subst (λ (v : EngineView). IsOutputStream (core_of v) n) (sym c.self.view_is) c.requires.output in
-    let its = log_there _ _ _ _ _ _ _ _ _ whole n is in
+    let its = log_there _ _ _ _ _ _ _ whole n is in
     let cell = index_at inside.nodes.items n its.0 c.index_mut-cell.result.now its.1 c.index_mut-cell.ensures.value in
     let done = subst (λ k. HasLog k c.drain_cell.new.cell (λ log. log)) cell c.in-Err.ensures.kept in
-    let holds = log_holds _ _ _ _ _ _ _ _ _ whole n is its.0 c.drain_cell.new.cell its.1 done.log done.later done.had done.cell in
-    log_whole _ _ _ _ _ _ _ _ _ whole n is its.0 c.drain_cell.new.cell its.1 done.log done.later done.had done.cell inside.seen.state refl
+    let holds = log_holds _ _ _ _ _ _ _ whole n is its.0 c.drain_cell.new.cell its.1 done.log done.later done.had done.cell in
+    log_whole _ _ _ _ _ _ _ whole n is its.0 c.drain_cell.new.cell its.1 done.log done.later done.had done.cell inside.seen.state refl
     (λ m apart. refl) (ap (λ (l : LogView). l.values) done.changed ∙ holds)
     (ap (λ (l : LogView). l.width) done.changed) (ap (λ (l : LogView). l.span) done.changed) whole.opens.typed whole.fits
 
@@ -65,10 +64,10 @@ returns-in-Ok-clause-queues g c = λ m.
     let whole = c.self.invariant in
     let n = c.args.node in
     let is = subst (λ (v : EngineView). IsOutputStream (core_of v) n) (sym c.self.view_is) c.requires.output in
-    let its = log_there _ _ _ _ _ _ _ _ _ whole n is in
+    let its = log_there _ _ _ _ _ _ _ whole n is in
     let cell = index_at inside.nodes.items n its.0 c.index_mut-cell.result.now its.1 c.index_mut-cell.ensures.value in
     let done = subst (λ k. HasLog k c.drain_cell.new.cell (λ (log : LogView). record log { values = [] })) cell c.in-Ok.ensures.drained in
-    ap (λ qs. without_values (slice_index_or qs m (first_view 0 0))) (queues_kept _ _ _ _ _ _ _ _ _ whole n is its.0 c.drain_cell.new.cell its.1 done.log done.later done.had
+    ap (λ qs. without_values (slice_index_or qs m (first_view 0 0))) (queues_kept _ _ _ _ _ _ _ whole n is its.0 c.drain_cell.new.cell its.1 done.log done.later done.had
     done.cell)
     ∙ ap (λ (v : EngineView). queue_at v m) c.self.view_is
 
@@ -78,14 +77,14 @@ returns-in-Ok-clause-peaks g c =
     let whole = c.self.invariant in
     let n = c.args.node in
     let is = subst (λ (v : EngineView). IsOutputStream (core_of v) n) (sym c.self.view_is) c.requires.output in
-    let its = log_there _ _ _ _ _ _ _ _ _ whole n is in
+    let its = log_there _ _ _ _ _ _ _ whole n is in
     let cell = index_at inside.nodes.items n its.0 c.index_mut-cell.result.now its.1 c.index_mut-cell.ensures.value in
     let done = subst (λ k. HasLog k c.drain_cell.new.cell (λ (log : LogView). record log { values = [] })) cell c.in-Ok.ensures.drained in
     record {
-      heap = λ m. ap (λ hs. slice_index_or hs m 0) (heaps_kept _ _ _ _ _ _ _ _ _ whole n is its.0 c.drain_cell.new.cell its.1 done.log done.later done.had
+      heap = λ m. ap (λ hs. slice_index_or hs m 0) (heaps_kept _ _ _ _ _ _ _ whole n is its.0 c.drain_cell.new.cell its.1 done.log done.later done.had
           done.cell)
           ∙ ap (λ (v : EngineView). heap_peak_at v m) c.self.view_is;
-      stack = λ m. ap (λ hs. slice_index_or hs m 0) (stacks_kept _ _ _ _ _ _ _ _ _ whole n is its.0 c.drain_cell.new.cell its.1 done.log done.later done.had
+      stack = λ m. ap (λ hs. slice_index_or hs m 0) (stacks_kept _ _ _ _ _ _ _ whole n is its.0 c.drain_cell.new.cell its.1 done.log done.later done.had
           done.cell)
           ∙ ap (λ (v : EngineView). stack_peak_at v m) c.self.view_is;
     }
@@ -96,10 +95,10 @@ returns-in-Ok-clause-ends g c =
     let whole = c.self.invariant in
     let n = c.args.node in
     let is = subst (λ (v : EngineView). IsOutputStream (core_of v) n) (sym c.self.view_is) c.requires.output in
-    let its = log_there _ _ _ _ _ _ _ _ _ whole n is in
+    let its = log_there _ _ _ _ _ _ _ whole n is in
     let cell = index_at inside.nodes.items n its.0 c.index_mut-cell.result.now its.1 c.index_mut-cell.ensures.value in
     let done = subst (λ k. HasLog k c.drain_cell.new.cell (λ (log : LogView). record log { values = [] })) cell c.in-Ok.ensures.drained in
-    let holds = log_holds _ _ _ _ _ _ _ _ _ whole n is its.0 c.drain_cell.new.cell its.1 done.log done.later done.had done.cell in
+    let holds = log_holds _ _ _ _ _ _ _ whole n is its.0 c.drain_cell.new.cell its.1 done.log done.later done.had done.cell in
     let typed = taken_typed inside.core whole.runnable inside.seen.state whole.opens.typed n is in
     let had = ap (λ (k : BoxCell). log_in k.kind) cell ∙ done.had in
     let zip = words_of_values inside.core.types (type_at inside.core n) (log_view done.log).values (part_of inside.seen.state n).taken holds typed in
@@ -111,10 +110,10 @@ returns-in-Err-clause-queues g c = λ m.
     let whole = c.self.invariant in
     let n = c.args.node in
     let is = subst (λ (v : EngineView). IsOutputStream (core_of v) n) (sym c.self.view_is) c.requires.output in
-    let its = log_there _ _ _ _ _ _ _ _ _ whole n is in
+    let its = log_there _ _ _ _ _ _ _ whole n is in
     let cell = index_at inside.nodes.items n its.0 c.index_mut-cell.result.now its.1 c.index_mut-cell.ensures.value in
     let done = subst (λ k. HasLog k c.drain_cell.new.cell (λ log. log)) cell c.in-Err.ensures.kept in
-    ap (λ qs. without_values (slice_index_or qs m (first_view 0 0))) (queues_kept _ _ _ _ _ _ _ _ _ whole n is its.0 c.drain_cell.new.cell its.1 done.log done.later done.had
+    ap (λ qs. without_values (slice_index_or qs m (first_view 0 0))) (queues_kept _ _ _ _ _ _ _ whole n is its.0 c.drain_cell.new.cell its.1 done.log done.later done.had
     done.cell)
     ∙ ap (λ (v : EngineView). queue_at v m) c.self.view_is
 
@@ -124,14 +123,14 @@ returns-in-Err-clause-peaks g c =
     let whole = c.self.invariant in
     let n = c.args.node in
     let is = subst (λ (v : EngineView). IsOutputStream (core_of v) n) (sym c.self.view_is) c.requires.output in
-    let its = log_there _ _ _ _ _ _ _ _ _ whole n is in
+    let its = log_there _ _ _ _ _ _ _ whole n is in
     let cell = index_at inside.nodes.items n its.0 c.index_mut-cell.result.now its.1 c.index_mut-cell.ensures.value in
     let done = subst (λ k. HasLog k c.drain_cell.new.cell (λ log. log)) cell c.in-Err.ensures.kept in
     record {
-      heap = λ m. ap (λ hs. slice_index_or hs m 0) (heaps_kept _ _ _ _ _ _ _ _ _ whole n is its.0 c.drain_cell.new.cell its.1 done.log done.later done.had
+      heap = λ m. ap (λ hs. slice_index_or hs m 0) (heaps_kept _ _ _ _ _ _ _ whole n is its.0 c.drain_cell.new.cell its.1 done.log done.later done.had
           done.cell)
           ∙ ap (λ (v : EngineView). heap_peak_at v m) c.self.view_is;
-      stack = λ m. ap (λ hs. slice_index_or hs m 0) (stacks_kept _ _ _ _ _ _ _ _ _ whole n is its.0 c.drain_cell.new.cell its.1 done.log done.later done.had
+      stack = λ m. ap (λ hs. slice_index_or hs m 0) (stacks_kept _ _ _ _ _ _ _ whole n is its.0 c.drain_cell.new.cell its.1 done.log done.later done.had
           done.cell)
           ∙ ap (λ (v : EngineView). stack_peak_at v m) c.self.view_is;
     }
@@ -142,10 +141,10 @@ returns-in-Err-clause-ends g c =
     let whole = c.self.invariant in
     let n = c.args.node in
     let is = subst (λ (v : EngineView). IsOutputStream (core_of v) n) (sym c.self.view_is) c.requires.output in
-    let its = log_there _ _ _ _ _ _ _ _ _ whole n is in
+    let its = log_there _ _ _ _ _ _ _ whole n is in
     let cell = index_at inside.nodes.items n its.0 c.index_mut-cell.result.now its.1 c.index_mut-cell.ensures.value in
     let done = subst (λ k. HasLog k c.drain_cell.new.cell (λ log. log)) cell c.in-Err.ensures.kept in
-    let holds = log_holds _ _ _ _ _ _ _ _ _ whole n is its.0 c.drain_cell.new.cell its.1 done.log done.later done.had done.cell in
+    let holds = log_holds _ _ _ _ _ _ _ whole n is its.0 c.drain_cell.new.cell its.1 done.log done.later done.had done.cell in
     let typed = taken_typed inside.core whole.runnable inside.seen.state whole.opens.typed n is in
     let had = ap (λ (k : BoxCell). log_in k.kind) cell ∙ done.had in
     let zip = words_of_values inside.core.types (type_at inside.core n) (log_view done.log).values (part_of inside.seen.state n).taken holds typed in

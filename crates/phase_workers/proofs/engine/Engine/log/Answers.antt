@@ -16,7 +16,7 @@ pub returns : goal.returns
 returns c =
     let inside = c.self.inside in
     let is = subst (λ (v : EngineView). IsOutputStream (core_of v) c.args.node) (sym c.self.view_is) c.requires in
-    let its = log_there _ _ _ _ _ _ _ _ _ c.self.invariant c.args.node is in
+    let its = log_there _ _ _ _ _ _ _ c.self.invariant c.args.node is in
     let cell = index_at inside.nodes.items c.args.node its.0 c.index.result.now its.1 c.index.ensures in
     let logs : c.in-Some.log.now ≡ its.2 =
     (let both : Some c.in-Some.log.now ≡ Some its.2 = sym c.in-Some.ensures ∙ ap (λ (k : BoxCell). log_in k.kind) cell ∙ its.3 in cc) in

@@ -16,7 +16,7 @@ use Rattle.phase_workers.proofs.engine.Engine.rebind.Goals as goal
 pub rebind_cell-requires : goal.rebind_cell-requires
 rebind_cell-requires c =
     let is = subst (λ (v : EngineView). IsInputStream (core_of v) c.args.node) (sym c.self.view_is) c.requires in
-    let its = queue_there _ _ _ _ _ _ _ _ _ c.self.invariant c.args.node is in
+    let its = queue_there _ _ _ _ _ _ _ c.self.invariant c.args.node is in
     let cell = index_at c.self.inside.nodes.items c.args.node its.0 c.index_mut.result.now its.1 c.index_mut.ensures.value in
     (its.2, ap (λ (k : BoxCell). queue_in k.kind) cell ∙ its.3)
 
@@ -26,10 +26,10 @@ invariant_of-self c =
     let whole = c.self.invariant in
     let n = c.args.node in
     let is = subst (λ (v : EngineView). IsInputStream (core_of v) n) (sym c.self.view_is) c.requires in
-    let its = queue_there _ _ _ _ _ _ _ _ _ whole n is in
+    let its = queue_there _ _ _ _ _ _ _ whole n is in
     let cell = index_at inside.nodes.items n its.0 c.index_mut.result.now its.1 c.index_mut.ensures.value in
     let done = subst (λ k. HasQueue k c.rebind_cell.new.cell rebound) cell c.rebind_cell.ensures in
-    rebound_whole _ _ _ _ _ _ _ _ _ whole n is its.0 c.rebind_cell.new.cell its.1 done.queue done.later done.had done.cell done.changed
+    rebound_whole _ _ _ _ _ _ _ whole n is its.0 c.rebind_cell.new.cell its.1 done.queue done.later done.had done.cell done.changed
 
 pub returns-clause-peaks : goal.returns-clause-peaks
 returns-clause-peaks c =
@@ -37,14 +37,14 @@ returns-clause-peaks c =
     let whole = c.self.invariant in
     let n = c.args.node in
     let is = subst (λ (v : EngineView). IsInputStream (core_of v) n) (sym c.self.view_is) c.requires in
-    let its = queue_there _ _ _ _ _ _ _ _ _ whole n is in
+    let its = queue_there _ _ _ _ _ _ _ whole n is in
     let cell = index_at inside.nodes.items n its.0 c.index_mut.result.now its.1 c.index_mut.ensures.value in
     let done = subst (λ k. HasQueue k c.rebind_cell.new.cell rebound) cell c.rebind_cell.ensures in
     record {
-      heap = λ m. ap (λ hs. slice_index_or hs m 0) (heaps_kept _ _ _ _ _ _ _ _ _ whole n is its.0 c.rebind_cell.new.cell its.1 done.queue done.later done.had
+      heap = λ m. ap (λ hs. slice_index_or hs m 0) (heaps_kept _ _ _ _ _ _ _ whole n is its.0 c.rebind_cell.new.cell its.1 done.queue done.later done.had
           done.cell)
           ∙ ap (λ (v : EngineView). heap_peak_at v m) c.self.view_is;
-      stack = λ m. ap (λ hs. slice_index_or hs m 0) (stacks_kept _ _ _ _ _ _ _ _ _ whole n is its.0 c.rebind_cell.new.cell its.1 done.queue done.later done.had
+      stack = λ m. ap (λ hs. slice_index_or hs m 0) (stacks_kept _ _ _ _ _ _ _ whole n is its.0 c.rebind_cell.new.cell its.1 done.queue done.later done.had
           done.cell)
           ∙ ap (λ (v : EngineView). stack_peak_at v m) c.self.view_is;
     }
@@ -55,10 +55,10 @@ returns-clause-begun c =
     let whole = c.self.invariant in
     let n = c.args.node in
     let is = subst (λ (v : EngineView). IsInputStream (core_of v) n) (sym c.self.view_is) c.requires in
-    let its = queue_there _ _ _ _ _ _ _ _ _ whole n is in
+    let its = queue_there _ _ _ _ _ _ _ whole n is in
     let cell = index_at inside.nodes.items n its.0 c.index_mut.result.now its.1 c.index_mut.ensures.value in
     let done = subst (λ k. HasQueue k c.rebind_cell.new.cell rebound) cell c.rebind_cell.ensures in
-    rebound_there _ _ _ _ _ _ _ _ _ whole n is its.0 c.rebind_cell.new.cell its.1 done.queue done.later done.had done.cell done.changed
+    rebound_there _ _ _ _ _ _ _ whole n is its.0 c.rebind_cell.new.cell its.1 done.queue done.later done.had done.cell done.changed
     ∙ ap (λ (v : EngineView). first_view (size_of (core_of v).types (type_at (core_of v) n)) (span_of v)) c.self.view_is
 
 pub returns-clause-right : goal.returns-clause-right
@@ -70,9 +70,9 @@ returns-clause-others c = λ other apart.
     let whole = c.self.invariant in
     let n = c.args.node in
     let is = subst (λ (v : EngineView). IsInputStream (core_of v) n) (sym c.self.view_is) c.requires in
-    let its = queue_there _ _ _ _ _ _ _ _ _ whole n is in
+    let its = queue_there _ _ _ _ _ _ _ whole n is in
     let cell = index_at inside.nodes.items n its.0 c.index_mut.result.now its.1 c.index_mut.ensures.value in
     let done = subst (λ k. HasQueue k c.rebind_cell.new.cell rebound) cell c.rebind_cell.ensures in
-    ap without_values (rebound_elsewhere _ _ _ _ _ _ _ _ _ whole n is its.0 c.rebind_cell.new.cell its.1 done.queue done.later done.had done.cell done.changed
+    ap without_values (rebound_elsewhere _ _ _ _ _ _ _ whole n is its.0 c.rebind_cell.new.cell its.1 done.queue done.later done.had done.cell done.changed
     other apart)
     ∙ ap (λ (v : EngineView). queue_at v other) c.self.view_is

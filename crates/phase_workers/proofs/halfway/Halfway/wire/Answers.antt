@@ -11,7 +11,7 @@ use Rattle.phase_workers.proofs.halfway.Halfway.wire.Goals as goal
 pub unreachable-requires : goal.unreachable-requires
 unreachable-requires c =
     let less = subst (λ (v : EngineView). c.args.wire < length (core_of v).wires) (sym c.self.view_is) c.requires in
-    let its = wire_midst _ _ _ _ _ _ _ _ _ c.self.invariant c.args.wire less in
+    let its = wire_midst _ _ _ _ _ _ _ c.self.invariant c.args.wire less in
     let both : ◌≡◌ {A = Option CellView} None (Some its.0) =
     sym c.in-None.is ∙ index_at c.self.inside.home.items c.args.wire (Some its.0) c.index.result.now its.1 c.index.ensures in
     cc
@@ -19,7 +19,7 @@ unreachable-requires c =
 pub returns-clause-number : goal.returns-clause-number
 returns-clause-number c =
     let less = subst (λ (v : EngineView). c.args.wire < length (core_of v).wires) (sym c.self.view_is) c.requires in
-    let its = wire_midst _ _ _ _ _ _ _ _ _ c.self.invariant c.args.wire less in
+    let its = wire_midst _ _ _ _ _ _ _ c.self.invariant c.args.wire less in
     let both : ◌≡◌ {A = Option CellView} (Some c.in-Some.cell) (Some its.0) =
     sym c.in-Some.is ∙ index_at c.self.inside.home.items c.args.wire (Some its.0) c.index.result.now its.1 c.index.ensures in
     let same : c.in-Some.cell ≡ its.0 = cc in
@@ -28,7 +28,7 @@ returns-clause-number c =
 pub returns-clause-holds : goal.returns-clause-holds
 returns-clause-holds c =
     let less = subst (λ (v : EngineView). c.args.wire < length (core_of v).wires) (sym c.self.view_is) c.requires in
-    let its = wire_midst _ _ _ _ _ _ _ _ _ c.self.invariant c.args.wire less in
+    let its = wire_midst _ _ _ _ _ _ _ c.self.invariant c.args.wire less in
     let both : ◌≡◌ {A = Option CellView} (Some c.in-Some.cell) (Some its.0) =
     sym c.in-Some.is ∙ index_at c.self.inside.home.items c.args.wire (Some its.0) c.index.result.now its.1 c.index.ensures in
     let same : its.0 ≡ c.in-Some.cell = cc in
