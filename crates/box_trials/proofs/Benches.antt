@@ -18,6 +18,7 @@ use Rattle.model_bare.specs.Bare.{bare_box, bare_node, bare_of}
 use Rattle.box_code.specs.RepresentsBox.{RepresentsBox}
 use Rattle.box_machine.specs.declared.ran.Ran.{Ran}
 use Rattle.wire_cells.specs.Cells.{CellView}
+use Rattle.wire_cells.specs.Homes.{AreApart, AreAtHome}
 use Rattle.box_step.specs.Boxes.{AreBareForms, HasExecuted, IsAt, IsBoxAt, IsSoundBox}
 use Rattle.box_step.specs.Views.{CompiledView}
 use Rattle.box_trials.specs.inputs.InputCells.{AreInputCells}
@@ -64,10 +65,10 @@ beginning core b part compiled cells at are =
     (record { part = part; side = held.0 }, record { box_at = at; inputs = held.1 })
 
 -- and it ends where the next one may begin
-pub ending : (core : Core) (b : BoxC) (before : HalfStep) (old new : CompiledView) (cells : List CellView) (answer : Option Ran)
-    → HasExecuted core b before old new cells answer → CanStep core b new cells
-ending core b before old new cells answer has = record {
+pub ending : (core : Core) (b : BoxC) (before : HalfStep) (old new : CompiledView) (side : List ℕ) (home : List (Option CellView)) (cells : List CellView)
+    (answer : Option Ran) → AreApart side → AreAtHome side home cells → HasExecuted core b before old new cells answer → CanStep core b new side home
+ending core b before old new side home cells answer apart at has = record {
   part = (execute core (Rules b) before.part before.side).part;
   at = has.at.box_at;
-  cells_are = cells_from core has.at.inputs;
+  inputs = record { cells = cells; apart = apart; at = at; are = cells_from core has.at.inputs };
 }

@@ -12,9 +12,9 @@ use Rattle.hume_model.specs.declared.core_tree.NodeC.TheVariants.{Rules}
 use Rattle.hume_model.specs.BoxTyping.{port_types}
 use Rattle.hume_model.specs.Declarations.{declaration_of}
 use Rattle.hume_model.specs.Limits.{IsSmallBox, IsSmallBoxPort, IsSmallNode}
-use Rattle.hume_model.specs.WellFormed.{IsWellFormed}
+use Rattle.hume_model.specs.WellFormed.{HasSmallBoxes, IsWellFormed}
 use Rattle.hume_model.specs.Wiring.{IsWired, WiresAgree}
-use Rattle.hume_model.proofs.WellFormedCores.{readable_sizes}
+use Rattle.hume_model.proofs.WellFormedCores.{readable_sizes, small_boxes}
 use Rattle.box_costs.specs.Bounds.{box_bound}
 use Rattle.hume_text.specs.Bounds.{IsPrintable}
 use Rattle.hume_text.specs.Names.{HaveNames}
@@ -39,6 +39,9 @@ module _ (accepted : Accepted) (source : IsOfSource accepted) where
 
   pub few_nodes : length accepted.core.nodes ≤ MAX_NODES
   few_nodes = core_formed.frame.limits.nodes
+
+  pub boxes_small : HasSmallBoxes accepted.core
+  boxes_small = small_boxes accepted.core core_formed
 
   names : HaveNames accepted.core.types
   names =

@@ -1,3 +1,4 @@
 pub mod Places
 pub mod ReadInputs
 pub mod InputCells
+pub mod InputsAtHome

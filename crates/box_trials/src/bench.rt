@@ -1,4 +1,4 @@
-//! A box that runs as code, with cells of its inputs.
+//! A box that runs as code, with cells of its inputs at home.
 ghost use Rattle.std.specs.Prelude.{◌≡◌, IfOk, Some, slice_get};
 ghost use Rattle.hume_model.specs.declared.core_tree.BoxC.{BoxC as AnyBox};
 ghost use Rattle.hume_model.specs.declared.core_tree.Core.{Core as AnyCore};
@@ -20,13 +20,14 @@ use model_bare::bare;
 use std::alloc::Global;
 use wire_cells::WireCell;
 
-/// A box as code, the bare form of its core and its node there, and the cells of its inputs.
+/// A box as code, the bare form of its core and its node there, and the cells of its inputs, at home at the numbers of the side.
 #[derive(Drop)]
 pub struct Bench {
     pub bare: Core,
     pub node: u32,
     pub compiled: CompiledBox,
-    pub cells: Vec<WireCell>,
+    pub side: Vec<u32>,
+    pub home: Vec<Option<WireCell>>,
 }
 
 /// Has the box at that place ready for its first step.
@@ -44,7 +45,7 @@ pub fn prepare(
 {
     let Place { node, program } = place;
     let bare = bare(alloc, &accepted.core)?;
-    let cells = make_cells(alloc, &accepted.core, &accepted.wiring, node, b)?;
+    let (side, home) = make_cells(alloc, &accepted.core, &accepted.wiring, node, b)?;
     let Some(bare_box) = box_at(&bare, node) else {
         return Err(TrialError::NoBox);
     };
@@ -53,7 +54,8 @@ pub fn prepare(
         bare,
         node,
         compiled,
-        cells,
+        side,
+        home,
     })
 }
 
@@ -66,7 +68,14 @@ impl Bench {
     {
         match box_at(&self.bare, self.node) {
             None => None,
-            Some(b) => step_on(&self.bare, b, &mut self.compiled, &mut self.cells, inputs),
+            Some(b) => step_on(
+                &self.bare,
+                b,
+                &mut self.compiled,
+                &self.side,
+                &mut self.home,
+                inputs,
+            ),
         }
     }
 }
@@ -76,15 +85,16 @@ fn step_on(
     bare: &Core,
     b: &BoxC,
     compiled: &mut CompiledBox,
-    cells: &mut [WireCell],
+    side: &[u32],
+    home: &mut [Option<WireCell>],
     inputs: &[Option<List<u64>>],
 ) -> Option<Ran>
-    requires { (core : AnyCore) × (its : AnyBox) × AreBareForms core its bare.now b.now × CanStep core its compiled.old cells.old
+    requires { (core : AnyCore) × (its : AnyBox) × AreBareForms core its bare.now b.now × CanStep core its compiled.old side.now home.old
         × AreInputs core.types (port_types its.ins) inputs.now }
-    ensures { (core : AnyCore) (its : AnyBox) → AreBareForms core its bare.now b.now → CanStep core its compiled.old cells.old
-        → AreInputs core.types (port_types its.ins) inputs.now → CanStep core its compiled.new cells.new }
+    ensures { (core : AnyCore) (its : AnyBox) → AreBareForms core its bare.now b.now → CanStep core its compiled.old side.now home.old
+        → AreInputs core.types (port_types its.ins) inputs.now → CanStep core its compiled.new side.now home.new }
 {
     compiled.forget_outputs();
-    fill_cells(cells, inputs);
-    compiled.execute(bare, b, cells)
+    fill_cells(side, home, inputs);
+    compiled.execute(bare, b, side, home)
 }

@@ -5,7 +5,7 @@ use thiserror::Error;
 /// Why there is no trial.
 #[derive(Debug, Drop, Error)]
 pub enum TrialError {
-    #[error("code SOURCE BOX TEXT.. | repeat SOURCE BOX COUNT TEXT.. | fire SOURCE BOX TEXT.. | compare SOURCE ROUNDS")]
+    #[error("code SOURCE BOX TEXT.. | repeat SOURCE BOX COUNT TEXT.. | fire SOURCE BOX TEXT.. | compare SOURCE ROUNDS | net SOURCE STEPS")]
     Usage,
     #[error("the source can't be read")]
     NoSource,

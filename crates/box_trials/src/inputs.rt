@@ -1,8 +1,9 @@
 //! Inputs for a single box: values read from texts or made at random, and put into cells.
 //!
 //! Main calls: `read_inputs` reads a text for each input of a box, `random_inputs` makes such texts from pseudo-random numbers,
-//! and `input_values` gives the values themselves. `make_cells` makes the cells of a box's inputs, and `fill_cells` puts these
-//! values into them without taking memory. `Inputs.antt` defines inputs, and `InputCells.antt` which cells are those of a box.
+//! and `input_values` gives the values themselves. `make_cells` makes the cells of a box's inputs, at home at the numbers of a side,
+//! and `fill_cells` puts these values into them without taking memory. `Inputs.antt` defines inputs, and `InputCells.antt` which
+//! cells are those of a box.
 //!
 //! Proved: inputs have the words of values of their types; cells that are made are those of the box's inputs, and stay so when
 //! they are filled. No clause says which values cells hold then. It has no laws.

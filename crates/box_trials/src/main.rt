@@ -1,13 +1,14 @@
-//! A program for work on this repository, `box_trials FORM SOURCE ..`: it runs single boxes of a source as code and compares
-//! them with the plain evaluator.
+//! A program for work on this repository, `box_trials FORM SOURCE ..`: it runs single boxes of a source as code, compares them
+//! with the plain evaluator, and steps the plain net, which benchmarks are compared with.
 //!
 //! `Form` (`src/order.rt`) lists its forms: the code of a box with the words of its inputs, the same execute step made many
-//! times, one execute step with its results, and a comparison of each box with the plain evaluator. Status 1 says that a box
-//! differs, and 2 that there is no trial; the standard error says why.
+//! times, one execute step with its results, a comparison of each box with the plain evaluator, and supersteps of the plain net
+//! without inputs. Status 1 says that a box differs, and 2 that there is no trial; the standard error says why.
 //!
 //! Proved: it is safe, and runs boxes only as `CompiledBox` requires. What it prints has no contract.
 //!
-//! It knows accepted sources, compiled boxes and the plain evaluator. It doesn't know nets, wires that join boxes, or times.
+//! It knows accepted sources, compiled boxes, the plain evaluator and the plain net. It doesn't know cells of wires that join boxes,
+//! or times.
 #![tactic(auto)]
 
 ghost use Rattle.box_trials.specs.inner.Trials.{IsOfSource};
@@ -20,6 +21,7 @@ mod compare;
 mod error;
 mod fire;
 mod inputs;
+mod net;
 mod order;
 mod plain;
 mod repeat;
@@ -31,6 +33,7 @@ use crate::code::tell_code;
 use crate::compare::compare_boxes;
 use crate::error::TrialError;
 use crate::fire::fire_once;
+use crate::net::step_net;
 use crate::order::{Form, Order, read_order};
 use crate::repeat::repeat_step;
 use crate::report::Report;
@@ -109,6 +112,10 @@ fn trial_of(
             Ok(true)
         }
         Form::Compare { rounds } => compare_boxes(alloc, accepted, rounds, report),
+        Form::Net { steps } => {
+            step_net(alloc, accepted, steps, report)?;
+            Ok(true)
+        }
     }
 }
 

@@ -28,6 +28,10 @@ pub enum Form<'a> {
     Compare {
         rounds: u32,
     },
+    /// So many supersteps of the plain net.
+    Net {
+        steps: u32,
+    },
 }
 
 /// The order that the words give, if they have a form.
@@ -58,6 +62,9 @@ fn read_form<'a>(form: &str, words: &'a [String]) -> Option<Form<'a>> {
         }),
         [rounds] if form == "compare" => Some(Form::Compare {
             rounds: number(rounds)?,
+        }),
+        [steps] if form == "net" => Some(Form::Net {
+            steps: number(steps)?,
         }),
         _ => None,
     }

@@ -1,3 +1,4 @@
 pub mod TwoObjects
 pub mod TwoOutputs
 pub mod SoundFairCore
+pub mod FairHome

@@ -5,7 +5,7 @@ use Rattle.std.proofs.Math.ListN.{set}
 use Rattle.std.specs.Option.{IfSome, option_to_list}
 use Rattle.std.proofs.lemmas.Bool.{and_parts, eqb-true}
 use Rattle.std.proofs.lemmas.List.{length-set}
-use Rattle.std.proofs.lemmas.Option.{slice_get-get_or, slice_get_read}
+use Rattle.std.proofs.lemmas.Option.{slice_get_read}
 use Rattle.hume_base.specs.declared.types.Ty.{Ty}
 use Rattle.hume_base.specs.declared.types.Value.{Value}
 use Rattle.hume_base.specs.Flat.{flat}
@@ -70,11 +70,6 @@ module _ (core : Core) where
         (λ k c at ty t. old.each k ty c t at) new j one found ty t;
   }
 
-  -- the cell at a place
-  pub cell_at : (tys : List Ty) (cells : List CellView) (i : ℕ) (d : CellView) (ty : Ty) → AreInputCells core tys cells → i < length cells
-      → slice_get tys i ≡ Some ty → IsInputCell core ty (get_or cells i d)
-  cell_at tys cells i d ty are below t = are.each i ty (get_or cells i d) t (slice_get-get_or cells i d below)
-
 -- an input is the words of a value of the type at its place
 pub flat_input : (core : Core) (inputs : List (Option (List ℕ))) (i : ℕ) (input : Option (List ℕ)) (tys : List Ty) (ty : Ty) → i < length inputs
     → input ≡ get_or inputs i input → slice_get tys i ≡ Some ty → AreInputs core.types tys inputs → IfSome input (IsFlat core.types ty)
@@ -103,11 +98,6 @@ module _ (core : Core) (wiring : Wires) (node : ℕ) (b : BoxC) (wired : IsWired
           holds = first_holds core w the.wire wired.frame the.there;
         };
       })
-
--- the cells of so many inputs are made
-pub record AreBegun (core : Core) (tys : List Ty) (count : ℕ) (cells : List CellView) : Type 0 where
-  pub many : length cells ≡ count
-  pub each : (i : ℕ) (cell : CellView) → slice_get cells i ≡ Some cell → (ty : Ty) → slice_get tys i ≡ Some ty → IsInputCell core ty cell
 
 -- the cells hold some values
 pub cells_of : (core : Core) (tys : List Ty) (cells : List CellView) → AreInputCells core tys cells

@@ -1,5 +1,5 @@
 -- What is known of a source whose boxes are tried, of the place of a box, and of a box that is ready for a step.
-use Rattle.std.specs.Prelude.{◌≡◌, ℕ, ◌≤◌, List, length, Some, slice_get}
+use Rattle.std.specs.Prelude.{◌≡◌, ℕ, ◌≤◌, List, length, Option, Some, slice_get}
 use Rattle.hume_base.specs.declared.limits.TheConstants.{MAX_OUTPUTS}
 use Rattle.hume_model.specs.declared.core_tree.PortC.{PortC}
 use Rattle.hume_model.specs.declared.core_tree.BoxC.{BoxC}
@@ -15,7 +15,7 @@ use Rattle.wire_cells.specs.Cells.{CellView}
 use Rattle.box_step.specs.Boxes.{IsBoxAt, IsSoundBox}
 use Rattle.box_step.specs.Views.{CompiledView}
 use Rattle.box_trials.specs.inputs.Inputs.{AreInputs}
-use Rattle.box_trials.specs.inputs.InputCells.{AreInputCells}
+use Rattle.box_trials.specs.inputs.InputCells.{AreInputsAtHome}
 use Rattle.box_trials.specs.declared.boxes.Place.{Place}
 use Rattle.box_trials.specs.declared.bench.Bench.{Bench}
 use Rattle.box_trials.specs.declared.trial.Trial.{Trial}
@@ -34,19 +34,19 @@ pub record IsPlaceIn (core : Core) (place : Place) : Type 0 where
 abbrev pub ArePlacesIn : Core → List Place → Type 0
 ArePlacesIn core places = (i : ℕ) (place : Place) → slice_get places i ≡ Some place → IsPlaceIn core place
 
--- The compiled box is the box at some part of a state, and the cells are those of its inputs, whatever values they hold. So it
--- can make an execute step.
-pub record CanStep (core : Core) (b : BoxC) (compiled : CompiledView) (cells : List CellView) : Type 0 where
+-- The compiled box is the box at some part of a state, and the cells of the side are those of its inputs, whatever values they
+-- hold. So it can make an execute step.
+pub record CanStep (core : Core) (b : BoxC) (compiled : CompiledView) (side : List ℕ) (home : List (Option CellView)) : Type 0 where
   pub part : Part
   pub at : IsBoxAt core b part compiled
-  pub cells_are : AreInputCells core (port_types b.ins) cells
+  pub inputs : AreInputsAtHome core (port_types b.ins) side home
 
 -- the bench has the box as code, with cells of its inputs and the bare form of its core, and is ready for a step
 pub record IsReady (core : Core) (b : BoxC) (bench : Bench) : Type 0 where
   pub sound : IsSoundBox core b
   pub there : slice_get core.nodes bench.node ≡ Some (Rules b)
   pub bare_is : bench.bare ≡ bare_of core
-  pub can : CanStep core b bench.compiled bench.cells.items
+  pub can : CanStep core b bench.compiled bench.side.items bench.home.items
 
 -- the compiled box has as many outputs, and they are not too many
 pub record HasOutputs (ports : List PortC) (compiled : CompiledView) : Type 0 where

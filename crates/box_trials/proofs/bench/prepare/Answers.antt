@@ -35,6 +35,6 @@ returns-clause-ready c =
         part = first_part c.args.b.now;
         at = c.in_ok-compiled.ensures.at accepted.core c.args.b.now forms
             (its_program accepted.core c.args.place c.args.b.now c.requires.place c.requires.there);
-        cells_are = c.in_ok-cells.ensures;
+        inputs = c.in_ok-side.ensures;
       };
     }

@@ -62,3 +62,7 @@ fair_core = record {
   nodes = Rules fair_box ∷ [];
   wires = wire_to 0 1 ∷ wire_to 1 2 ∷ [];
 }
+
+-- the numbers of the wires to the inputs of the box
+abbrev pub fair_side : List ℕ
+fair_side = 0 ∷ 1 ∷ []
