@@ -1,12 +1,12 @@
 #!/usr/bin/env bash
-# net.sh [TOOL [PLAIN]]: times a superstep of a generated net of 200 boxes, 10 streams and 400 wires by `TOOL run` (by default the
-# program of dist/) beside the same net in C (net.c, gcc -O2) and, if it is given, beside a second tool, such as one of an earlier
-# commit that runs the plain net. All are timed in turn, least of five runs, and the time of few supersteps is taken off. What the
-# streams bring out has to be what the C program says.
+# net.sh [TOOL [TRIALS]]: times a superstep of a generated net of 200 boxes, 10 streams and 400 wires by `TOOL run` (by default the
+# program of dist/) beside the same net in C (net.c, gcc -O2) and, if the built program `box_trials` is given, beside the plain net,
+# which the meaning of programs is compared with. All are timed in turn, least of five runs, and the time of few supersteps is taken
+# off. What the streams bring out has to be what the C program says.
 set -eu
 here=$(dirname -- "$(readlink -f -- "${BASH_SOURCE[0]}")")
 tool=$(readlink -f -- "${1:-$here/../dist/hume-x86_64-linux}")
-plain=${2:+$(readlink -f -- "$2")}
+trials=${2:+$(readlink -f -- "$2")}
 room=$(mktemp -d)
 trap 'rm -rf -- "$room"' EXIT
 cd -- "$room"
@@ -72,4 +72,4 @@ echo '| program | supersteps | ns a superstep |'
 echo '|---|---|---|'
 row 'C, two loops' 1000 201000 ./net 7 @
 row hume 100 20100 "$tool" run @ 1 net.hume c{0..9}
-[ -z "$plain" ] || row 'plain net' 100 600 "$plain" run @ 1 net.hume c{0..9}
+[ -z "$trials" ] || row 'plain net' 50 250 "$trials" net net.hume @
