@@ -1,4 +1,5 @@
 pub mod Schedules
 pub mod Playing
+pub mod Groups
 pub mod Turns
 pub mod inner
