@@ -3,15 +3,7 @@ pub mod Cuts
 pub mod DepthSteps
 pub mod Digits
 pub mod KeptByLines
-pub mod KeptNumbers
-pub mod Measures
-pub mod NumberForms
 pub mod OnRules
-pub mod Parts
-pub mod ResultForms
-pub mod ResultParts
 pub mod ScriptLines
 pub mod Short
 pub mod ShortTypes
-pub mod Sums
-pub mod UnfoldForms

@@ -1,4 +1,3 @@
 pub mod Lines
 pub mod Scripts
 pub mod Kept
-pub mod inner

@@ -16,9 +16,6 @@
 #![tactic(auto)]
 
 mod apart;
-mod calls;
-mod copies;
-mod counts;
 mod depths;
 mod laws;
 mod lines;
@@ -26,13 +23,10 @@ mod names;
 mod naming;
 mod numbers;
 mod output;
-mod renumbering;
 mod rewriting;
 mod scripts;
 mod swap;
 mod unfold;
-mod unfolding;
-mod unfolding_results;
 mod variables;
 
 pub use laws::{scripts_keep_cores_sound, scripts_keep_nets, scripts_keep_runs};

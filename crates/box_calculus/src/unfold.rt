@@ -4,11 +4,10 @@ ghost use Rattle.calculus_laws.specs.declared.step.CalcError.TheVariants.{NoMemo
 ghost use Rattle.calculus_laws.specs.Naming.{variables};
 ghost use Rattle.calculus_laws.specs.Unfolding.{result_unfolded, unfold_refusal, unfolded_at};
 
-use crate::counts::count;
 use crate::depths::result_is_within;
-use crate::unfolding_results::unfold_result;
 use crate::variables::rule_variables;
 use calculus_laws::{CalcError, MAX_RESULT_DEPTH};
+use calculus_unfolding::{count, unfold_result};
 use hume_model::{BoxC, Core, Res, RuleC};
 use std::alloc::{AllocError, Global};
 

@@ -87,7 +87,12 @@ impl Builder {
 
     /// An `if` of the last three cores.
     pub fn branches(&mut self, alloc: Global) -> Result<(), AllocError>
-        ensures { OnOk result (self.new ≡ (if_core (top_core (drop 2 self.old.0)) (top_core (drop 1 self.old.0)) (top_core self.old.0) ∷ drop 3 self.old.0, self.old.1, self.old.2)) }
+        ensures { OnOk result (self.new ≡ (
+          if_core (top_core (drop 2 self.old.0)) (top_core (drop 1 self.old.0)) (top_core self.old.0)
+              ∷ drop 3 self.old.0,
+          self.old.1,
+          self.old.2,
+        )) }
     {
         forms::branches(alloc, &mut self.cores)
     }
@@ -108,7 +113,12 @@ impl Builder {
 
     /// An operation on the last two cores.
     pub fn operation(&mut self, alloc: Global, operation: Op, ty: Ty) -> Result<(), AllocError>
-        ensures { OnOk result (self.new ≡ (operation_core operation ty (top_core (drop 1 self.old.0)) (top_core self.old.0) ∷ drop 2 self.old.0, self.old.1, self.old.2)) }
+        ensures { OnOk result (self.new ≡ (
+          operation_core operation ty (top_core (drop 1 self.old.0)) (top_core self.old.0)
+              ∷ drop 2 self.old.0,
+          self.old.1,
+          self.old.2,
+        )) }
     {
         forms::operation(alloc, &mut self.cores, operation, ty)
     }
@@ -143,7 +153,12 @@ impl Builder {
 
     /// A vector of so many with another element.
     pub fn update(&mut self, alloc: Global, count: u32) -> Result<(), AllocError>
-        ensures { OnOk result (self.new ≡ (update_core count (top_core (drop 2 self.old.0)) (top_core (drop 1 self.old.0)) (top_core self.old.0) ∷ drop 3 self.old.0, self.old.1, self.old.2)) }
+        ensures { OnOk result (self.new ≡ (
+          update_core count (top_core (drop 2 self.old.0)) (top_core (drop 1 self.old.0)) (top_core self.old.0)
+              ∷ drop 3 self.old.0,
+          self.old.1,
+          self.old.2,
+        )) }
     {
         forms::update(alloc, &mut self.cores, count)
     }
@@ -199,7 +214,12 @@ impl Builder {
 
     /// A `case` of the last core with the last alternatives.
     pub fn alternatives(&mut self, alloc: Global, ty: Ty, count: usize) -> Result<(), AllocError>
-        ensures { OnOk result (self.new ≡ (case_core ty (top_core self.old.0) (reverse (take count self.old.2)) ∷ drop 1 self.old.0, self.old.1, drop count self.old.2)) }
+        ensures { OnOk result (self.new ≡ (
+          case_core ty (top_core self.old.0) (reverse (take count self.old.2))
+              ∷ drop 1 self.old.0,
+          self.old.1,
+          drop count self.old.2,
+        )) }
     {
         let arms = gather::arms(alloc, &mut self.arms, count)?;
         forms::alternatives(alloc, &mut self.cores, ty, arms)

@@ -1,5 +1,5 @@
 //! The core of each form of expression, from the last cores of a stack.
-ghost use Rattle.std.specs.Prelude.{◌≡◌, ◌∷◌, [], ◌||◌, drop, OnOk};
+ghost use Rattle.std.specs.Prelude.{◌≡◌, ◌∷◌, [], ◌||◌, drop, IfOk, OnOk};
 ghost use Rattle.hume_model.specs.declared.core_tree.Expr.{Prim, Case as CaseCore};
 ghost use Rattle.check_typing.specs.Cores.{let_core, if_core, and_core, or_core, operation_core, index_core, update_core, raise_with_core};
 ghost use Rattle.check_cores.specs.Stacks.{top_core};
@@ -14,42 +14,24 @@ type Cores = Stack<(Expr, bool)>;
 pub(crate) fn raise_with(alloc: Global, cores: &mut Cores, exn: u32) -> Result<(), AllocError>
     ensures { OnOk result (cores.new ≡ raise_with_core exn (top_core cores.old) ∷ drop 1 cores.old) }
 {
-    let Some((part, too_wide)) = cores.pop() else {
-        return Err(AllocError);
-    };
-    let part = Box::new(alloc, part)?;
+    let (part, too_wide) = last(alloc, cores)?;
     cores.push((Expr::Raise(exn, Some(part)), too_wide))
 }
 
 pub(crate) fn binding(alloc: Global, cores: &mut Cores) -> Result<(), AllocError>
     ensures { OnOk result (cores.new ≡ let_core (top_core (drop 1 cores.old)) (top_core cores.old) ∷ drop 2 cores.old) }
 {
-    let Some((body, body_wide)) = cores.pop() else {
-        return Err(AllocError);
-    };
-    let Some((part, part_wide)) = cores.pop() else {
-        return Err(AllocError);
-    };
-    let part = Box::new(alloc, part)?;
-    let body = Box::new(alloc, body)?;
+    let (body, body_wide) = last(alloc, cores)?;
+    let (part, part_wide) = last(alloc, cores)?;
     cores.push((Expr::Let(part, body), part_wide || body_wide))
 }
 
 pub(crate) fn branches(alloc: Global, cores: &mut Cores) -> Result<(), AllocError>
     ensures { OnOk result (cores.new ≡ if_core (top_core (drop 2 cores.old)) (top_core (drop 1 cores.old)) (top_core cores.old) ∷ drop 3 cores.old) }
 {
-    let Some((when_false, b)) = cores.pop() else {
-        return Err(AllocError);
-    };
-    let Some((when_true, a)) = cores.pop() else {
-        return Err(AllocError);
-    };
-    let Some((test, t)) = cores.pop() else {
-        return Err(AllocError);
-    };
-    let test = Box::new(alloc, test)?;
-    let when_true = Box::new(alloc, when_true)?;
-    let when_false = Box::new(alloc, when_false)?;
+    let (when_false, b) = last(alloc, cores)?;
+    let (when_true, a) = last(alloc, cores)?;
+    let (test, t) = last(alloc, cores)?;
     cores.push((Expr::If(test, when_true, when_false), t || (a || b)))
 }
 
@@ -109,32 +91,17 @@ pub(crate) fn applied(
 pub(crate) fn element(alloc: Global, cores: &mut Cores, count: u32) -> Result<(), AllocError>
     ensures { OnOk result (cores.new ≡ index_core count (top_core (drop 1 cores.old)) (top_core cores.old) ∷ drop 2 cores.old) }
 {
-    let Some((place, p)) = cores.pop() else {
-        return Err(AllocError);
-    };
-    let Some((vector, v)) = cores.pop() else {
-        return Err(AllocError);
-    };
-    let vector = Box::new(alloc, vector)?;
-    let place = Box::new(alloc, place)?;
+    let (place, p) = last(alloc, cores)?;
+    let (vector, v) = last(alloc, cores)?;
     cores.push((Expr::Index(count, vector, place), v || p))
 }
 
 pub(crate) fn update(alloc: Global, cores: &mut Cores, count: u32) -> Result<(), AllocError>
     ensures { OnOk result (cores.new ≡ update_core count (top_core (drop 2 cores.old)) (top_core (drop 1 cores.old)) (top_core cores.old) ∷ drop 3 cores.old) }
 {
-    let Some((item, i)) = cores.pop() else {
-        return Err(AllocError);
-    };
-    let Some((place, p)) = cores.pop() else {
-        return Err(AllocError);
-    };
-    let Some((vector, v)) = cores.pop() else {
-        return Err(AllocError);
-    };
-    let vector = Box::new(alloc, vector)?;
-    let place = Box::new(alloc, place)?;
-    let item = Box::new(alloc, item)?;
+    let (item, i) = last(alloc, cores)?;
+    let (place, p) = last(alloc, cores)?;
+    let (vector, v) = last(alloc, cores)?;
     cores.push((Expr::Update(count, vector, place, item), v || (p || i)))
 }
 
@@ -147,9 +114,18 @@ pub(crate) fn alternatives(
     ensures { OnOk result (cores.new ≡ (CaseCore (top_core cores.old).0 ty arms.0, (top_core cores.old).1 || arms.1) ∷ drop 1 cores.old) }
 {
     let (arms, some_too_wide) = arms;
+    let (part, too_wide) = last(alloc, cores)?;
+    cores.push((Expr::Case(part, ty, arms), too_wide || some_too_wide))
+}
+
+// Takes the last core out, to be a part of another.
+fn last(alloc: Global, cores: &mut Cores) -> Result<(Box<Expr>, bool), AllocError>
+    ensures taken { IfOk result (λ taken. taken ≡ top_core cores.old) }
+    ensures left { OnOk result (cores.new ≡ drop 1 cores.old) }
+{
     let Some((part, too_wide)) = cores.pop() else {
         return Err(AllocError);
     };
     let part = Box::new(alloc, part)?;
-    cores.push((Expr::Case(part, ty, arms), too_wide || some_too_wide))
+    Ok((part, too_wide))
 }

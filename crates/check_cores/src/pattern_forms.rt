@@ -42,7 +42,15 @@ impl Builder {
         place: u32,
         count: usize,
     ) -> Result<(), AllocError>
-        ensures { OnOk result (self.new ≡ (self.old.0, (ConPat place (pat_cores (reverse (take count self.old.1))), some_pat_too_wide (reverse (take count self.old.1))) ∷ drop count self.old.1, self.old.2)) }
+        ensures { OnOk result (self.new ≡ (
+          self.old.0,
+          (
+            ConPat place (pat_cores (reverse (take count self.old.1))),
+            some_pat_too_wide
+                (reverse (take count self.old.1)),
+          ) ∷ drop count self.old.1,
+          self.old.2,
+        )) }
     {
         let (parts, too_wide) = gather::patterns(alloc, &mut self.patterns, count)?;
         self.patterns.push((PatC::Con(place, parts), too_wide))?;
@@ -51,7 +59,15 @@ impl Builder {
 
     /// A pattern of a tuple of the last patterns.
     pub fn same_tuple(&mut self, alloc: Global, count: usize) -> Result<(), AllocError>
-        ensures { OnOk result (self.new ≡ (self.old.0, (TuplePat (pat_cores (reverse (take count self.old.1))), some_pat_too_wide (reverse (take count self.old.1))) ∷ drop count self.old.1, self.old.2)) }
+        ensures { OnOk result (self.new ≡ (
+          self.old.0,
+          (
+            TuplePat (pat_cores (reverse (take count self.old.1))),
+            some_pat_too_wide
+                (reverse (take count self.old.1)),
+          ) ∷ drop count self.old.1,
+          self.old.2,
+        )) }
     {
         let (parts, too_wide) = gather::patterns(alloc, &mut self.patterns, count)?;
         self.patterns.push((PatC::Tuple(parts), too_wide))?;

@@ -1,11 +1,3 @@
-pub mod Sameness
-pub mod Loops
-pub mod TypeSteps
-pub mod PatternSteps
-pub mod Climbing
-pub mod TreeSteps
-pub mod ExpSteps
-pub mod ExpLoops
 pub mod DeclSteps
 pub mod BoxSteps
 pub mod ItemSteps

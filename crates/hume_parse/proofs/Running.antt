@@ -27,7 +27,7 @@ use Rattle.parse_readers.proofs.ItemsRead.{spelled_item as spelled_line, MayStan
 use Rattle.parse_readers.proofs.AllItemsRead.{items_end as lines_end, items_turn as lines_turn}
 use Rattle.parse_readers.proofs.ProgramsRead.{all_tokens}
 use Rattle.parse_errors.proofs.ReportedPlaces.{kinds_length}
-use Rattle.hume_parse.proofs.Loops.{fails_on}
+use Rattle.parse_expressions.proofs.Loops.{fails_on}
 
 abbrev Equations : Type 0
 Equations = List (List ℕ × List Pat × Exp)

@@ -11,14 +11,14 @@ ghost use Rattle.parse_readers.specs.inner.Declarations.{rules as rules_read, or
 ghost use Rattle.parse_readers.specs.inner.Declarations.{handlers as handlers_read, handler as handler_read};
 ghost use Rattle.parse_readers.specs.inner.Declarations.{is_carried, carried_pat};
 
-use crate::expressions::expression;
-use crate::patterns::input_pattern;
-use crate::tokens::{after_sign, after_word, behind, lower, next_is_sign, next_is_word, upper};
-use crate::types::ty;
 use hume_ast::{Decl, Exp, Pat, TyExp};
 use hume_base::limits::MAX_DEPTH;
 use hume_base::{Keyword, Kind, List, Symbol, Text, Token};
 use parse_errors::Stop;
+use parse_expressions::tokens::{
+    after_sign, after_word, behind, lower, next_is_sign, next_is_word, upper,
+};
+use parse_expressions::{expression, input_pattern, ty};
 use std::alloc::Global;
 
 /// The inputs and the outputs of a box.

@@ -13,15 +13,14 @@ ghost use Rattle.parse_readers.specs.inner.Declarations.{way as way_read, wire_e
 ghost use Rattle.parse_readers.specs.inner.Declarations.{first_value as first_read};
 
 use crate::boxes::box_decl;
-use crate::expressions::expression;
-use crate::tokens::{
-    after_sign, after_word, behind, lower, next_is_sign, next_is_word, number, port, upper,
-};
-use crate::types::ty;
 use hume_ast::{Decl, Exp, TyExp};
 use hume_base::limits::MAX_DEPTH;
 use hume_base::{Keyword, Kind, List, Symbol, Text, Token};
 use parse_errors::Stop;
+use parse_expressions::tokens::{
+    after_sign, after_word, behind, lower, next_is_sign, next_is_word, number, port, upper,
+};
+use parse_expressions::{expression, ty};
 use std::alloc::Global;
 
 /// A declaration of anything but a function from the front of the tokens.

@@ -4,14 +4,12 @@ ghost use Rattle.parse_errors.specs.inner.Gives.{Gives};
 ghost use Rattle.parse_readers.specs.inner.Declarations.{signature as signature_read, equation as equation_read};
 ghost use Rattle.parse_readers.specs.inner.Declarations.{some_patterns as patterns_read};
 
-use crate::expressions::expression;
-use crate::patterns::{pat_atom, starts_pat};
-use crate::tokens::after_sign;
-use crate::types::{ty, type_list};
 use hume_ast::{Exp, Pat, TyExp};
 use hume_base::limits::MAX_DEPTH;
 use hume_base::{List, Symbol, Token};
 use parse_errors::Stop;
+use parse_expressions::tokens::after_sign;
+use parse_expressions::{expression, pat_atom, starts_pat, ty, type_list};
 use std::alloc::Global;
 
 /// The types of a function, behind its name.

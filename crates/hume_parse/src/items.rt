@@ -7,10 +7,10 @@ ghost use Rattle.parse_readers.specs.inner.Items.{item as line, named_item as na
 
 use crate::declarations::whole_decl;
 use crate::functions::{equation, signature};
-use crate::tokens::{lower, next_is_lower, next_is_sign};
 use hume_base::limits::MAX_DEPTH;
 use hume_base::{Symbol, Token};
 use parse_errors::Stop;
+use parse_expressions::tokens::{lower, next_is_lower, next_is_sign};
 use parse_items::{Expecting, Item};
 use std::alloc::Global;
 

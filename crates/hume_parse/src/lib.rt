@@ -13,16 +13,9 @@
 
 mod boxes;
 mod declarations;
-mod expressions;
 mod functions;
 mod items;
-mod leaves;
-mod operators;
 mod parser;
-mod patterns;
 mod program;
-mod tokens;
-mod trees;
-mod types;
 
 pub use parser::parse;

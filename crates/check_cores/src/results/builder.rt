@@ -82,7 +82,12 @@ impl ResultBuilder {
 
     /// An `if` of the core and the last two results.
     pub fn branches(&mut self, alloc: Global, test: (Expr, bool)) -> Result<(), AllocError>
-        ensures { OnOk result (self.new ≡ (if_result_core test (top_result (drop 1 self.old.0)) (top_result self.old.0) ∷ drop 2 self.old.0, self.old.1, self.old.2)) }
+        ensures { OnOk result (self.new ≡ (
+          if_result_core test (top_result (drop 1 self.old.0)) (top_result self.old.0)
+              ∷ drop 2 self.old.0,
+          self.old.1,
+          self.old.2,
+        )) }
     {
         forms::branches(alloc, &mut self.results, test)
     }

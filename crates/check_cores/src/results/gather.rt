@@ -15,7 +15,11 @@ pub(crate) fn outputs(
     stack: &mut Stack<(Option<Expr>, bool)>,
     count: usize,
 ) -> Result<(List<Option<Expr>>, bool), AllocError>
-    ensures gathered { IfOk result (λ all. all ≡ (map (λ out. out.0) (reverse (take count stack.old)), list_any (λ out. out.1) (reverse (take count stack.old)))) }
+    ensures gathered { IfOk result (λ all. all ≡ (
+      map (λ out. out.0) (reverse (take count stack.old)),
+      list_any (λ out. out.1)
+          (reverse (take count stack.old)),
+    )) }
     ensures left { OnOk result (stack.new ≡ drop count stack.old) }
 {
     let items = stack.take_last(count)?;
@@ -43,7 +47,11 @@ pub(crate) fn arms(
     stack: &mut Stack<ResultArm>,
     count: usize,
 ) -> Result<(List<(PatC, Res)>, bool), AllocError>
-    ensures gathered { IfOk result (λ all. all ≡ (result_arm_cores (reverse (take count stack.old)), list_any (λ arm. arm.0.1 || arm.1.1) (reverse (take count stack.old)))) }
+    ensures gathered { IfOk result (λ all. all ≡ (
+      result_arm_cores (reverse (take count stack.old)),
+      list_any (λ arm. arm.0.1 || arm.1.1)
+          (reverse (take count stack.old)),
+    )) }
     ensures left { OnOk result (stack.new ≡ drop count stack.old) }
 {
     let items = stack.take_last(count)?;

@@ -7,7 +7,7 @@ use Rattle.std.specs.Prelude.{◌+◌, ◌*◌}
 use denote.Param.Weighed.{most}
 use Rattle.hume_model.specs.declared.core_tree.Expr.{size-Expr}
 use Rattle.hume_model.proofs.Ranks.{arms_size}
-use Rattle.box_calculus.proofs.Measures.{part_size}
+use Rattle.calculus_unfolding.proofs.Measures.{part_size}
 use Rattle.box_calculus.proofs.depths.+is_within.Given as goal
 
 abbrev pub decreases-is_within : goal.decreases-is_within

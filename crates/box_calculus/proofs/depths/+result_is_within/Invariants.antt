@@ -4,7 +4,7 @@ use Rattle.hume_model.specs.declared.core_tree.Res.{Res}
 use Rattle.calculus_laws.specs.Depth.{deepest_arm, result_depth}
 use Rattle.std.specs.Prelude.{◌+◌, ◌*◌}
 use Rattle.hume_model.specs.declared.core_tree.Res.{size-Res}
-use Rattle.box_calculus.proofs.Measures.{ways_size}
+use Rattle.calculus_unfolding.proofs.Measures.{ways_size}
 use Rattle.box_calculus.proofs.depths.+result_is_within.Given as goal
 
 abbrev pub decreases-result_is_within : goal.decreases-result_is_within

@@ -5,7 +5,7 @@ use Rattle.hume_base.specs.declared.token.Kind.TheVariants.{Sign}
 use Rattle.hume_ast.specs.Places.{kinds}
 use Rattle.parse_readers.specs.inner.Readers.{listed, many, led, is_sign}
 use Rattle.parse_readers.specs.inner.Declarations.{handler}
-use Rattle.hume_parse.proofs.Loops.{joined}
+use Rattle.parse_expressions.proofs.Loops.{joined}
 use Rattle.hume_parse.proofs.boxes.handler_list.Given as goal
 
 abbrev pub invariant-items : goal.invariant-items

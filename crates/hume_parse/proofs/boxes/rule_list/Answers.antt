@@ -3,7 +3,7 @@ use Rattle.hume_base.specs.declared.limits.TheConstants.{MAX_DEPTH}
 use Rattle.std.proofs.lemmas.Result.{err_from_is_err_and}
 use Rattle.hume_base.specs.declared.symbol.Symbol.TheVariants.{Bar}
 use Rattle.parse_readers.proofs.DeclarationParts.{rule_reads}
-use Rattle.hume_parse.proofs.Loops.{parts_stop, parts_turn, parts_fail}
+use Rattle.parse_expressions.proofs.Loops.{parts_stop, parts_turn, parts_fail}
 use Rattle.hume_parse.proofs.boxes.rule_list.Goals as goal
 
 pub returns-in_err-item-clause-reads : goal.returns-in_err-item-clause-reads

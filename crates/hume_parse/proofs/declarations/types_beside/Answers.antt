@@ -3,7 +3,7 @@ use Rattle.hume_base.specs.declared.limits.TheConstants.{MAX_DEPTH}
 use Rattle.std.proofs.lemmas.Result.{err_from_is_err_and}
 use Rattle.parse_readers.specs.inner.Types.{types}
 use Rattle.parse_readers.specs.inner.Declarations.{starts_type}
-use Rattle.hume_parse.proofs.Loops.{beside_stop, beside_turn, beside_fail}
+use Rattle.parse_expressions.proofs.Loops.{beside_stop, beside_turn, beside_fail}
 use Rattle.hume_parse.proofs.DeclSteps.{types_shrink}
 use Rattle.hume_parse.proofs.declarations.types_beside.Goals as goal
 

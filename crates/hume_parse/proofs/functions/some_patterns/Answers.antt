@@ -3,7 +3,7 @@ use Rattle.hume_base.specs.declared.limits.TheConstants.{MAX_DEPTH}
 use Rattle.std.proofs.lemmas.Result.{err_from_is_err_and}
 use Rattle.parse_readers.specs.inner.Patterns.{patterns, starts_pat}
 use Rattle.parse_readers.proofs.PatternsRead.{atoms_shrink}
-use Rattle.hume_parse.proofs.Loops.{beside_stop, beside_turn, beside_fail}
+use Rattle.parse_expressions.proofs.Loops.{beside_stop, beside_turn, beside_fail}
 use Rattle.hume_parse.proofs.functions.some_patterns.Goals as goal
 
 pub returns-in_err-item-clause-reads : goal.returns-in_err-item-clause-reads

@@ -4,7 +4,7 @@ use Rattle.hume_ast.specs.Places.{kinds}
 use Rattle.parse_readers.specs.inner.Readers.{many}
 use Rattle.parse_readers.specs.inner.Patterns.{patterns, starts_pat}
 use Rattle.parse_readers.specs.inner.Declarations.{some_patterns}
-use Rattle.hume_parse.proofs.Loops.{joined}
+use Rattle.parse_expressions.proofs.Loops.{joined}
 use Rattle.hume_parse.proofs.functions.some_patterns.Given as goal
 
 abbrev pub invariant-items : goal.invariant-items

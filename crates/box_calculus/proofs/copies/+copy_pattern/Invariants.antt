@@ -1,5 +1,0 @@
-use Rattle.std.proofs.Common.{◌≡◌, take}
-use Rattle.box_calculus.proofs.copies.+copy_pattern.Given as goal
-
-abbrev pub invariant-copy_patterns-loop-pattern : goal.invariant-copy_patterns-loop-pattern
-invariant-copy_patterns-loop-pattern l = l.copies ≡ take l.pattern-index l.patterns

@@ -1,5 +1,0 @@
-use Rattle.hume_parse.proofs.ExpLoops.{exp_left}
-use Rattle.hume_parse.proofs.expressions.expression.Goals as goal
-
-pub returns-clause-shorter : goal.returns-clause-shorter
-returns-clause-shorter c = exp_left 64 c.args.rest.now c.in_ok-found.rest.now _ c.in_ok-found.ensures

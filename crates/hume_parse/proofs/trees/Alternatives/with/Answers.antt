@@ -1,6 +1,0 @@
-use Rattle.std.proofs.Common.{◌∙◌}
-use Rattle.hume_parse.proofs.TreeSteps.{one_alternative}
-use Rattle.hume_parse.proofs.trees.Alternatives.with.Goals as goal
-
-pub invariant_of-result : goal.invariant_of-result
-invariant_of-result c = record { counts = c.deeper.ensures _ _ c.args.self.counts c.args.tree.counts ∙ one_alternative _ _ (c.args.pattern, c.args.tree.exp) c.in_ok-push.ensures.ok }

@@ -1,8 +1,0 @@
-use Rattle.std.proofs.Common.{sym, ap, ◌∙◌}
-use Rattle.hume_ast.specs.Depth.{exp_depth}
-use Rattle.hume_parse.specs.inner.Measures.{counted}
-use Rattle.hume_parse.proofs.TreeSteps.{parens_depth}
-use Rattle.hume_parse.proofs.trees.parens_tree.Goals as goal
-
-pub invariant_of-result : goal.invariant_of-result
-invariant_of-result c = record { counts = c.one_deeper-depth.ensures _ c.args.parts.counts ∙ ap counted (sym (ap exp_depth c.in_ok-exp.ensures ∙ parens_depth c.args.parts.items)) }

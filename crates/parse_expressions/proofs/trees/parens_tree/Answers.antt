@@ -1,0 +1,8 @@
+use Rattle.std.proofs.Common.{sym, ap, ◌∙◌}
+use Rattle.hume_ast.specs.Depth.{exp_depth}
+use Rattle.parse_expressions.specs.inner.Measures.{counted}
+use Rattle.parse_expressions.proofs.TreeSteps.{parens_depth}
+use Rattle.parse_expressions.proofs.trees.parens_tree.Goals as goal
+
+pub invariant_of-result : goal.invariant_of-result
+invariant_of-result c = record { counts = c.one_deeper-depth.ensures _ c.args.parts.counts ∙ ap counted (sym (ap exp_depth c.in_ok-exp.ensures ∙ parens_depth c.args.parts.items)) }
