@@ -1,13 +1,14 @@
-//! The program: `console WORKERS SOURCE PORT..`, where the words from SOURCE on name the files that are ports. The commands come from
+//! The program `console`: `console WORKERS SOURCE PORT..`, where the words from SOURCE on name the files that are ports. The commands come from
 //! the standard input, and the answers go to the standard output.
 //!
-//! The ports `std_in` and `std_out` are always there.
+//! A file gets each line at once. The ports `std_in` and `std_out` are always there.
 //!
 //! Proved: nothing beyond safety; `main` makes the ports and passes words and ports to `hume_console::console`, and has no contract.
 #![tactic(auto)]
 
+use direct_ports::DirectFile;
 use hume_console::{Ending, console, read_words};
-use hume_ports::{FilePort, Port, StdIn, StdOut, find};
+use hume_ports::{Port, StdIn, StdOut, find};
 use std::alloc::{AllocError, Global};
 use std::env;
 use std::io::ErrorKind;
@@ -34,7 +35,7 @@ fn run<R: Threads + Sync>(rt: &HostRuntime, threads: &R) -> Result<Ending, Alloc
     if let Some(opening) = read_words(&words) {
         for word in words.iter().skip(opening.source) {
             if !is_standard(word) && find(&ports, word).is_none() {
-                ports.push(Box::new(alloc, FilePort::make(rt, alloc, word)?)?)?;
+                ports.push(Box::new(alloc, DirectFile::make(rt, alloc, word)?)?)?;
             }
         }
     }

@@ -1,10 +1,11 @@
-//! The program: `hume check SOURCE`, `hume run STEPS WORKERS SOURCE PORT..`, `hume trace` with the words of a run, or
-//! `hume union STEPS WORKERS COUNT SOURCE.. PORT..`, where the words from SOURCE on name the files that are ports; or
-//! `hume demo NUMBER STEPS WORKERS`.
+//! The program `hume`: it makes the ports that the words of a call name, and makes the call over them.
 //!
-//! The ports `std_in` and `std_out` are always there.
+//! The words are those of `hume_calls::words`, such as `hume run STEPS WORKERS SOURCE PORT..`. Those from SOURCE on name the files that
+//! are ports; `hume demo NUMBER STEPS WORKERS` names none. The ports `std_in` and `std_out` are always there.
 //!
 //! Proved: nothing beyond safety; `main` makes the ports and passes words and ports to `hume_run::hume`, and has no contract.
+//!
+//! It knows files, the words of the command and exit statuses. It doesn't know what a call does.
 #![tactic(auto)]
 
 use hume_ports::{FilePort, Port, StdIn, StdOut, find};

@@ -27,8 +27,8 @@ use Rattle.phase_workers.specs.RightQueues.{IsRightBehind}
 use Rattle.phase_workers.specs.StreamTypes.{type_at}
 use Rattle.run_rounds.specs.declared.rounds.TheConstants.{SPAN}
 use Rattle.run_rounds.specs.Opened.{IsFresh}
-use Rattle.hume_run.specs.Owed.{table_writes}
-use Rattle.hume_run.specs.Reading.{source_reads}
+use Rattle.hume_calls.specs.Owed.{table_writes}
+use Rattle.hume_calls.specs.Reading.{source_reads}
 use Rattle.hume_console.specs.declared.places.Places.{Places}
 use Rattle.hume_console.specs.declared.session.Session.{Session as Served}
 use Rattle.hume_console.specs.Words.{std_in}
@@ -46,7 +46,7 @@ use Rattle.hume_console.specs.declared.command_lines.CommandLines.{CommandLines}
 use Rattle.run_rounds.specs.Streams.{std_out}
 use Rattle.trace_print.specs.InTurn.{EndsLines, lines_to}
 use Rattle.trace_print.specs.table.Table.{space_table}
-use Rattle.hume_run.proofs.FitPorts.{found_place}
+use Rattle.hume_calls.proofs.FitPorts.{found_place}
 use Rattle.std.proofs.lemmas.List.{length-map}
 use Rattle.hume_console.specs.inner.Placed.{ArePlaced}
 use Rattle.hume_console.specs.inner.Standing.{AreRead, Bindings, Call, IsServing, Stands, session_of}

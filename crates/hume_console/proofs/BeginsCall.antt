@@ -24,9 +24,9 @@ use Rattle.hume_front.proofs.Sources.{formed, handled, one_accepted_core, within
 use Rattle.phase_workers.specs.Runnable.{IsRunnable}
 use Rattle.run_rounds.specs.Inputs.{AreInputs, ComesTo, Inputs}
 use Rattle.run_rounds.specs.Streams.{std_out, stream_of, streams}
-use Rattle.hume_run.specs.Streams.{is_unfit, unfit_line}
-use Rattle.hume_run.proofs.Runnable.{runnable}
-use Rattle.hume_run.proofs.Wanting.{stream_apart}
+use Rattle.hume_calls.specs.Streams.{is_unfit, unfit_line}
+use Rattle.hume_calls.proofs.Runnable.{runnable}
+use Rattle.hume_calls.proofs.Wanting.{stream_apart}
 use Rattle.hume_console.specs.declared.ending.Ending.{Ending}
 use Rattle.hume_console.specs.declared.ending.Ending.TheVariants.{NoMemory, Usage}
 use Rattle.hume_console.specs.declared.places.Places.{Places}

@@ -7,8 +7,8 @@ use Rattle.hume_net.specs.Sides.{on_wire, part_of}
 use Rattle.hume_ports.specs.Delivery.{Pairs}
 use Rattle.port_acts.specs.Acts.{Act, wants, write_each}
 use Rattle.port_acts.specs.Early.{read_each}
-use Rattle.hume_run.specs.Owed.{table_writes}
-use Rattle.hume_run.specs.Reading.{source_reads}
+use Rattle.hume_calls.specs.Owed.{table_writes}
+use Rattle.hume_calls.specs.Reading.{source_reads}
 use Rattle.hume_streams.specs.Lines.{lines_of}
 use Rattle.run_rounds.specs.Streams.{std_out}
 use Rattle.trace_print.specs.InTurn.{lines_to}

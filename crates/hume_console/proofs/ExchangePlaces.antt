@@ -7,7 +7,7 @@ use Rattle.hume_model.specs.declared.core_tree.Core.{Core}
 use Rattle.hume_ports.specs.declared.port.Failed.{Failed}
 use Rattle.hume_ports.specs.Port.{PortView}
 use Rattle.hume_ports.specs.Ports.{names, place_of, ForNameAt}
-use Rattle.hume_run.proofs.FitPorts.{found_place}
+use Rattle.hume_calls.proofs.FitPorts.{found_place}
 use Rattle.port_acts.specs.Ends.{Ends, never}
 use Rattle.phase_workers.specs.Engines.{EngineView as Engine}
 use Rattle.phase_workers.specs.Engines.{core_of, span_of, state_of, ArePeaksKept}

@@ -11,7 +11,7 @@ use Rattle.hume_net.specs.Nodes.{IsOutput, IsOutputStream}
 use Rattle.hume_ports.specs.declared.port.Failed.{Failed}
 use Rattle.hume_ports.specs.Port.{PortView}
 use Rattle.hume_ports.specs.Ports.{names, other_names, place_of, ForNameAt}
-use Rattle.hume_run.proofs.FitPorts.{found_place}
+use Rattle.hume_calls.proofs.FitPorts.{found_place}
 use Rattle.port_acts.specs.Acts.{Act, finish_each, finishes}
 use Rattle.port_acts.specs.Ends.{Ends, Fails, Made, never}
 use Rattle.port_acts.proofs.Making.{Made-on, Made-start}

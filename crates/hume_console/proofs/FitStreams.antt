@@ -13,8 +13,8 @@ use Rattle.hume_model.specs.declared.core_tree.StreamC.{StreamC}
 use Rattle.hume_ports.specs.Ports.{is_among, place_of}
 use Rattle.hume_ports.proofs.Names.{bytes_eq-self}
 use Rattle.run_rounds.specs.Streams.{stream_of}
-use Rattle.hume_run.specs.Streams.{is_unfit, unfit_line}
-use Rattle.hume_run.proofs.Wanting.{stream_apart}
+use Rattle.hume_calls.specs.Streams.{is_unfit, unfit_line}
+use Rattle.hume_calls.proofs.Wanting.{stream_apart}
 
 some_of : (o : Option ℕ) → is_none o ≡ false → (p : ℕ) × (o ≡ Some p)
 some_of None e = cc

@@ -9,7 +9,7 @@ use Rattle.box_costs.specs.declared.cost.Cost.{Cost}
 use Rattle.hume_ports.specs.declared.port.Failed.{Failed}
 use Rattle.hume_ports.specs.Port.{PortView}
 use Rattle.hume_ports.specs.Ports.{names}
-use Rattle.hume_run.proofs.FitPorts.{found_place}
+use Rattle.hume_calls.proofs.FitPorts.{found_place}
 use Rattle.hume_text.specs.declared.chunk.Chunk.{Chunk}
 use Rattle.hume_text.specs.Chunks.{room_of}
 use Rattle.port_acts.specs.Acts.{Act, write_each, writes}

@@ -31,9 +31,9 @@ use Rattle.trace_print.specs.InTurn.{lines_to}
 use Rattle.trace_print.specs.TraceLines.{peak_lines, wire_lines}
 use Rattle.run_rounds.specs.Streams.{std_out, streams}
 use Rattle.run_rounds.specs.Writes.{bad_value_line, name_of}
-use Rattle.hume_run.specs.Owed.{table_writes}
-use Rattle.hume_run.specs.Streams.{unfit_line}
-use Rattle.hume_run.proofs.Runnable.{runnable}
+use Rattle.hume_calls.specs.Owed.{table_writes}
+use Rattle.hume_calls.specs.Streams.{unfit_line}
+use Rattle.hume_calls.proofs.Runnable.{runnable}
 use Rattle.hume_console.specs.declared.ending.Ending.TheVariants.{BadValue}
 use Rattle.hume_console.specs.Commands.{Command, Step, Wires, Peaks, Exchange, End, command_of, is_bad_line, no_command_line}
 use Rattle.hume_console.specs.Courses.{Course, first_do}

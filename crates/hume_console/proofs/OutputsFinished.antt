@@ -24,7 +24,7 @@ use Rattle.trace_print.specs.TraceLines.{peak_lines, wire_lines}
 use Rattle.trace_print.specs.table.Table.{space_table}
 use Rattle.run_rounds.specs.Streams.{std_out, stream_of, streams}
 use Rattle.run_rounds.specs.Writes.{bad_value_line, name_of}
-use Rattle.hume_run.specs.Streams.{unfit_line}
+use Rattle.hume_calls.specs.Streams.{unfit_line}
 use Rattle.hume_console.specs.declared.ending.Ending.{Ending}
 use Rattle.hume_console.specs.declared.ending.Ending.TheVariants.{BadValue, Done}
 use Rattle.hume_console.specs.Commands.{Command, Step, Wires, Peaks, Exchange, End, command_of, is_bad_line, no_command_line, no_exchange_line}

@@ -14,7 +14,7 @@ use Rattle.hume_model.specs.declared.core_tree.StreamC.{StreamC}
 use Rattle.hume_model.specs.declared.core_tree.Core.{Core}
 use Rattle.hume_ports.specs.Ports.{place_of}
 use Rattle.hume_ports.proofs.Names.{same_name, bytes_eq-self}
-use Rattle.hume_run.proofs.FitPorts.{found_place}
+use Rattle.hume_calls.proofs.FitPorts.{found_place}
 use Rattle.run_rounds.specs.Streams.{std_out, stream_of}
 use Rattle.hume_console.specs.declared.places.Places.{Places}
 use Rattle.hume_console.specs.Words.{std_in}

@@ -13,11 +13,11 @@ use Rattle.port_acts.proofs.Making.{Made-start}
 use Rattle.hume_front.specs.declared.acceptance.Accepted.{Accepted}
 use Rattle.hume_front.specs.Accepted.{IsAccepted, Breaks}
 use Rattle.run_rounds.specs.Streams.{ArePlacesOf, ArePortsApart, std_out, streams}
-use Rattle.hume_run.specs.Few.{source_few}
-use Rattle.hume_run.specs.Owed.{owed_refused}
-use Rattle.hume_run.specs.Reading.{source_reads, source_text}
-use Rattle.hume_run.specs.Streams.{unfit_line}
-use Rattle.hume_run.proofs.FitPorts.{found_place}
+use Rattle.hume_calls.specs.Few.{source_few}
+use Rattle.hume_calls.specs.Owed.{owed_refused}
+use Rattle.hume_calls.specs.Reading.{source_reads, source_text}
+use Rattle.hume_calls.specs.Streams.{unfit_line}
+use Rattle.hume_calls.proofs.FitPorts.{found_place}
 use Rattle.hume_console.specs.declared.ending.Ending.{Ending}
 use Rattle.hume_console.specs.declared.ending.Ending.TheVariants.{Fault, NoMemory, Refused}
 use Rattle.hume_console.specs.declared.places.Places.{Places}

@@ -12,8 +12,8 @@ use Rattle.hume_ports.specs.Port.{PortView}
 use Rattle.hume_ports.specs.Ports.{names, ForNameAt}
 use Rattle.hume_ports.specs.Delivery.{Pairs, bytes_for}
 use Rattle.hume_ports.proofs.Names.{bytes_for-append, same_name}
-use Rattle.hume_run.specs.Words.{number_of}
-use Rattle.hume_run.proofs.FitPorts.{found_place}
+use Rattle.hume_calls.specs.Words.{number_of}
+use Rattle.hume_calls.proofs.FitPorts.{found_place}
 use Rattle.hume_streams.specs.Lines.{lines_of, whole_lines}
 use Rattle.port_acts.specs.Acts.{Act, wants, write_each}
 use Rattle.port_acts.specs.Ends.{Made}

@@ -10,7 +10,7 @@ use Rattle.hume_ports.specs.declared.port.Failed.{Failed}
 use Rattle.hume_ports.specs.Port.{PortView}
 use Rattle.hume_ports.specs.Ports.{names, place_of, ForNameAt, Untouched}
 use Rattle.hume_ports.specs.Delivery.{Roomy}
-use Rattle.hume_run.proofs.FitPorts.{found_place}
+use Rattle.hume_calls.proofs.FitPorts.{found_place}
 use Rattle.hume_streams.specs.declared.queue.FillError.{FillError}
 use Rattle.hume_streams.specs.declared.queue.FillError.TheVariants.{BadValue as BadLineRead, Failed as ReadFailed}
 use Rattle.phase_workers.specs.Engines.{EngineView as Engine}

@@ -21,7 +21,7 @@ use Rattle.hume_net.proofs.rounds_lemmas.Streams.{others_take_nothing}
 use Rattle.hume_ports.specs.declared.port.Failed.{Failed}
 use Rattle.hume_ports.specs.Port.{PortView}
 use Rattle.hume_ports.specs.Ports.{names, place_of}
-use Rattle.hume_run.proofs.FitPorts.{found_place}
+use Rattle.hume_calls.proofs.FitPorts.{found_place}
 use Rattle.port_acts.specs.Acts.{write_each}
 use Rattle.port_acts.specs.Ends.{Ends, never}
 use Rattle.box_costs.specs.declared.cost.Cost.{Cost}

@@ -3,7 +3,7 @@ use Rattle.std.specs.Prelude.{ℕ, ◌+◌, ◌==◌, Bool, ◌&&◌, ◌||◌, 
 use Rattle.std.specs.List.{position}
 use Rattle.std.specs.Str.{bytes_eq}
 use Rattle.run_rounds.specs.declared.rounds.TheConstants.{SPAN}
-use Rattle.hume_run.specs.Words.{number_of}
+use Rattle.hume_calls.specs.Words.{number_of}
 use Rattle.hume_console.specs.declared.command_lines.TheConstants.{MAX_COMMAND_BYTES}
 use Rattle.hume_console.specs.declared.session.TheConstants.{MAX_COMMANDS}
 

@@ -19,10 +19,10 @@ use Rattle.port_acts.specs.Early.{Stops, read_each}
 use Rattle.port_acts.specs.Ends.{Few}
 use Rattle.phase_workers.specs.StreamTypes.{type_at}
 use Rattle.run_rounds.specs.Streams.{std_out, streams}
-use Rattle.hume_run.specs.Few.{source_few}
-use Rattle.hume_run.specs.Owed.{owed_refused, table_writes}
-use Rattle.hume_run.specs.Reading.{source_reads, source_text}
-use Rattle.hume_run.specs.Streams.{unfit_line}
+use Rattle.hume_calls.specs.Few.{source_few}
+use Rattle.hume_calls.specs.Owed.{owed_refused, table_writes}
+use Rattle.hume_calls.specs.Reading.{source_reads, source_text}
+use Rattle.hume_calls.specs.Streams.{unfit_line}
 use Rattle.hume_console.specs.declared.ending.Ending.{Ending}
 use Rattle.hume_console.specs.declared.ending.Ending.TheVariants.{Usage, Refused, Fault, NoMemory}
 use Rattle.hume_console.specs.declared.words.Opening.{Opening}

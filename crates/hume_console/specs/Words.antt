@@ -2,7 +2,7 @@
 use Rattle.std.specs.Prelude.{ℕ, Bool, ◌&&◌, ◌||◌, List, ◌∷◌, Option, None, Some, if◌then◌else◌, nat_le, codes}
 use Rattle.std.specs.Str.{bytes_eq}
 use Rattle.hume_base.specs.declared.limits.TheConstants.{MAX_WORKERS}
-use Rattle.hume_run.specs.Words.{number_of}
+use Rattle.hume_calls.specs.Words.{number_of}
 use Rattle.run_rounds.specs.Streams.{std_out}
 use Rattle.hume_console.specs.declared.words.Opening.{Opening}
 

@@ -17,8 +17,10 @@ use run_rounds::is_output;
 
 /// Finishes the ports of a session that has come to its end.
 pub fn finish(session: &Session, ports: &mut [Box<dyn Port>]) -> Result<(), Failed>
-    requires at { (call : Call) × (ending : Ending) × (gone : List PortView) × StandsClosed call ending session.now (record { ports = map view ports.old; gone = gone }) }
-    ensures ends { (call : Call) (ending : Ending) (gone : List PortView) → StandsClosed call ending session.now (record { ports = map view ports.old; gone = gone })
+    requires at { (call : Call) × (ending : Ending) × (gone : List PortView)
+        × StandsClosed call ending session.now (record { ports = map view ports.old; gone = gone }) }
+    ensures ends { (call : Call) (ending : Ending) (gone : List PortView)
+        → StandsClosed call ending session.now (record { ports = map view ports.old; gone = gone })
         → EndsClosed call ending (record { ports = map view ports.new; gone = gone }) result }
     ensures same_names { names (map view ports.new) ≡ names (map view ports.old) }
 {

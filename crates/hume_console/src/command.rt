@@ -1,11 +1,11 @@
 ghost use Rattle.std.specs.Prelude.{◌≡◌, ◌<◌, length, IfSome};
 ghost use Rattle.std.specs.List.{position};
 ghost use Rattle.std.specs.Option.{option_map};
-ghost use Rattle.hume_run.specs.Words.{number_of};
+ghost use Rattle.hume_calls.specs.Words.{number_of};
 ghost use Rattle.hume_console.specs.inner.Asked.{asked_by};
 ghost use Rattle.hume_console.specs.Commands.{command_of, exchange_at, exchange_of, is_space, step_of};
 
-use hume_run::words::numbers::{is_number, value};
+use hume_calls::words::numbers::{is_number, value};
 use run_rounds::SPAN;
 
 /// What a line asks for.

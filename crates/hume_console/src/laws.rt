@@ -4,7 +4,7 @@ ghost use Rattle.hume_model.specs.declared.core_tree.Core.{Core};
 ghost use Rattle.hume_ports.specs.Port.{PortView};
 ghost use Rattle.hume_ports.specs.Ports.{place_of};
 ghost use Rattle.run_rounds.specs.Streams.{std_out, streams};
-ghost use Rattle.hume_run.specs.Streams.{unfit_line};
+ghost use Rattle.hume_calls.specs.Streams.{unfit_line};
 ghost use Rattle.hume_console.specs.declared.ending.Ending.{Ending};
 ghost use Rattle.hume_console.specs.declared.ending.Ending.TheVariants.{Fault};
 ghost use Rattle.hume_console.specs.Hands.{Hands};

@@ -3,7 +3,7 @@ ghost use Rattle.hume_base.specs.declared.rule.Rule.TheVariants.{C55};
 ghost use Rattle.hume_ports.specs.Port.{PortView};
 ghost use Rattle.hume_ports.specs.Ports.{names, place_of};
 ghost use Rattle.run_rounds.specs.Streams.{ArePlacesOf, ArePortsApart, std_out as output, streams};
-ghost use Rattle.hume_run.specs.Streams.{unfit_line};
+ghost use Rattle.hume_calls.specs.Streams.{unfit_line};
 ghost use Rattle.hume_console.specs.Words.{std_in as commands};
 ghost use Rattle.hume_console.specs.inner.Begun.{EndsAnswered};
 ghost use Rattle.hume_console.specs.inner.Prepared.{HasRead, IsPrepared};
@@ -12,10 +12,10 @@ use crate::ending::Ending;
 use crate::places::Places;
 use crate::refusing::refuse;
 use hume_base::{Refusal, Rule};
+use hume_calls::{PlacesError, SourceError, find_places, read_source};
 use hume_front::{Accepted, FrontError, accept};
 use hume_model::Core;
 use hume_ports::Port;
-use hume_run::{PlacesError, SourceError, find_places, read_source};
 use std::alloc::Global;
 
 /// A source that is accepted, and the places of its session's ports.

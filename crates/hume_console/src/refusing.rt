@@ -1,13 +1,13 @@
 ghost use Rattle.std.specs.Prelude.{◌≡◌, Some, map};
 ghost use Rattle.hume_ports.specs.Ports.{names, place_of};
 ghost use Rattle.run_rounds.specs.Streams.{std_out};
-ghost use Rattle.hume_run.specs.Owed.{owed_refused};
+ghost use Rattle.hume_calls.specs.Owed.{owed_refused};
 ghost use Rattle.hume_console.specs.inner.Begun.{EndsAlone};
 
 use crate::ending::Ending;
 use hume_base::Refusal;
+use hume_calls::refused_line;
 use hume_ports::{Failed, Port};
-use hume_run::refused_line;
 use port_acts::write_and_finish;
 use std::alloc::Global;
 

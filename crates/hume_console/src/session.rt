@@ -128,8 +128,10 @@ impl Session {
         requires roomy { IsRoomy self.old }
         requires room { vec_len gone.old + vec_len ports.old ≤ vec_capacity gone.old }
         requires number { number ≤ MAX_COMMANDS }
-        requires at { (call : Call) × StandsBeforeLine call number length self.old (record { ports = map view ports.old.items; gone = map view gone.old.items }) }
-        ensures ends { (call : Call) → StandsBeforeLine call number length self.old (record { ports = map view ports.old.items; gone = map view gone.old.items })
+        requires at { (call : Call) × StandsBeforeLine call number length self.old
+            (record { ports = map view ports.old.items; gone = map view gone.old.items }) }
+        ensures ends { (call : Call) → StandsBeforeLine call number length self.old
+            (record { ports = map view ports.old.items; gone = map view gone.old.items })
             → EndsLine call number self.new (record { ports = map view ports.new.items; gone = map view gone.new.items }) result }
         ensures roomy { OnOk result (IsRoomy self.new) }
         ensures room { vec_len gone.new + vec_len ports.new ≤ vec_capacity gone.new }

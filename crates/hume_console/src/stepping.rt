@@ -120,7 +120,8 @@ fn fill_node(
 ) -> Result<Option<u64>, Failed>
     requires runnable { IsRunnable (core_of engine.old) }
     requires within { node < length (core_of engine.old).nodes }
-    requires filling { (step : Step) × (places : List ℕ) × (slice_index_or places node 0 ≡ at) × IsFilling step node want places engine.old (map view ports.old) }
+    requires filling { (step : Step) × (places : List ℕ) × (slice_index_or places node 0 ≡ at)
+        × IsFilling step node want places engine.old (map view ports.old) }
     ensures core { core_of engine.new ≡ core_of engine.old }
     ensures ends { (step : Step) (places : List ℕ) → slice_index_or places node 0 ≡ at → IsFilling step node want places engine.old (map view ports.old)
         → EndsNode step node engine.new (map view ports.new) result }

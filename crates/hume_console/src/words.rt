@@ -3,7 +3,7 @@ ghost use Rattle.hume_base.specs.declared.limits.TheConstants.{MAX_WORKERS};
 ghost use Rattle.hume_console.specs.Words.{is_standard as standard, opening_of, workers_of as asked_workers};
 
 use hume_base::limits::MAX_WORKERS;
-use hume_run::words::numbers::{is_number, value};
+use hume_calls::words::numbers::{is_number, value};
 
 /// The place of the source's name among the words.
 const SOURCE: usize = 1;

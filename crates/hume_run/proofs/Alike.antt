@@ -20,26 +20,26 @@ use Rattle.port_acts.proofs.Stopping.{end_alike}
 use Rattle.phase_workers.specs.StreamTypes.{type_at}
 use Rattle.run_rounds.specs.Inputs.{AreInputs, ComesTo, Inputs}
 use Rattle.run_rounds.specs.Streams.{streams}
-use Rattle.hume_run.specs.declared.status.Status.{Status}
-use Rattle.hume_run.specs.declared.status.Status.TheVariants.{Usage, Fault, NoMemory}
-use Rattle.hume_run.specs.declared.order.Order.{Order}
-use Rattle.hume_run.specs.declared.order.Order.TheVariants.{Run, Calc, Log, Check, Union, Demo}
-use Rattle.hume_run.specs.Streams.{unfit_line}
-use Rattle.hume_run.specs.Owed.{IsOwed, IsOwedLogged, IsOwedScript}
-use Rattle.hume_run.specs.Words.{Named, order_of, named_by, further_of, source_alone}
-use Rattle.hume_run.specs.Reading.{script_text, source_reads, source_text}
-use Rattle.hume_run.specs.Few.{call_few}
-use Rattle.hume_run.specs.Headline.{Answers, AnswersAlone, AnswersFrom, Headline, IsText, LacksPort, OwesAlone}
-use Rattle.hume_run.specs.Calls.{OwesOver, HaveRoom, GivesOwed, HaveSameTexts, IsThrough}
-use Rattle.hume_run.specs.Unions.{IsUnionRefusal, MayUnite, text_of, union_core, union_texts}
-use Rattle.hume_run.proofs.Answering.{Ended}
-use Rattle.hume_run.proofs.PortsApart.{union_fit}
-use Rattle.hume_run.proofs.Programs.{many_programs}
-use Rattle.hume_run.proofs.OneOwed.{OneOutcome, SomeOutcome, some_owed, one_owed}
-use Rattle.hume_run.proofs.OneScript.{OneInputs, SomeInputs}
-use Rattle.hume_run.proofs.ScriptWords.{NamesFurther, further_there}
-use Rattle.hume_run.proofs.Texts.{told_texts, told_by_all}
-use Rattle.hume_run.proofs.Wanting.{fit_inputs}
+use Rattle.hume_calls.specs.declared.status.Status.{Status}
+use Rattle.hume_calls.specs.declared.status.Status.TheVariants.{Usage, Fault, NoMemory}
+use Rattle.hume_calls.specs.declared.order.Order.{Order}
+use Rattle.hume_calls.specs.declared.order.Order.TheVariants.{Run, Calc, Log, Check, Union, Demo}
+use Rattle.hume_calls.specs.Streams.{unfit_line}
+use Rattle.hume_calls.specs.Owed.{IsOwed, IsOwedLogged, IsOwedScript}
+use Rattle.hume_calls.specs.Words.{Named, order_of, named_by, further_of, source_alone}
+use Rattle.hume_calls.specs.Reading.{script_text, source_reads, source_text}
+use Rattle.hume_calls.specs.Few.{call_few}
+use Rattle.hume_calls.specs.Headline.{Answers, AnswersAlone, AnswersFrom, Headline, IsText, LacksPort, OwesAlone}
+use Rattle.hume_calls.specs.Calls.{OwesOver, HaveRoom, GivesOwed, HaveSameTexts, IsThrough}
+use Rattle.hume_calls.specs.Unions.{IsUnionRefusal, MayUnite, text_of, union_core, union_texts}
+use Rattle.hume_calls.proofs.Answering.{Ended}
+use Rattle.hume_calls.proofs.PortsApart.{union_fit}
+use Rattle.hume_calls.proofs.Programs.{many_programs}
+use Rattle.hume_calls.proofs.OneOwed.{OneOutcome, SomeOutcome, some_owed, one_owed}
+use Rattle.hume_calls.proofs.OneScript.{OneInputs, SomeInputs}
+use Rattle.hume_calls.proofs.ScriptWords.{NamesFurther, further_there}
+use Rattle.hume_calls.proofs.Texts.{told_texts, told_by_all}
+use Rattle.hume_calls.proofs.Wanting.{fit_inputs}
 
 -- calls with room
 

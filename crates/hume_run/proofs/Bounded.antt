@@ -15,7 +15,7 @@ use Rattle.run_rounds.specs.Inputs.{Inputs, AreInputs}
 use Rattle.phase_workers.specs.Runnable.{IsRunnable}
 use Rattle.hume_net.specs.StateTyping.{ComingAreTyped}
 use Rattle.hume_model.specs.declared.core_tree.Core.{Core}
-use Rattle.hume_run.proofs.Runnable.{runnable}
+use Rattle.hume_calls.proofs.Runnable.{runnable}
 
 -- What comes is of the types of the streams.
 abbrev pub TypedInputs : Type 0

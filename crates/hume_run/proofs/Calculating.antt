@@ -32,22 +32,23 @@ use Rattle.hume_front.proofs.Sources.{one_sound_core}
 use Rattle.run_rounds.specs.Inputs.{Inputs, AreInputs, ComesTo}
 use Rattle.run_rounds.specs.Streams.{streams}
 use Rattle.run_rounds.specs.RunActs.{run_few}
-use Rattle.hume_run.specs.declared.status.Status.{Status}
-use Rattle.hume_run.specs.declared.status.Status.TheVariants.{Fault}
-use Rattle.hume_run.specs.declared.order.Order.{Order}
-use Rattle.hume_run.specs.declared.order.Order.TheVariants.{Calc}
-use Rattle.hume_run.specs.Calc.{IsScriptRefusal}
-use Rattle.hume_run.specs.Few.{call_few, source_few}
-use Rattle.hume_run.specs.Headline.{IsText}
-use Rattle.hume_run.specs.Owed.{IsOwedScript, owed_refused, owed_run}
-use Rattle.hume_run.specs.Reading.{script_reads, script_text}
-use Rattle.hume_run.specs.Streams.{unfit_line}
-use Rattle.hume_run.specs.Words.{Named, further_of}
-use Rattle.hume_run.specs.inner.Ended.{EndsAfter, EndsScript, EndsText, EndsUnsound, RunsCore, RunsOut, refuses, runs, runs_out}
-use Rattle.hume_run.proofs.Answering.{WantsTell, meant, out_of_memory, owed_text, wants_apart}
-use Rattle.hume_run.proofs.OneScript.{SomeInputs, some_script}
-use Rattle.hume_run.proofs.Texts.{text_before, told_by_all, told_texts}
-use Rattle.hume_run.proofs.Wanting.{apart_from_earlier}
+use Rattle.hume_calls.specs.declared.status.Status.{Status}
+use Rattle.hume_calls.specs.declared.status.Status.TheVariants.{Fault}
+use Rattle.hume_calls.specs.declared.order.Order.{Order}
+use Rattle.hume_calls.specs.declared.order.Order.TheVariants.{Calc}
+use Rattle.hume_calls.specs.Calc.{IsScriptRefusal}
+use Rattle.hume_calls.specs.Few.{call_few, source_few}
+use Rattle.hume_calls.specs.Headline.{IsText}
+use Rattle.hume_calls.specs.Owed.{IsOwedScript, owed_refused, owed_run}
+use Rattle.hume_calls.specs.Reading.{script_reads, script_text}
+use Rattle.hume_calls.specs.Streams.{unfit_line}
+use Rattle.hume_calls.specs.Words.{Named, further_of}
+use Rattle.hume_calls.specs.Ended.{EndsAfter, EndsText, RunsCore, RunsOut}
+use Rattle.hume_run.specs.inner.ScriptEnds.{EndsScript, EndsUnsound, refuses, runs, runs_out}
+use Rattle.hume_calls.proofs.Answering.{WantsTell, meant, out_of_memory, owed_text, wants_apart}
+use Rattle.hume_calls.proofs.OneScript.{SomeInputs, some_script}
+use Rattle.hume_calls.proofs.Texts.{text_before, told_by_all, told_texts}
+use Rattle.hume_calls.proofs.Wanting.{apart_from_earlier}
 
 ok_same : (x y : Core) → ◌≡◌ {A = Result Core ScriptError} (Ok x) (Ok y) → x ≡ y
 ok_same x y is = (let same : x ≡ y = cc in same)

@@ -12,12 +12,12 @@ use Rattle.port_acts.specs.Early.{after_reads}
 use Rattle.port_acts.specs.Ends.{Fails, IsFew, Owed, never}
 use Rattle.port_acts.proofs.ActLists.{written-append}
 use Rattle.port_acts.proofs.Failing.{failure_since}
-use Rattle.hume_run.specs.declared.status.Status.{Status}
-use Rattle.hume_run.specs.declared.order.Order.{Order}
-use Rattle.hume_run.specs.Words.{Named}
-use Rattle.hume_run.specs.Few.{call_few}
-use Rattle.hume_run.specs.Reading.{source_reads}
-use Rattle.hume_run.specs.Faults.{CountRose, ReadRose, HasFault, of_source, of_read, of_write, of_finish, HasFaultAlone, alone_write, alone_finish}
+use Rattle.hume_calls.specs.declared.status.Status.{Status}
+use Rattle.hume_calls.specs.declared.order.Order.{Order}
+use Rattle.hume_calls.specs.Words.{Named}
+use Rattle.hume_calls.specs.Few.{call_few}
+use Rattle.hume_calls.specs.Reading.{source_reads}
+use Rattle.hume_calls.specs.Faults.{CountRose, ReadRose, HasFault, of_source, of_read, of_write, of_finish, HasFaultAlone, alone_write, alone_finish}
 
 or_right : (a b : Bool) → b ≡ true → (a || b) ≡ true
 or_right true b is = refl

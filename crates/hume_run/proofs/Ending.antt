@@ -14,12 +14,13 @@ use Rattle.box_calculus.specs.Scripts.{scripted}
 use Rattle.hume_ports.specs.Port.{PortView}
 use Rattle.hume_ports.specs.Ports.{names}
 use Rattle.run_rounds.specs.Streams.{streams}
-use Rattle.hume_run.specs.declared.status.Status.{Status}
-use Rattle.hume_run.specs.declared.status.Status.TheVariants.{NoMemory}
-use Rattle.hume_run.specs.Calc.{IsScriptRefusal, of_box, of_line, of_stream, rule_of_cause, script_refusal}
-use Rattle.hume_run.specs.Owed.{owed_refused}
-use Rattle.hume_run.specs.Streams.{unfit_line}
-use Rattle.hume_run.specs.inner.Ended.{EndsOwed, EndsScript, RunsCore, RunsOut, refuses, runs, runs_out}
+use Rattle.hume_calls.specs.declared.status.Status.{Status}
+use Rattle.hume_calls.specs.declared.status.Status.TheVariants.{NoMemory}
+use Rattle.hume_calls.specs.Calc.{IsScriptRefusal, of_box, of_line, of_stream, rule_of_cause, script_refusal}
+use Rattle.hume_calls.specs.Owed.{owed_refused}
+use Rattle.hume_calls.specs.Streams.{unfit_line}
+use Rattle.hume_calls.specs.Ended.{EndsOwed, RunsCore, RunsOut}
+use Rattle.hume_run.specs.inner.ScriptEnds.{EndsScript, refuses, runs, runs_out}
 
 module _ (steps : ℕ) (first : Core) (lines source port : List ℕ) (olds news : List PortView) where
   abbrev EndsAs : Status → Type 0

@@ -25,25 +25,25 @@ use Rattle.run_rounds.specs.Streams.{std_out, streams}
 use Rattle.run_rounds.specs.Members.{members_acts}
 use Rattle.run_rounds.specs.Writes.{writes, rounds_writes, told}
 use Rattle.run_rounds.specs.RunActs.{run_acts}
-use Rattle.hume_run.specs.declared.order.Order.{Order}
-use Rattle.hume_run.specs.declared.order.Order.TheVariants.{Run, Calc, Log, Check, Union, Demo}
-use Rattle.hume_run.specs.declared.status.Status.{Status}
-use Rattle.hume_run.specs.Owed.{IsOwed, IsOwedScript, owed_check, owed_demo, owed_program_refused, owed_record, owed_refused, owed_run, owed_union, owed_verify, program_refused_line, refused_line, table_writes, demo_writes, run_finishes}
-use Rattle.hume_run.specs.Streams.{unfit_line}
-use Rattle.hume_run.specs.Words.{Named, further_of, source_alone}
-use Rattle.hume_run.specs.Few.{call_few}
-use Rattle.hume_run.specs.Reading.{read_first, reads_whole, script_text, source_reads}
-use Rattle.hume_run.specs.Unions.{program_members, union_core, union_table, union_texts}
-use Rattle.hume_run.specs.Headline.{OwesAlone}
-use Rattle.hume_run.specs.Faults.{FailedInput, ReadRose}
-use Rattle.hume_run.proofs.Answering.{WantsTell, wants_apart}
+use Rattle.hume_calls.specs.declared.order.Order.{Order}
+use Rattle.hume_calls.specs.declared.order.Order.TheVariants.{Run, Calc, Log, Check, Union, Demo}
+use Rattle.hume_calls.specs.declared.status.Status.{Status}
+use Rattle.hume_calls.specs.Owed.{IsOwed, IsOwedScript, owed_check, owed_demo, owed_program_refused, owed_record, owed_refused, owed_run, owed_union, owed_verify, program_refused_line, refused_line, table_writes, demo_writes, run_finishes}
+use Rattle.hume_calls.specs.Streams.{unfit_line}
+use Rattle.hume_calls.specs.Words.{Named, further_of, source_alone}
+use Rattle.hume_calls.specs.Few.{call_few}
+use Rattle.hume_calls.specs.Reading.{read_first, reads_whole, script_text, source_reads}
+use Rattle.hume_calls.specs.Unions.{program_members, union_core, union_table, union_texts}
+use Rattle.hume_calls.specs.Headline.{OwesAlone}
+use Rattle.hume_calls.specs.Faults.{FailedInput, ReadRose}
+use Rattle.hume_calls.proofs.Answering.{WantsTell, wants_apart}
 use Rattle.log_rounds.specs.RecordActs.{record_acts}
 use Rattle.log_rounds.specs.Outcomes.{Outcome}
 use Rattle.log_rounds.specs.VerifyActs.{outcome_line, verify_acts, verify_reads}
-use Rattle.hume_run.proofs.Logging.{RecordReads, input_apart, record_reads}
-use Rattle.hume_run.proofs.Programs.{many_programs}
-use Rattle.hume_run.proofs.UnionWants.{members_finish_nothing, nothing_before, union_wants_apart, unwritten_before, whole_names}
-use Rattle.hume_run.proofs.Wanting.{split, want_of_run, no_want_of_writes}
+use Rattle.hume_calls.proofs.Logging.{RecordReads, input_apart, record_reads}
+use Rattle.hume_calls.proofs.Programs.{many_programs}
+use Rattle.hume_calls.proofs.UnionWants.{members_finish_nothing, nothing_before, union_wants_apart, unwritten_before, whole_names}
+use Rattle.hume_calls.proofs.Wanting.{split, want_of_run, no_want_of_writes}
 
 -- what a call writes
 

@@ -9,21 +9,21 @@ use Rattle.hume_ports.specs.Port.{PortView}
 use Rattle.hume_ports.specs.Ports.{place_of}
 use Rattle.port_acts.specs.Ends.{Owed}
 use Rattle.run_rounds.specs.Streams.{std_out}
-use Rattle.hume_run.specs.declared.status.Status.{Status}
-use Rattle.hume_run.specs.declared.status.Status.TheVariants.{Fault, Refused, Usage}
-use Rattle.hume_run.specs.declared.order.Order.{Order}
-use Rattle.hume_run.specs.declared.order.Order.TheVariants.{Calc, Log}
-use Rattle.hume_run.specs.Headline.{Answers, Headline, IsUsage, LacksPort}
+use Rattle.hume_calls.specs.declared.status.Status.{Status}
+use Rattle.hume_calls.specs.declared.status.Status.TheVariants.{Fault, Refused, Usage}
+use Rattle.hume_calls.specs.declared.order.Order.{Order}
+use Rattle.hume_calls.specs.declared.order.Order.TheVariants.{Calc, Log}
+use Rattle.hume_calls.specs.Headline.{Answers, Headline, IsUsage, LacksPort}
 use Rattle.log_rounds.specs.declared.verdict.Verdict.{Verdict}
 use Rattle.log_rounds.specs.declared.verdict.Verdict.TheVariants.{Holds, Fails, Blocked}
 use Rattle.log_rounds.specs.Outcomes.{verdict_of}
 use Rattle.run_rounds.specs.Inputs.{Inputs}
-use Rattle.hume_run.specs.Owed.{IsOwed, IsOwedLogged, IsOwedScript, run_status, verdict_status}
-use Rattle.hume_run.specs.Words.{Named, further_of, named_by, order_of, source_with}
-use Rattle.hume_run.specs.inner.Places.{further_place, source_place}
-use Rattle.hume_run.specs.inner.Ended.{IsFurtherAt}
-use Rattle.hume_run.proofs.Answering.{Ended}
-use Rattle.hume_run.proofs.FitPorts.{found_place}
+use Rattle.hume_calls.specs.Owed.{IsOwed, IsOwedLogged, IsOwedScript, run_status, verdict_status}
+use Rattle.hume_calls.specs.Words.{Named, further_of, named_by, order_of, source_with}
+use Rattle.hume_calls.specs.Places.{further_place, source_place}
+use Rattle.hume_calls.specs.Ended.{IsFurtherAt}
+use Rattle.hume_calls.proofs.Answering.{Ended}
+use Rattle.hume_calls.proofs.FitPorts.{found_place}
 
 -- one word, and the words from it to the next
 

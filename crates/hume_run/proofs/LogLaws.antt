@@ -13,9 +13,9 @@ use Rattle.log_rounds.specs.declared.verdict.Verdict.TheVariants as verdict
 use Rattle.log_rounds.specs.Supersteps.{before_blocked, blocked_superstep, supersteps_made}
 use Rattle.log_rounds.specs.RecordActs.{record_acts}
 use Rattle.log_rounds.specs.Outcomes.{Outcome, verdict_of}
-use Rattle.hume_run.specs.declared.status.Status.{Status}
-use Rattle.hume_run.specs.declared.status.Status.TheVariants.{Done, BadValue, LogFails}
-use Rattle.hume_run.specs.Owed.{IsOwedLogged, owed_record, run_status, verdict_status}
+use Rattle.hume_calls.specs.declared.status.Status.{Status}
+use Rattle.hume_calls.specs.declared.status.Status.TheVariants.{Done, BadValue, LogFails}
+use Rattle.hume_calls.specs.Owed.{IsOwedLogged, owed_record, run_status, verdict_status}
 use Rattle.hume_run.proofs.LogPorts.{record_written}
 
 -- the statuses of verdicts are those of no others

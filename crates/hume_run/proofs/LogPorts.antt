@@ -12,8 +12,8 @@ use Rattle.run_rounds.specs.Streams.{std_out, inputs, ports_of}
 use Rattle.log_rounds.specs.RecordActs.{record_acts}
 use Rattle.log_rounds.specs.Outcomes.{Outcome}
 use Rattle.log_rounds.specs.VerifyActs.{outcome_line, verify_acts}
-use Rattle.hume_run.specs.Owed.{owed_record, owed_verify}
-use Rattle.hume_run.proofs.Logging.{IsInput, RecordReads, VerifyReads, record_reads, verify_reads}
+use Rattle.hume_calls.specs.Owed.{owed_record, owed_verify}
+use Rattle.hume_calls.proofs.Logging.{IsInput, RecordReads, VerifyReads, record_reads, verify_reads}
 use Rattle.hume_run.proofs.Touching.{all_finished, among_want, first_among, inputs_among, right_true}
 
 -- finishes write nothing more

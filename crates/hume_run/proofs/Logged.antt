@@ -16,12 +16,12 @@ use Rattle.log_rounds.specs.Supersteps.{blocked_superstep}
 use Rattle.log_rounds.specs.RecordActs.{record_acts}
 use Rattle.log_rounds.specs.VerifyActs.{verify_acts, verify_few}
 use Rattle.log_rounds.specs.Ended as ended
-use Rattle.hume_run.specs.declared.status.Status.{Status}
-use Rattle.hume_run.specs.declared.status.Status.TheVariants.{Done, BadValue, Fault}
-use Rattle.hume_run.specs.Owed.{run_status, verdict_status}
+use Rattle.hume_calls.specs.declared.status.Status.{Status}
+use Rattle.hume_calls.specs.declared.status.Status.TheVariants.{Done, BadValue, Fault}
+use Rattle.hume_calls.specs.Owed.{run_status, verdict_status}
 use Rattle.hume_run.specs.inner.LogEnds.{RecordEnds, Records, Verifies, VerifyEnds}
-use Rattle.hume_run.proofs.Answering.{meant}
-use Rattle.hume_run.proofs.FitPorts.{found_named}
+use Rattle.hume_calls.proofs.Answering.{meant}
+use Rattle.hume_calls.proofs.FitPorts.{found_named}
 
 -- the ports at two places
 pub both_named : (ns later : List (List ℕ)) (first second : List ℕ) (at place : ℕ) → IsPlaceOf first ns at → IsPlaceOf second ns place → later ≡ ns

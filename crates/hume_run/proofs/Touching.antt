@@ -30,9 +30,9 @@ use Rattle.run_rounds.specs.Streams.{std_out, input_of, inputs, output_of, outpu
 use Rattle.run_rounds.specs.Inputs.{Inputs}
 use Rattle.run_rounds.specs.Writes.{writes_of_node, writes_of_nodes, superstep_lines, trace_writes, gained_writes, round_writes, rounds_writes, peak_writes, bad_value_writes, writes_until, writes, blocked_round, span_of, blocked_by, told}
 use Rattle.run_rounds.specs.RunActs.{run_acts}
-use Rattle.hume_run.specs.Owed.{owed_run, table_writes, run_finishes}
-use Rattle.hume_run.proofs.Wanting.{want_of_run}
-use Rattle.hume_run.proofs.Answering.{WantsTell}
+use Rattle.hume_calls.specs.Owed.{owed_run, table_writes, run_finishes}
+use Rattle.hume_calls.proofs.Wanting.{want_of_run}
+use Rattle.hume_calls.proofs.Answering.{WantsTell}
 use Rattle.hume_run.proofs.Faulting.{RunsWrite, RunsFinishNothing, run_written}
 
 -- The name of each pair has the property.

@@ -21,28 +21,28 @@ use Rattle.hume_front.specs.declared.acceptance.Accepted.{Accepted}
 use Rattle.phase_workers.specs.StreamTypes.{type_at}
 use Rattle.run_rounds.specs.Inputs.{AreInputs, ComesTo, Inputs}
 use Rattle.run_rounds.specs.RunActs.{run_few}
-use Rattle.hume_run.specs.declared.status.Status.{Status}
-use Rattle.hume_run.specs.declared.status.Status.TheVariants.{Fault, NoMemory}
-use Rattle.hume_run.specs.declared.order.Order.{Order}
-use Rattle.hume_run.specs.declared.order.Order.TheVariants.{Union}
-use Rattle.hume_run.specs.declared.program_refusal.ProgramRefusal.{ProgramRefusal}
-use Rattle.hume_run.specs.Few.{call_few}
-use Rattle.hume_run.specs.Owed.{IsOwed, owed_program_refused, owed_union}
-use Rattle.hume_run.specs.Reading.{reads_whole}
-use Rattle.hume_run.specs.Unions.{AreAccepted, IsUnionRefusal, MayUnite, text_of, union_core, union_texts}
-use Rattle.hume_run.specs.Words.{Named, all_differ}
-use Rattle.hume_run.specs.inner.Ended.{EndsAfter, EndsText}
+use Rattle.hume_calls.specs.declared.status.Status.{Status}
+use Rattle.hume_calls.specs.declared.status.Status.TheVariants.{Fault, NoMemory}
+use Rattle.hume_calls.specs.declared.order.Order.{Order}
+use Rattle.hume_calls.specs.declared.order.Order.TheVariants.{Union}
+use Rattle.hume_calls.specs.declared.program_refusal.ProgramRefusal.{ProgramRefusal}
+use Rattle.hume_calls.specs.Few.{call_few}
+use Rattle.hume_calls.specs.Owed.{IsOwed, owed_program_refused, owed_union}
+use Rattle.hume_calls.specs.Reading.{reads_whole}
+use Rattle.hume_calls.specs.Unions.{AreAccepted, IsUnionRefusal, MayUnite, text_of, union_core, union_texts}
+use Rattle.hume_calls.specs.Words.{Named, all_differ}
+use Rattle.hume_calls.specs.Ended.{EndsAfter, EndsText}
 use Rattle.hume_run.specs.inner.UnionEnds.{EndsUnion, RunsUnion}
 use Rattle.hume_run.specs.inner.UnionReads.{AreRead, ReadFails, ReadsStop}
-use Rattle.hume_run.proofs.Answering.{WantsTell}
-use Rattle.hume_run.proofs.OneOwed.{some_union}
-use Rattle.hume_run.proofs.OneScript.{SomeInputs}
-use Rattle.hume_run.proofs.PortsApart.{union_apart}
-use Rattle.hume_run.proofs.Programs.{cores_same, many_programs}
-use Rattle.hume_run.proofs.Texts.{told_by_all, told_texts}
-use Rattle.hume_run.proofs.UnionOwed.{union_same}
+use Rattle.hume_calls.proofs.Answering.{WantsTell}
+use Rattle.hume_calls.proofs.OneOwed.{some_union}
+use Rattle.hume_calls.proofs.OneScript.{SomeInputs}
+use Rattle.hume_calls.proofs.PortsApart.{union_apart}
+use Rattle.hume_calls.proofs.Programs.{cores_same, many_programs}
+use Rattle.hume_calls.proofs.Texts.{told_by_all, told_texts}
+use Rattle.hume_calls.proofs.UnionOwed.{union_same}
 use Rattle.hume_run.proofs.UnionReading.{all_read_stops, are_texts, not_read, nothing_taken, pairs_of, read_texts, reads_fail, reads_made, stops_between, values_short, were_read}
-use Rattle.hume_run.proofs.UnionWants.{union_wants_apart, whole_names}
+use Rattle.hume_calls.proofs.UnionWants.{union_wants_apart, whole_names}
 
 module _ (steps workers count place : ℕ) (named : Named) (text : List ℕ) where
   abbrev order : Order

@@ -10,17 +10,17 @@ use Rattle.hume_ports.specs.Ports.{names, place_of}
 use Rattle.port_acts.specs.Early.{after_reads}
 use Rattle.port_acts.specs.Ends.{EndsAs, Owed}
 use Rattle.run_rounds.specs.Streams.{std_out}
-use Rattle.hume_run.specs.declared.status.Status.{Status}
-use Rattle.hume_run.specs.declared.status.Status.TheVariants.{Fault, Usage}
-use Rattle.hume_run.specs.declared.order.Order.{Order}
-use Rattle.hume_run.specs.declared.order.Order.TheVariants.{Union}
-use Rattle.hume_run.specs.Few.{call_few}
-use Rattle.hume_run.specs.Headline.{Answers, Headline, IsUsage, LacksPort}
-use Rattle.hume_run.specs.Owed.{IsOwed, run_status}
-use Rattle.hume_run.specs.Reading.{source_reads}
-use Rattle.hume_run.specs.Words.{Named, all_differ, named_by, order_of, source_with}
-use Rattle.hume_run.proofs.Answering.{Ended}
-use Rattle.hume_run.proofs.UnionForms.{NamesSources, first_named, names_sources}
+use Rattle.hume_calls.specs.declared.status.Status.{Status}
+use Rattle.hume_calls.specs.declared.status.Status.TheVariants.{Fault, Usage}
+use Rattle.hume_calls.specs.declared.order.Order.{Order}
+use Rattle.hume_calls.specs.declared.order.Order.TheVariants.{Union}
+use Rattle.hume_calls.specs.Few.{call_few}
+use Rattle.hume_calls.specs.Headline.{Answers, Headline, IsUsage, LacksPort}
+use Rattle.hume_calls.specs.Owed.{IsOwed, run_status}
+use Rattle.hume_calls.specs.Reading.{source_reads}
+use Rattle.hume_calls.specs.Words.{Named, all_differ, named_by, order_of, source_with}
+use Rattle.hume_calls.proofs.Answering.{Ended}
+use Rattle.hume_calls.proofs.UnionForms.{NamesSources, first_named, names_sources}
 
 -- the sources that the words name
 abbrev pub named_sources : List (List ℕ) → ℕ → ℕ → Named

@@ -16,7 +16,7 @@ use Rattle.run_rounds.specs.Opened.{core_in}
 use Rattle.run_rounds.specs.declared.run.Running.{Running}
 use Rattle.run_rounds.specs.Members.{EndsMembers, MemberView, nodes_of, view_of, views}
 use Rattle.run_rounds.proofs.MemberLines.{nodes_more}
-use Rattle.run_rounds.specs.Streams.{ArePlacesOf, std_out, streams}
+use Rattle.run_rounds.specs.Streams.{ArePlacesOf, ArePortsApart, std_out, streams}
 use Rattle.run_rounds.specs.Writes.{told}
 use Rattle.trace_print.specs.InTurn.{EndsLines, lines_to}
 use Rattle.trace_print.specs.table.Table.{box_line, total_line_of}
@@ -26,21 +26,21 @@ use Rattle.union_laws.specs.Union.{behind, followed_by, united}
 use Rattle.union_front.specs.declared.union.Union.{Union}
 use Rattle.union_front.specs.Unions.{IsSoundProgram, IsUnion, PassesAt, core_of, first_of, others_of}
 use Rattle.union_front.proofs.Sound.{accepted_sound}
-use Rattle.hume_run.specs.declared.program_refusal.ProgramRefusal.{ProgramRefusal}
-use Rattle.hume_run.specs.declared.status.Status.{Status}
-use Rattle.hume_run.specs.Owed.{owed_program_refused, run_finishes}
-use Rattle.hume_run.specs.Streams.{unfit_line}
-use Rattle.hume_run.specs.Unions.{AreAccepted, IsUnionRefusal, broken, over, program_line, program_members, program_tables, shared, shared_program, unfit, unfit_program, union_core, union_table, BreaksFirst}
-use Rattle.hume_run.specs.inner.Bounds.{KeepsBounds}
-use Rattle.hume_run.specs.inner.Ended.{EndsOwed}
-use Rattle.hume_run.specs.inner.Ready.{IsReady}
+use Rattle.hume_calls.specs.declared.program_refusal.ProgramRefusal.{ProgramRefusal}
+use Rattle.hume_calls.specs.declared.status.Status.{Status}
+use Rattle.hume_calls.specs.Owed.{owed_program_refused, run_finishes}
+use Rattle.hume_calls.specs.Streams.{unfit_line}
+use Rattle.hume_calls.specs.Unions.{AreAccepted, IsUnionRefusal, broken, over, program_line, program_members, program_tables, shared, shared_program, unfit, unfit_program, union_core, union_table, BreaksFirst}
+use Rattle.hume_calls.specs.Bounds.{KeepsBounds}
+use Rattle.hume_calls.specs.Ended.{EndsOwed}
+use Rattle.hume_calls.specs.Ready.{IsReady}
 use Rattle.hume_run.specs.inner.Texts.{IsPortRefusal}
 use Rattle.hume_run.specs.inner.UnionEnds.{EndsUnion, IsBounded}
-use Rattle.hume_run.proofs.Answering.{meant}
-use Rattle.hume_run.proofs.Opening.{Finishes, finishes_named}
-use Rattle.hume_run.proofs.PortsApart.{union_fit}
-use Rattle.hume_run.proofs.Programs.{each_accepted}
-use Rattle.hume_run.proofs.Runnable.{bounded}
+use Rattle.hume_calls.proofs.Answering.{meant}
+use Rattle.hume_calls.proofs.RunOpened.{Finishes, finishes_named}
+use Rattle.hume_calls.proofs.PortsApart.{union_fit}
+use Rattle.hume_calls.proofs.Programs.{each_accepted}
+use Rattle.hume_calls.proofs.Runnable.{bounded}
 
 -- programs of accepted sources
 
@@ -49,6 +49,19 @@ all_sound = each_accepted IsSoundProgram accepted_sound
 
 pub all_bounded : (texts : List (List ℕ)) (programs : List Accepted) → AreAccepted texts programs → All IsBounded programs
 all_bounded = each_accepted IsBounded bounded
+
+-- what is so of a copy of the programs is so of them
+
+pub union_again : (programs copy : List Accepted) (union : Union) → copy ≡ programs → IsUnion (union_core copy) union → IsUnion (union_core programs) union
+union_again programs copy union same = subst (λ (ps : List Accepted). IsUnion (union_core ps) union) same
+
+pub fit_again : (ns sources : List (List ℕ)) (programs copy : List Accepted) → copy ≡ programs → unfit_program ns sources copy 1 ≡ None
+    → unfit_program ns sources programs 1 ≡ None
+fit_again ns sources programs copy same = subst (λ (ps : List Accepted). unfit_program ns sources ps 1 ≡ None) same
+
+pub apart_again : (sources : List (List ℕ)) (programs copy : List Accepted) → copy ≡ programs → shared_program sources [] copy 1 ≡ None
+    → shared_program sources [] programs 1 ≡ None
+apart_again sources programs copy same = subst (λ (ps : List Accepted). shared_program sources [] ps 1 ≡ None) same
 
 -- what is ready
 
@@ -223,6 +236,9 @@ pub places_still : (running other : Running) (places others : Vec ℕ Global) (n
 places_still running other places others ns same also are =
     subst (λ (r : Running). ArePlacesOf (core_in r) ns others.items) (sym same)
     (subst (λ (ps : Vec ℕ Global). ArePlacesOf (core_in running) ns ps.items) (sym also) are)
+
+pub apart_still : (running other : Running) → other ≡ running → ArePortsApart (core_in running) → ArePortsApart (core_in other)
+apart_still running other same = subst (λ (r : Running). ArePortsApart (core_in r)) (sym same)
 
 -- no stream is unfit
 pub never_unfit : (ns : List (List ℕ)) (first : List ℕ) (core other : Core) (line : ℕ) → core ≡ other → unfit_line ns first [] (streams other) ≡ None

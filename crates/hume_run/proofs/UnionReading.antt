@@ -24,14 +24,14 @@ use Rattle.port_acts.specs.Ends.{Fails, Few, IsFew, Made}
 use Rattle.port_acts.proofs.Failing.{Fails-few, Fails-on, Fails-stop}
 use Rattle.port_acts.proofs.Making.{Made-on, Made-start}
 use Rattle.port_acts.proofs.Stopping.{Stops-on}
-use Rattle.hume_run.specs.Few.{source_few}
-use Rattle.hume_run.specs.Headline.{IsText}
-use Rattle.hume_run.specs.Reading.{reads_whole, source_reads, source_text}
-use Rattle.hume_run.specs.Unions.{text_of}
-use Rattle.hume_run.specs.Words.{all_differ}
+use Rattle.hume_calls.specs.Few.{source_few}
+use Rattle.hume_calls.specs.Headline.{IsText}
+use Rattle.hume_calls.specs.Reading.{reads_whole, source_reads, source_text}
+use Rattle.hume_calls.specs.Unions.{text_of}
+use Rattle.hume_calls.specs.Words.{all_differ}
 use Rattle.hume_run.specs.inner.UnionReads.{AreRead, IsReadWhole, ReadFails, ReadsStop}
-use Rattle.hume_run.proofs.Answering.{reads_write_nothing}
-use Rattle.hume_run.proofs.Texts.{text_before}
+use Rattle.hume_calls.proofs.Answering.{reads_write_nothing}
+use Rattle.hume_calls.proofs.Texts.{text_before}
 
 -- one source
 

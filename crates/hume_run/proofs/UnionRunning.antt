@@ -12,11 +12,11 @@ use Rattle.run_rounds.specs.Inputs.{Inputs, AreInputs}
 use Rattle.run_rounds.specs.Members.{MemberView, MembersFail, MembersRun, members_acts}
 use Rattle.run_rounds.specs.RunActs.{run_few}
 use Rattle.run_rounds.specs.Writes.{blocked_round, span_of, told}
-use Rattle.hume_run.specs.declared.status.Status.TheVariants.{Done, BadValue, Fault}
-use Rattle.hume_run.specs.Owed.{run_finishes, run_status}
-use Rattle.hume_run.specs.Unions.{program_members, union_core, union_table}
+use Rattle.hume_calls.specs.declared.status.Status.TheVariants.{Done, BadValue, Fault}
+use Rattle.hume_calls.specs.Owed.{run_finishes, run_status}
+use Rattle.hume_calls.specs.Unions.{program_members, union_core, union_table}
 use Rattle.hume_run.specs.inner.UnionEnds.{RunsUnion, UnionEnds}
-use Rattle.hume_run.proofs.Texts.{comes_before, some_comes}
+use Rattle.hume_calls.proofs.Texts.{comes_before, some_comes}
 
 module _ (steps : ℕ) (sources : List (List ℕ)) (programs : List Accepted) where
   abbrev core : Core

@@ -1,19 +1,15 @@
 -- The names of a union's sources, as the code has them in its words: the first one, and the others.
-use Rattle.std.proofs.Common.{◌≡◌, ◌≤◌, ◌+◌, ℕ, suc, Vec, Global, List, [], ◌∷◌, drop, take, map, length, slice_index_or, refl, sym, ap, ◌∙◌, subst, arith}
-use Rattle.std.proofs.lemmas.List.{length-drop, length-map, take_all}
+use Rattle.std.proofs.Common.{◌≡◌, ◌≤◌, ℕ, suc, Vec, Global, List, [], ◌∷◌, drop, map, length, slice_index_or, refl, sym, ap, ◌∙◌, subst, arith}
+use Rattle.std.proofs.lemmas.List.{length-map}
 use Rattle.hume_ports.specs.Port.{PortView}
 use Rattle.hume_front.specs.declared.acceptance.Accepted.{Accepted}
-use Rattle.hume_run.specs.declared.status.Status.{Status}
-use Rattle.hume_run.specs.declared.program_refusal.ProgramRefusal.{ProgramRefusal}
-use Rattle.hume_run.specs.Unions.{AreAccepted, BreaksFirst}
+use Rattle.hume_calls.specs.declared.status.Status.{Status}
+use Rattle.hume_calls.specs.declared.program_refusal.ProgramRefusal.{ProgramRefusal}
+use Rattle.hume_calls.specs.Unions.{AreAccepted, BreaksFirst}
 use Rattle.hume_run.specs.inner.Texts.{texts_of}
 use Rattle.hume_run.specs.inner.UnionEnds.{EndsUnion}
 use Rattle.hume_run.specs.inner.UnionReads.{AreRead, ReadFails, ReadsStop}
-use Rattle.hume_run.proofs.Programs.{as_many}
-
--- what is taken behind the first words, if it reaches to the last one
-pub take_rest : {A : Type 0} (n count : ℕ) (words : List A) → length words ≤ n + count → take count (drop n words) ≡ drop n words
-take_rest n count words enough = take_all count (drop n words) (let left = length-drop n words in omega (arith, left, enough))
+use Rattle.hume_calls.proofs.Programs.{as_many}
 
 -- as many texts are read as there are sources
 read_count : (sources reads : List (List ℕ)) (olds news : List PortView) → AreRead sources reads olds news → length reads ≡ length sources

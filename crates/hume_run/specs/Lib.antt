@@ -1,12 +1,2 @@
-pub mod Statuses
-pub mod Words
-pub mod Reading
-pub mod Streams
-pub mod Calc
-pub mod Unions
-pub mod Owed
-pub mod Few
-pub mod Headline
-pub mod Faults
-pub mod Calls
+pub mod Sources
 pub mod inner

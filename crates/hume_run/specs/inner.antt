@@ -1,10 +1,7 @@
-pub mod Bounds
-pub mod Ready
-pub mod Places
-pub mod FoundPlaces
-pub mod Ended
+pub mod ScriptEnds
 pub mod Texts
-pub mod LogEnds
-pub mod Opening
 pub mod UnionReads
 pub mod UnionEnds
+pub mod Opening
+pub mod LogEnds
+pub mod Places

@@ -1,6 +1,6 @@
 //! A run of what a script makes of a source.
 //!
-//! Main call: `calc_text`. `Calc.antt` says what is refused, and `Ended.antt` of `inner/` how the call can end.
+//! Main call: `calc_text`. `Calc.antt` of `hume_calls` says what is refused, and `Ended.antt` there how the call can end.
 //!
 //! Proved: it ends as the refusal of a source that isn't sound does, or reads the script and ends as the refusal of a line or of
 //! the new core, or as the run of the new core.
@@ -19,18 +19,16 @@ ghost use Rattle.hume_front.specs.Accepted.{IsSound};
 ghost use Rattle.hume_ports.specs.Ports.{names};
 ghost use Rattle.port_acts.specs.Places.{IsPlaceOf};
 ghost use Rattle.run_rounds.specs.Streams.{std_out};
-ghost use Rattle.hume_run.specs.declared.order.Order.TheVariants.{Calc};
-ghost use Rattle.hume_run.specs.Words.{source_with};
-ghost use Rattle.hume_run.specs.inner.Ended.{EndsScript, EndsText, IsFurtherAt};
+ghost use Rattle.hume_calls.specs.declared.order.Order.TheVariants.{Calc};
+ghost use Rattle.hume_calls.specs.Words.{source_with};
+ghost use Rattle.hume_calls.specs.Ended.{EndsText, IsFurtherAt};
+ghost use Rattle.hume_run.specs.inner.ScriptEnds.{EndsScript};
 
 use crate::calc::refusals::{end_script, end_unsound, new_costs};
-use crate::refuse::refuse;
-use crate::run::ready::Ready;
-use crate::run::streams::{PlacesError, find_places};
-use crate::run::{run_ready, unfit_at};
-use crate::source::{SourceError, read_script};
-use crate::status::Status;
 use box_calculus::run_script;
+use hume_calls::{
+    PlacesError, Ready, SourceError, Status, find_places, read_script, refuse, run_ready, unfit_at,
+};
 use hume_front::{Sound, check_source};
 use hume_model::Core;
 use hume_ports::Port;

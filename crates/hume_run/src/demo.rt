@@ -1,24 +1,23 @@
 //! A demo: a net that is made for a number, and what comes of it.
 //!
-//! Main call: `show_demo`. `Ended.antt` of `inner/` says how it can end.
+//! Main call: `show_demo`. `Ended.antt` of `hume_calls` says how it can end.
 //!
 //! Proved: it ends as a demo of its net owes, or as the refusal of a source that isn't accepted does.
 //!
 //! It knows the source that it makes, and the port `std_out`. It doesn't know the words of the call.
 mod showing;
 
-ghost use Rattle.std.specs.Prelude.{◌≡◌, ◌≤◌, map};
+ghost use Rattle.std.specs.Prelude.{◌≤◌, map};
 ghost use Rattle.hume_ports.specs.Ports.{names};
 ghost use Rattle.port_acts.specs.Places.{IsPlaceOf};
 ghost use Rattle.demo_net.specs.declared.source.TheConstants.{MAX_NUMBER};
 ghost use Rattle.run_rounds.specs.Streams.{std_out};
 ghost use Rattle.hume_base.specs.declared.limits.TheConstants.{MAX_WORKERS};
-ghost use Rattle.hume_run.specs.inner.Ended.{EndsDemo};
+ghost use Rattle.hume_calls.specs.Ended.{EndsDemo};
 
 use crate::demo::showing::show_accepted;
-use crate::refuse::end_unaccepted;
-use crate::status::Status;
 use demo_net::demo_source;
+use hume_calls::{Status, end_unaccepted};
 use hume_front::accept;
 use hume_ports::Port;
 use std::alloc::Global;

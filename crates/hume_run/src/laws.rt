@@ -11,7 +11,7 @@ ghost use Rattle.box_costs.specs.Costs.{IsAtMost};
 ghost use Rattle.box_costs.specs.Bounds.{box_bound};
 ghost use Rattle.net_costs.specs.Steps.{step_spent};
 ghost use Rattle.hume_ports.specs.Port.{PortView};
-ghost use Rattle.hume_ports.specs.Ports.{is_among, names, place_of};
+ghost use Rattle.hume_ports.specs.Ports.{is_among, names};
 ghost use Rattle.hume_ports.specs.Delivery.{Delivered, bytes_for, names_in};
 ghost use Rattle.port_acts.specs.Acts.{finished, wanted, written};
 ghost use Rattle.port_acts.specs.Early.{after_reads};
@@ -26,19 +26,19 @@ ghost use Rattle.log_rounds.specs.Supersteps.{blocked_superstep};
 ghost use Rattle.log_rounds.specs.RecordActs.{record_acts};
 ghost use Rattle.log_rounds.specs.Outcomes.{Outcome};
 ghost use Rattle.log_rounds.specs.VerifyActs.{outcome_line};
-ghost use Rattle.hume_run.specs.declared.order.Order.{Order};
-ghost use Rattle.hume_run.specs.declared.order.Order.TheVariants.{Run};
-ghost use Rattle.hume_run.specs.declared.status.Status.{Status};
-ghost use Rattle.hume_run.specs.declared.status.Status.TheVariants.{Done, Usage, BadValue, NoMemory, LogFails};
-ghost use Rattle.hume_run.specs.Streams.{unfit_line};
-ghost use Rattle.hume_run.specs.Owed.{IsOwedLogged, owed_record, owed_verify};
-ghost use Rattle.hume_run.specs.Owed.{IsOwed, owed_refused, owed_check, owed_demo, owed_run, demo_writes, refused_line, run_finishes, table_writes};
-ghost use Rattle.hume_run.specs.Few.{call_few};
-ghost use Rattle.hume_run.specs.Reading.{read_first, source_reads};
-ghost use Rattle.hume_run.specs.Headline.{Headline, LacksPort, OwesAlone};
-ghost use Rattle.hume_run.specs.Words.{Named, named_by, order_of};
-ghost use Rattle.hume_run.specs.Calls.{GivesOwed, HaveRoom, HaveSameTexts, IsThrough};
-ghost use Rattle.hume_run.specs.Faults.{FailedInput, HasFault, HasFaultAlone, ReadRose};
+ghost use Rattle.hume_calls.specs.declared.order.Order.{Order};
+ghost use Rattle.hume_calls.specs.declared.order.Order.TheVariants.{Run};
+ghost use Rattle.hume_calls.specs.declared.status.Status.{Status};
+ghost use Rattle.hume_calls.specs.declared.status.Status.TheVariants.{Done, Usage, BadValue, NoMemory, LogFails};
+ghost use Rattle.hume_calls.specs.Streams.{unfit_line};
+ghost use Rattle.hume_calls.specs.Owed.{IsOwedLogged, owed_record, owed_verify};
+ghost use Rattle.hume_calls.specs.Owed.{IsOwed, owed_refused, owed_check, owed_demo, owed_run, demo_writes, refused_line, run_finishes, table_writes};
+ghost use Rattle.hume_calls.specs.Few.{call_few};
+ghost use Rattle.hume_calls.specs.Reading.{read_first, source_reads};
+ghost use Rattle.hume_calls.specs.Headline.{Headline, LacksPort, OwesAlone};
+ghost use Rattle.hume_calls.specs.Words.{Named, named_by, order_of};
+ghost use Rattle.hume_calls.specs.Calls.{GivesOwed, HaveRoom, HaveSameTexts, IsThrough};
+ghost use Rattle.hume_calls.specs.Faults.{FailedInput, HasFault, HasFaultAlone, ReadRose};
 
 use log_rounds::{
     each_log_has_one_outcome, logged_runs_read_their_ports, logs_hold_exactly, records_are_logs,
@@ -177,11 +177,13 @@ pub fn faults_come_from_their_ports()
 /// A fault where only finish counts rose came when all was written. One where only read counts of the source's port, of others that
 /// are read whole and of a log that is compared rose came when nothing was written.
 pub fn faults_tell_what_was_written()
-    ensures finishes { (order : Order) (named : Named) (text : List ℕ) (names : List (List ℕ)) (texts : List ℕ → List ℕ) (owed : Owed Status) (old new : List PortView)
+    ensures finishes { (order : Order) (named : Named) (text : List ℕ) (names : List (List ℕ)) (texts : List ℕ → List ℕ) (owed : Owed Status)
+        (old new : List PortView)
         → IsOwed order named text names texts owed
         → Fails (call_few order named text texts) [] (after_reads (source_reads named.source) owed).acts old new
         → NoneRose (λ port. port.read_faults) old new → NoneRose (λ port. port.write_faults) old new → Delivered old new (written owed.acts) }
-    ensures source { (order : Order) (named : Named) (text : List ℕ) (names : List (List ℕ)) (texts : List ℕ → List ℕ) (owed : Owed Status) (old new : List PortView)
+    ensures source { (order : Order) (named : Named) (text : List ℕ) (names : List (List ℕ)) (texts : List ℕ → List ℕ) (owed : Owed Status)
+        (old new : List PortView)
         → IsOwed order named text names texts owed
         → Fails (call_few order named text texts) [] (after_reads (source_reads named.source) owed).acts old new
         → NoneRose (λ port. port.write_faults) old new → NoneRose (λ port. port.finish_faults) old new

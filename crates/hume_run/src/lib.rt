@@ -1,7 +1,7 @@
 //! The top call: from the words, the source's bytes and the ports to the answer.
 //!
-//! Main call: `hume`. Its contract is the promise of the tool: `Headline.antt` defines it, over what a call owes (`Owed.antt`).
-//! `docs/PROMISE.md` lists every definition that it rests on.
+//! Main call: `hume`. Its contract is the promise of the tool: `Headline.antt` of `hume_calls` defines it, over what a call owes
+//! (`Owed.antt` there). `docs/PROMISE.md` lists every definition that it rests on.
 //!
 //! Proved: `hume` keeps the promise, which `docs/PROOFS.md` explains clause by clause, for every number of workers, runtime and
 //! gate. Memory can run out only before the first byte is written. Laws: for given words, names and texts a call owes one thing
@@ -18,31 +18,17 @@
 #![tactic(auto)]
 
 mod calc;
-mod check;
 mod demo;
 mod laws;
-mod lines;
 mod log;
-mod order;
-mod program_refusal;
-mod refuse;
-mod run;
-mod source;
-mod status;
 mod top;
 mod union;
-pub mod words;
 
+pub use hume_calls::{Order, Status, read_words, words};
 pub use laws::{
     calls_with_room_are_answered, calls_write_their_lines, each_call_owes_one_thing,
     equal_calls_end_alike, failed_inputs_tell_their_round, faults_come_from_their_ports,
     faults_tell_what_was_written, logged_runs_touch_their_ports, logs_are_those_of_their_runs,
     runs_keep_bounds, runs_touch_their_ports,
 };
-pub use lines::refused_line;
-pub use order::Order;
-pub use run::{PlacesError, find_places};
-pub use source::{SourceError, read_source};
-pub use status::Status;
 pub use top::hume;
-pub use words::read_words;

@@ -1,6 +1,6 @@
 //! A run of a source that is logged: its log is written, or compared with one that is there.
 //!
-//! Main call: `log_text`. `LogEnds.antt` of `inner/` says how it can end.
+//! Main call: `log_text`. `Ended.antt` of `hume_calls` says how it can end.
 //!
 //! Proved: it ends as the recorded run of its source owes, or as what comes of the log owes, or as the refusal of a source that isn't
 //! accepted does.
@@ -8,23 +8,22 @@
 //! It knows a source's text and the ports. It doesn't know the words of the call.
 mod making;
 
-ghost use Rattle.std.specs.Prelude.{◌≡◌, ◌≤◌, ◌⊎◌, ℕ, List, map, string_bytes};
+ghost use Rattle.std.specs.Prelude.{◌≤◌, ◌⊎◌, ℕ, List, map, string_bytes};
 ghost use Rattle.hume_base.specs.declared.limits.TheConstants.{MAX_SUPERSTEPS};
 ghost use Rattle.hume_ports.specs.Ports.{names};
 ghost use Rattle.port_acts.specs.Places.{IsPlaceOf};
 ghost use Rattle.run_rounds.specs.Streams.{ArePlacesOf, ArePortsApart, std_out};
 ghost use Rattle.log_rounds.specs.Opened.{IsApart};
-ghost use Rattle.hume_run.specs.declared.order.Order.TheVariants.{Log};
-ghost use Rattle.hume_run.specs.Words.{source_with};
-ghost use Rattle.hume_run.specs.inner.Ended.{EndsText, IsFurtherAt, RunsOut};
+ghost use Rattle.hume_calls.specs.declared.order.Order.TheVariants.{Log};
+ghost use Rattle.hume_calls.specs.Words.{source_with};
+ghost use Rattle.hume_calls.specs.Ended.{EndsText, IsFurtherAt, RunsOut};
 ghost use Rattle.hume_run.specs.inner.LogEnds.{EndsLogged};
-ghost use Rattle.hume_run.specs.inner.Ready.{IsReady};
+ghost use Rattle.hume_calls.specs.Ready.{IsReady};
 
 use crate::log::making::{open_log, record_log, verify_log};
-use crate::refuse::{end_unaccepted, refuse};
-use crate::run::ready::Ready;
-use crate::run::{PlacesError, find_places, made_ready, unfit_at};
-use crate::status::Status;
+use hume_calls::{
+    PlacesError, Ready, Status, end_unaccepted, find_places, made_ready, refuse, unfit_at,
+};
 use hume_front::accept;
 use hume_ports::Port;
 use log_rounds::logged_runs_read_their_ports;

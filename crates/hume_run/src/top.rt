@@ -3,25 +3,20 @@ ghost use Rattle.std.specs.List.{list_any};
 ghost use Rattle.std.specs.Option.{is_none};
 ghost use Rattle.hume_ports.specs.Ports.{names, place_of};
 ghost use Rattle.port_acts.specs.Places.{IsPlaceOf};
-ghost use Rattle.hume_run.specs.Headline.{Headline, IsUsage, AnswersFrom, EndsUntold};
-ghost use Rattle.hume_run.specs.declared.order.Order.TheVariants as orders;
-ghost use Rattle.hume_run.specs.inner.Ended.{EndsText, IsFurtherAt};
+ghost use Rattle.hume_calls.specs.Headline.{Headline, IsUsage, AnswersFrom, EndsUntold};
+ghost use Rattle.hume_calls.specs.declared.order.Order.TheVariants as orders;
+ghost use Rattle.hume_calls.specs.Ended.{EndsText, IsFurtherAt};
 ghost use Rattle.hume_run.specs.inner.Places.{has_source_alone};
-ghost use Rattle.hume_run.specs.inner.UnionReads.{AreThere};
-ghost use Rattle.hume_run.specs.Words.{Named, all_differ, order_of, source_alone, source_with, workers_of};
+ghost use Rattle.hume_run.specs.Sources.{AreThere};
+ghost use Rattle.hume_calls.specs.Words.{Named, all_differ, order_of, source_alone, source_with, workers_of};
 ghost use Rattle.hume_base.specs.declared.limits.TheConstants.{MAX_SUPERSTEPS, MAX_WORKERS};
 ghost use Rattle.run_rounds.specs.Streams.{std_out};
 
 use crate::calc::calc_text;
-use crate::check::check_text;
 use crate::demo::show_demo;
 use crate::log::log_text;
-use crate::order::Order;
-use crate::run::run_text;
-use crate::source::{SourceError, read_source};
-use crate::status::Status;
 use crate::union::run_union;
-use crate::words::read_words;
+use hume_calls::{Order, SourceError, Status, check_text, read_source, read_words, run_text};
 use hume_ports::{Port, find};
 use std::alloc::Global;
 use std::thread::Threads;
@@ -139,8 +134,10 @@ fn answer_calc<R: Threads + Sync, G: Gate>(
     requires script { IsFurtherAt (source_with name.now (map string_bytes others.now)) (names (map view ports.old)) script_at }
     requires out { IsPlaceOf std_out (names (map view ports.old)) out }
     ensures { (place script : ℕ)
-        → EndsUntold (orders.Calc steps workers place script) (source_with name.now (map string_bytes others.now)) (map view ports.old) (map view ports.new) result
-        ⊎ AnswersFrom (orders.Calc steps workers place script) (source_with name.now (map string_bytes others.now)) (map view ports.old) (map view ports.new) result }
+        → EndsUntold (orders.Calc steps workers place script) (source_with name.now (map string_bytes others.now)) (map view ports.old)
+        (map view ports.new) result
+        ⊎ AnswersFrom (orders.Calc steps workers place script) (source_with name.now (map string_bytes others.now)) (map view ports.old)
+        (map view ports.new) result }
 {
     match read_source(alloc, ports, at) {
         Ok(text) => calc_text(
@@ -211,7 +208,8 @@ fn answer_log(
     requires out { IsPlaceOf std_out (names (map view ports.old)) out }
     ensures { (place log : ℕ)
         → EndsUntold (orders.Log steps place log verify) (source_with name.now (map string_bytes others.now)) (map view ports.old) (map view ports.new) result
-        ⊎ AnswersFrom (orders.Log steps place log verify) (source_with name.now (map string_bytes others.now)) (map view ports.old) (map view ports.new) result }
+        ⊎ AnswersFrom (orders.Log steps place log verify) (source_with name.now (map string_bytes others.now)) (map view ports.old)
+        (map view ports.new) result }
 {
     match read_source(alloc, ports, at) {
         Ok(text) => log_text(

@@ -1,6 +1,6 @@
 //! A run of several sources as one net.
 //!
-//! Main call: `run_union`. `Ended.antt` of `inner/` says how it can end, and `Unions.antt` what it owes.
+//! Main call: `run_union`. `Ended.antt` of `hume_calls` says how it can end, and `Unions.antt` there what it owes.
 //!
 //! Proved: it ends as the union of its sources owes, or as the refusal of one of them does.
 //!
@@ -18,21 +18,20 @@ ghost use Rattle.hume_ports.specs.Ports.{names};
 ghost use Rattle.port_acts.specs.Places.{IsPlaceOf};
 ghost use Rattle.run_rounds.specs.Streams.{std_out};
 ghost use Rattle.union_front.specs.Unions.{IsUnion};
-ghost use Rattle.hume_run.specs.Unions.{AreAccepted, shared_program, unfit_program, union_core};
-ghost use Rattle.hume_run.specs.Words.{Named, all_differ};
-ghost use Rattle.hume_run.specs.declared.order.Order.TheVariants as orders;
-ghost use Rattle.hume_run.specs.inner.Ended.{EndsText, RunsOut};
-ghost use Rattle.hume_run.specs.inner.UnionReads.{AreThere};
+ghost use Rattle.hume_calls.specs.Unions.{AreAccepted, shared_program, unfit_program, union_core};
+ghost use Rattle.hume_calls.specs.Words.{Named, all_differ};
+ghost use Rattle.hume_calls.specs.declared.order.Order.TheVariants as orders;
+ghost use Rattle.hume_calls.specs.Ended.{EndsText, RunsOut};
+ghost use Rattle.hume_run.specs.Sources.{AreThere};
 ghost use Rattle.hume_run.specs.inner.UnionEnds.{EndsUnion, IsBounded, RunsUnion};
 
-use crate::source::SourceError;
-use crate::status::Status;
 use crate::union::accepting::{AcceptError, accept_all};
 use crate::union::apart::{ApartError, check_ports};
 use crate::union::making::make_union;
 use crate::union::opening::open_union;
 use crate::union::reading::read_others;
 use crate::union::refusing::{over_limit, refuse_program};
+use hume_calls::{SourceError, Status};
 use hume_front::Accepted;
 use hume_ports::Port;
 use run_rounds::{each_run_has_inputs, wants_stand_before_rounds};

@@ -9,7 +9,7 @@ use Rattle.hume_ports.specs.Delivery.{Pairs}
 use Rattle.port_acts.specs.Acts.{Act}
 use Rattle.port_acts.specs.Early.{read_each}
 use Rattle.port_acts.specs.Ends.{Fails, Made, never}
-use Rattle.hume_run.specs.Reading.{source_reads}
+use Rattle.hume_calls.specs.Reading.{source_reads}
 use Rattle.hume_console.specs.declared.ending.Ending.{Ending}
 use Rattle.hume_console.specs.declared.ending.Ending.TheVariants.{Fault, NoMemory}
 use Rattle.hume_console.specs.declared.places.Places.{Places}

@@ -15,7 +15,7 @@ use Rattle.run_rounds.specs.Opened.{IsFresh}
 use Rattle.hume_console.specs.declared.opening.Opened.{Opened}
 use Rattle.hume_console.specs.declared.places.Places.{Places}
 use Rattle.port_acts.specs.Acts.{write_each}
-use Rattle.hume_run.specs.Owed.{table_writes}
+use Rattle.hume_calls.specs.Owed.{table_writes}
 use Rattle.hume_ports.specs.Delivery.{Pairs}
 use Rattle.box_costs.specs.Costs.{nothing}
 use Rattle.hume_console.specs.Courses.{Course, first_do}

@@ -6,8 +6,8 @@ use Rattle.hume_ports.specs.Ports.{names, left_of, place_of}
 use Rattle.port_acts.specs.Early.{read_each}
 use Rattle.port_acts.specs.Ends.{Made}
 use Rattle.run_rounds.specs.Streams.{ArePlacesOf, ArePortsApart, std_out, streams}
-use Rattle.hume_run.specs.Reading.{source_reads, source_text}
-use Rattle.hume_run.specs.Streams.{unfit_line}
+use Rattle.hume_calls.specs.Reading.{source_reads, source_text}
+use Rattle.hume_calls.specs.Streams.{unfit_line}
 use Rattle.hume_console.specs.declared.preparing.Ready.{Ready}
 use Rattle.hume_console.specs.Words.{std_in}
 

@@ -17,7 +17,7 @@ use Rattle.phase_workers.specs.Engines.{EngineView as Engine}
 use Rattle.phase_workers.specs.Engines.{core_of, heap_peak_at, queue_at, span_of, stack_peak_at, state_of, IsRight}
 use Rattle.phase_workers.specs.Runnable.{IsRunnable}
 use Rattle.run_rounds.specs.declared.rounds.TheConstants.{SPAN}
-use Rattle.hume_run.specs.Reading.{source_reads}
+use Rattle.hume_calls.specs.Reading.{source_reads}
 use Rattle.hume_console.specs.declared.ending.Ending.{Ending}
 use Rattle.hume_console.specs.declared.places.Places.{Places}
 use Rattle.hume_console.specs.Words.{std_in}
@@ -133,6 +133,7 @@ abbrev pub BeginsAsItIs : Later → Type 0
 BeginsAsItIs later = (rest : List ℕ) (session : Session) → bound_of (later rest session) ≡ session.port
 
 -- The call stands somewhere with this left to do.
-pub record GoesOn (call : Call) (limit : ℕ) (left : Session → List ℕ → Course) (engine : Engine) (commands : Commands) (places : Places) (now : Hands) : Type 0 where
+pub record GoesOn (call : Call) (limit : ℕ) (left : Session → List ℕ → Course) (engine : Engine) (commands : Commands) (places : Places)
+    (now : Hands) : Type 0 where
   pub bindings : Bindings
   pub stands : Stands call limit left engine commands places now bindings

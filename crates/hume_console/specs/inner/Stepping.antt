@@ -88,7 +88,8 @@ pub record StandsFilling (step : Step) (count : ℕ) (engine : Engine) (ports : 
   pub few : (n : ℕ) → length (fed n) ≤ step.steps - length (coming_at step.engine n)
   pub none_later : (n : ℕ) → count ≤ n → fed n ≡ []
   pub none : (n : ℕ) → (IsInputStream step.call.core n → ⊥) → fed n ≡ []
-  pub filled : (n : ℕ) (stream : StreamC) → n < count → slice_get step.call.core.nodes n ≡ Some (From stream) → HasEnough step.steps engine n ⊎ HasReadAll engine n
+  pub filled : (n : ℕ) (stream : StreamC) → n < count → slice_get step.call.core.nodes n ≡ Some (From stream)
+      → HasEnough step.steps engine n ⊎ HasReadAll engine n
   pub earlier : (offers : List Offer) (rest : List ℕ) → MayHave step.call.core engine step.commands.ended (filled_bindings step.bindings fed ts) offers rest
       → MayHave step.call.core step.engine step.commands.ended step.bindings offers rest
 
@@ -156,7 +157,8 @@ pub record AreWithin (core : Core) (count : ℕ) (places : List ℕ) : Type 0 wh
 
 -- The output streams have their ports at these places.
 abbrev pub HavePlaces : Core → (ℕ → List ℕ) → List (List ℕ) → List ℕ → Type 0
-HavePlaces core port names places = (n : ℕ) (stream : StreamC) → slice_get core.nodes n ≡ Some (To stream) → place_of (port n) names ≡ Some (slice_index_or places n 0)
+HavePlaces core port names places = (n : ℕ) (stream : StreamC) → slice_get core.nodes n ≡ Some (To stream)
+    → place_of (port n) names ≡ Some (slice_index_or places n 0)
 
 -- no other node has taken anything
 abbrev pub OnlyOutputsTook : Core → State → Type 0

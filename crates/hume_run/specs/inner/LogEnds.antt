@@ -12,9 +12,9 @@ use Rattle.log_rounds.specs.declared.verdict.Verdict.{Verdict}
 use Rattle.log_rounds.specs.Supersteps.{blocked_superstep}
 use Rattle.log_rounds.specs.Outcomes.{Outcome, IsOutcome, verdict_of}
 use Rattle.log_rounds.specs.VerifyActs.{verify_few}
-use Rattle.hume_run.specs.declared.status.Status.{Status}
-use Rattle.hume_run.specs.Owed.{owed_record, owed_verify}
-use Rattle.hume_run.specs.inner.Ended.{EndsAfter}
+use Rattle.hume_calls.specs.declared.status.Status.{Status}
+use Rattle.hume_calls.specs.Owed.{owed_record, owed_verify}
+use Rattle.hume_calls.specs.Ended.{EndsAfter}
 
 -- The acts of the recorded run were made or one of them failed.
 pub record RecordEnds (log : List ℕ) (steps : ℕ) (core : Core) (old new : List PortView) (result : Result Bool Failed) : Type 0 where

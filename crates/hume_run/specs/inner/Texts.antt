@@ -4,8 +4,8 @@ use Rattle.std.specs.List.{flat_map}
 use Rattle.std.specs.declared.alloc.Global.{Global}
 use Rattle.hume_front.specs.declared.acceptance.Accepted.{Accepted}
 use Rattle.run_rounds.specs.Streams.{ports_of, streams}
-use Rattle.hume_run.specs.declared.program_refusal.ProgramRefusal.{ProgramRefusal}
-use Rattle.hume_run.specs.Unions.{shared_program, unfit_program}
+use Rattle.hume_calls.specs.declared.program_refusal.ProgramRefusal.{ProgramRefusal}
+use Rattle.hume_calls.specs.Unions.{shared_program, unfit_program}
 
 -- the bytes of each
 abbrev pub texts_of : List (Vec ℕ Global) → List (List ℕ)

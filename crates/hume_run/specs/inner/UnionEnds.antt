@@ -12,14 +12,14 @@ use Rattle.run_rounds.specs.Opened.{core_in, traced_in}
 use Rattle.run_rounds.specs.RunActs.{run_few}
 use Rattle.run_rounds.specs.Runs.{Comes}
 use Rattle.run_rounds.specs.Writes.{blocked_round, span_of}
-use Rattle.hume_run.specs.declared.status.Status.{Status}
-use Rattle.hume_run.specs.declared.program_refusal.ProgramRefusal.{ProgramRefusal}
+use Rattle.hume_calls.specs.declared.status.Status.{Status}
+use Rattle.hume_calls.specs.declared.program_refusal.ProgramRefusal.{ProgramRefusal}
 use Rattle.hume_run.specs.declared.union.opening.OpenedUnion.{OpenedUnion}
-use Rattle.hume_run.specs.Unions.{IsUnionRefusal, MayUnite, program_members, union_core}
-use Rattle.hume_run.specs.Owed.{owed_program_refused, owed_union}
-use Rattle.hume_run.specs.inner.Bounds.{KeepsBounds}
-use Rattle.hume_run.specs.inner.Ended.{EndsAfter, RunsOut}
-use Rattle.hume_run.specs.inner.Opening.{IsOpen}
+use Rattle.hume_calls.specs.Unions.{IsUnionRefusal, MayUnite, program_members, union_core}
+use Rattle.hume_calls.specs.Owed.{owed_program_refused, owed_union}
+use Rattle.hume_calls.specs.Bounds.{KeepsBounds}
+use Rattle.hume_calls.specs.Ended.{EndsAfter, RunsOut}
+use Rattle.hume_calls.specs.Opening.{IsOpen}
 
 -- the program keeps its bounds
 abbrev pub IsBounded : Accepted → Type 0

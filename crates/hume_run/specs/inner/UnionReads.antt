@@ -1,18 +1,12 @@
 -- How the sources of a union behind the first one are read.
-use Rattle.std.specs.Prelude.{◌≡◌, ◌⊎◌, ◌+◌, ◌≤◌, ℕ, false, List, [], ◌∷◌, length, IfSome}
-use Rattle.std.specs.List.{list_any}
-use Rattle.std.specs.Option.{is_none}
+use Rattle.std.specs.Prelude.{◌≡◌, ◌⊎◌, ◌+◌, ◌≤◌, ℕ, List, [], ◌∷◌, length, IfSome}
 use Rattle.hume_base.specs.declared.limits.TheConstants.{MAX_SOURCE_BYTES}
 use Rattle.hume_ports.specs.Port.{PortView}
-use Rattle.hume_ports.specs.Ports.{left_of, place_of}
+use Rattle.hume_ports.specs.Ports.{left_of}
 use Rattle.port_acts.specs.Early.{read_each}
 use Rattle.port_acts.specs.Ends.{Fails, Made}
-use Rattle.hume_run.specs.Few.{source_few}
-use Rattle.hume_run.specs.Reading.{source_reads, source_text}
-
--- There is a port of each of these names.
-abbrev pub AreThere : List (List ℕ) → List (List ℕ) → Type 0
-AreThere sources names = list_any (λ name. is_none (place_of name names)) sources ≡ false
+use Rattle.hume_calls.specs.Few.{source_few}
+use Rattle.hume_calls.specs.Reading.{source_reads, source_text}
 
 -- A source was read from the port of its name, and has this text.
 pub record IsReadWhole (source text : List ℕ) (old new : List PortView) : Type 0 where

@@ -1,5 +1,5 @@
 // What is refused before a run of what a script makes.
-ghost use Rattle.std.specs.Prelude.{◌≡◌, ◌⊎◌, ℕ, List, map, IfOk, IfErr, OnOk, None};
+ghost use Rattle.std.specs.Prelude.{◌≡◌, ℕ, List, map, IfOk, IfErr, OnOk, None};
 ghost use Rattle.hume_base.specs.Least.{IsLeast};
 ghost use Rattle.hume_model.specs.WellFormed.{HasSoundFrame};
 ghost use Rattle.box_costs.specs.CostRules.{BreaksCosts};
@@ -8,15 +8,15 @@ ghost use Rattle.hume_front.specs.Accepted.{IsUnsound};
 ghost use Rattle.hume_ports.specs.Ports.{names};
 ghost use Rattle.port_acts.specs.Places.{IsPlaceOf};
 ghost use Rattle.run_rounds.specs.Streams.{std_out};
-ghost use Rattle.hume_run.specs.Calc.{rule_of_cause, script_refusal};
-ghost use Rattle.hume_run.specs.Owed.{owed_refused};
-ghost use Rattle.hume_run.specs.inner.Ended.{EndsOwed, EndsUnsound, RunsOut};
+ghost use Rattle.hume_calls.specs.Calc.{rule_of_cause, script_refusal};
+ghost use Rattle.hume_calls.specs.Owed.{owed_refused};
+ghost use Rattle.hume_calls.specs.Ended.{EndsOwed, RunsOut};
+ghost use Rattle.hume_run.specs.inner.ScriptEnds.{EndsUnsound};
 
-use crate::refuse::refuse;
-use crate::status::Status;
 use box_calculus::ScriptError;
 use calculus_laws::CalcError;
 use hume_base::{Refusal, Rule};
+use hume_calls::{Status, refuse};
 use hume_exceptions::raises;
 use hume_front::FrontError;
 use hume_model::Core;

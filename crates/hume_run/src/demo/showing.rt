@@ -5,14 +5,14 @@ ghost use Rattle.port_acts.specs.Ends.{Ends, never};
 ghost use Rattle.port_acts.specs.Places.{IsPlaceOf};
 ghost use Rattle.run_rounds.specs.Streams.{std_out};
 ghost use Rattle.demo_rounds.specs.Opened.{core_in};
-ghost use Rattle.hume_run.specs.Owed.{owed_demo};
+ghost use Rattle.hume_calls.specs.Owed.{owed_demo};
 ghost use Rattle.hume_base.specs.declared.limits.TheConstants.{MAX_WORKERS};
-ghost use Rattle.hume_run.specs.inner.Ended.{EndsOwed};
+ghost use Rattle.hume_calls.specs.Ended.{EndsOwed};
 ghost use Rattle.hume_run.specs.inner.Opening.{IsOpenDemo};
 
-use crate::status::Status;
 use box_compile::compile;
 use demo_rounds::Demo;
+use hume_calls::Status;
 use hume_front::Accepted;
 use hume_ports::{Failed, Port};
 use hume_text::Chunk;

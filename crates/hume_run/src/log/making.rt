@@ -6,20 +6,19 @@ ghost use Rattle.phase_workers.specs.Runnable.{IsRunnable};
 ghost use Rattle.port_acts.specs.Places.{IsPlaceOf};
 ghost use Rattle.run_rounds.specs.Streams.{ArePlacesOf, ArePortsApart, std_out};
 ghost use Rattle.log_rounds.specs.Opened.{core_in, run_in, IsApart, IsFresh};
-ghost use Rattle.hume_run.specs.Owed.{verdict_status};
+ghost use Rattle.hume_calls.specs.Owed.{verdict_status};
 ghost use Rattle.hume_run.specs.inner.LogEnds.{RecordEnds, Records, Verifies, VerifyEnds};
-ghost use Rattle.hume_run.specs.inner.Ready.{IsReady};
+ghost use Rattle.hume_calls.specs.Ready.{IsReady};
 
-use crate::run::ready::Ready;
-use crate::status::Status;
 use box_compile::compile;
+use hume_calls::{Ready, Status};
 use hume_ports::{Failed, Port};
 use log_rounds::{LoggedRun, Verdict};
 use port_acts::{finish_act, finish_acts};
 use std::alloc::{AllocError, Global};
 
 /// Takes all memory of a run that is logged.
-pub(crate) fn open_log(alloc: Global, ready: Ready) -> Result<LoggedRun, AllocError>
+pub fn open_log(alloc: Global, ready: Ready) -> Result<LoggedRun, AllocError>
     requires { IsReady ready }
     ensures core { IfOk result (λ logged. core_in logged ≡ ready.core) }
     ensures runnable { IfOk result (λ logged. IsRunnable (core_in logged)) }
@@ -36,7 +35,7 @@ pub(crate) fn open_log(alloc: Global, ready: Ready) -> Result<LoggedRun, AllocEr
 }
 
 /// Makes the supersteps and writes the log. It takes no memory.
-pub(crate) fn record_log(
+pub fn record_log(
     mut logged: LoggedRun,
     ports: &mut [Box<dyn Port>],
     steps: u32,
@@ -91,7 +90,7 @@ fn make_record(
 }
 
 /// Makes the supersteps and compares the log with them. It takes no memory.
-pub(crate) fn verify_log(
+pub fn verify_log(
     mut logged: LoggedRun,
     ports: &mut [Box<dyn Port>],
     steps: u32,

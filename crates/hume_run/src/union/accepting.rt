@@ -1,10 +1,10 @@
 //! The acceptance of several sources.
-ghost use Rattle.std.specs.Prelude.{◌<◌, ◌^◌, length, map, IfOk, IsErrOf};
-ghost use Rattle.hume_run.specs.declared.program_refusal.ProgramRefusal.{ProgramRefusal as AnyRefusal};
-ghost use Rattle.hume_run.specs.Unions.{AreAccepted, BreaksFirst};
+ghost use Rattle.std.specs.Prelude.{◌<◌, ◌^◌, length, IfOk, IsErrOf};
+ghost use Rattle.hume_calls.specs.declared.program_refusal.ProgramRefusal.{ProgramRefusal as AnyRefusal};
+ghost use Rattle.hume_calls.specs.Unions.{AreAccepted, BreaksFirst};
 ghost use Rattle.hume_run.specs.inner.Texts.{texts_of};
 
-use crate::program_refusal::ProgramRefusal;
+use hume_calls::ProgramRefusal;
 use hume_front::{Accepted, FrontError, accept};
 use std::alloc::Global;
 use thiserror::Error;

@@ -4,13 +4,12 @@ ghost use Rattle.std.specs.Option.{option_to_list};
 ghost use Rattle.hume_base.specs.declared.rule.Rule.TheVariants.{C55, C57};
 ghost use Rattle.hume_ports.specs.Ports.{is_among, names};
 ghost use Rattle.run_rounds.specs.Streams.{stream_of, streams};
-ghost use Rattle.hume_run.specs.declared.program_refusal.ProgramRefusal.{ProgramRefusal as AnyRefusal};
-ghost use Rattle.hume_run.specs.Unions.{shared_program, taken_line, unfit_program};
+ghost use Rattle.hume_calls.specs.declared.program_refusal.ProgramRefusal.{ProgramRefusal as AnyRefusal};
+ghost use Rattle.hume_calls.specs.Unions.{shared_program, taken_line, unfit_program};
 ghost use Rattle.hume_run.specs.inner.Texts.{IsPortRefusal, earlier_ports};
 
-use crate::program_refusal::ProgramRefusal;
-use crate::run::streams::{PlacesError, find_places, is_named};
 use hume_base::{Refusal, Rule};
+use hume_calls::{PlacesError, ProgramRefusal, find_places, is_named};
 use hume_front::Accepted;
 use hume_model::NodeC;
 use hume_ports::Port;

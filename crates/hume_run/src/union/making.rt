@@ -1,5 +1,5 @@
 //! The run of an open union.
-ghost use Rattle.std.specs.Prelude.{◌≡◌, ◌≤◌, ◌<◌, ◌^◌, ◌∷◌, [], ℕ, All, List, length, map};
+ghost use Rattle.std.specs.Prelude.{◌≡◌, ◌≤◌, ◌<◌, ◌^◌, ◌∷◌, ℕ, All, List, length, map};
 ghost use Rattle.std.specs.List.{filter_map};
 ghost use Rattle.hume_base.specs.declared.limits.TheConstants.{MAX_WORKERS};
 ghost use Rattle.hume_ports.specs.Ports.{names};
@@ -11,11 +11,11 @@ ghost use Rattle.run_rounds.specs.Streams.{ArePlacesOf, ArePortsApart, std_out};
 ghost use Rattle.trace_print.specs.InTurn.{EndsLines};
 ghost use Rattle.trace_print.specs.declared.space_lines.TheConstants.{LINE_BYTES as ROOM};
 ghost use Rattle.trace_print.specs.table.Table.{box_line};
-ghost use Rattle.hume_run.specs.Unions.{program_members, program_tables, union_table};
+ghost use Rattle.hume_calls.specs.Unions.{program_members, program_tables, union_table};
 ghost use Rattle.hume_run.specs.inner.UnionEnds.{IsBounded, IsOpenUnion, RunsUnion, UnionEnds};
 
-use crate::status::Status;
 use crate::union::opening::OpenedUnion;
+use hume_calls::Status;
 use hume_front::Accepted;
 use hume_ports::{Failed, Port};
 use hume_text::Chunk;

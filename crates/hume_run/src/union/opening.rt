@@ -5,14 +5,11 @@ ghost use Rattle.run_rounds.specs.Members.{views};
 ghost use Rattle.run_rounds.specs.Opened.{core_in};
 ghost use Rattle.run_rounds.specs.Streams.{ArePlacesOf, ArePortsApart, streams};
 ghost use Rattle.union_front.specs.Unions.{IsUnion};
-ghost use Rattle.hume_run.specs.Streams.{unfit_line};
-ghost use Rattle.hume_run.specs.Unions.{program_members, union_core};
+ghost use Rattle.hume_calls.specs.Streams.{unfit_line};
+ghost use Rattle.hume_calls.specs.Unions.{program_members, union_core};
 ghost use Rattle.hume_run.specs.inner.UnionEnds.{IsBounded, IsOpenUnion};
 
-use crate::lines::program_line;
-use crate::run::opening::{Opened, open};
-use crate::run::ready::Ready;
-use crate::run::streams::{PlacesError, find_places};
+use hume_calls::{Opened, PlacesError, Ready, find_places, open, program_line};
 use hume_front::Accepted;
 use hume_ports::Port;
 use run_rounds::Member;

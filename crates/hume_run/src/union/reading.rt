@@ -2,9 +2,10 @@
 ghost use Rattle.std.specs.Prelude.{◌≡◌, ◌∷◌, ◌++◌, ℕ, List, map, string_bytes, IfOk, IsErrOf};
 ghost use Rattle.hume_ports.specs.Ports.{names};
 ghost use Rattle.hume_run.specs.inner.Texts.{texts_of};
-ghost use Rattle.hume_run.specs.inner.UnionReads.{AreRead, AreThere, ReadFails, ReadsStop};
+ghost use Rattle.hume_run.specs.inner.UnionReads.{AreRead, ReadFails, ReadsStop};
+ghost use Rattle.hume_run.specs.Sources.{AreThere};
 
-use crate::source::{SourceError, read_source};
+use hume_calls::{SourceError, read_source};
 use hume_ports::{Port, find};
 use std::alloc::Global;
 

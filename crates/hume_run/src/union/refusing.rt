@@ -4,13 +4,11 @@ ghost use Rattle.hume_base.specs.declared.rule.Rule.TheVariants.{C56};
 ghost use Rattle.hume_ports.specs.Ports.{names};
 ghost use Rattle.port_acts.specs.Places.{IsPlaceOf};
 ghost use Rattle.run_rounds.specs.Streams.{std_out};
-ghost use Rattle.hume_run.specs.Owed.{owed_program_refused};
-ghost use Rattle.hume_run.specs.inner.Ended.{EndsOwed};
+ghost use Rattle.hume_calls.specs.Owed.{owed_program_refused};
+ghost use Rattle.hume_calls.specs.Ended.{EndsOwed};
 
-use crate::lines::program_refused_line;
-use crate::program_refusal::ProgramRefusal;
-use crate::status::Status;
 use hume_base::{Refusal, Rule};
+use hume_calls::{ProgramRefusal, Status, program_refused_line};
 use hume_ports::{Failed, Port};
 use port_acts::write_and_finish;
 use std::alloc::Global;

@@ -1,6 +1,6 @@
 use Rattle.std.proofs.Common.{[]}
 use Rattle.port_acts.specs.Early.{read_each}
-use Rattle.hume_run.specs.Reading.{source_reads}
+use Rattle.hume_calls.specs.Reading.{source_reads}
 use Rattle.hume_console.specs.Courses.{first_do}
 use Rattle.hume_console.specs.Headline.{session_few}
 use Rattle.hume_console.proofs.PortsServed.{none_lost, served, served_behind}

@@ -1,5 +1,5 @@
 use Rattle.std.proofs.Common.{refl, ap, ◌∙◌, Err}
-use Rattle.hume_run.proofs.Answering.{out_of_memory}
+use Rattle.hume_calls.proofs.Answering.{out_of_memory}
 use Rattle.hume_run.proofs.Calculating.{script_answers, script_failed, unsound_text}
 use Rattle.hume_run.proofs.calc.calc_text.Goals as goal
 

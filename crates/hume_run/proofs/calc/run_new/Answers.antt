@@ -1,7 +1,7 @@
 use Rattle.std.proofs.Common.{rules, refl, ap, ◌∙◌, subst, Err}
 use Rattle.space_costs.specs.NodeCosts.{IsCostError}
 use Rattle.hume_run.proofs.Ending.{box_refused, out_before, ran, stream_refused}
-use Rattle.hume_run.proofs.Rewritten.{new_ready}
+use Rattle.hume_calls.proofs.Rewritten.{new_ready}
 use Rattle.hume_run.proofs.calc.run_new.Goals as goal
 
 pub run_ready-requires-clause-ready : goal.run_ready-requires-clause-ready

@@ -1,5 +1,5 @@
 use Rattle.hume_run.proofs.Ending.{line_refused}
-use Rattle.hume_run.proofs.Rewritten.{few_nodes, new_handles, new_runnable, new_wiring}
+use Rattle.hume_calls.proofs.Rewritten.{few_nodes, new_handles, new_runnable, new_wiring}
 use Rattle.hume_run.proofs.calc.run_rewritten.Goals as goal
 
 pub run_script-requires : goal.run_script-requires

@@ -1,5 +1,5 @@
 use Rattle.std.proofs.Common.{◌∙◌}
-use Rattle.hume_run.proofs.Showing.{shown, unshown}
+use Rattle.hume_run.proofs.DemoShown.{shown, unshown}
 use Rattle.hume_run.proofs.demo.show_demo.Goals as goal
 
 pub show_accepted-requires-clause-accepted : goal.show_accepted-requires-clause-accepted

@@ -1,4 +1,4 @@
-use Rattle.hume_run.proofs.OneOwed.{some_owed, one_owed}
+use Rattle.hume_calls.proofs.OneOwed.{some_owed, one_owed}
 use Rattle.hume_run.proofs.laws.each_call_owes_one_thing.Goals as goal
 
 pub returns-clause-some : goal.returns-clause-some

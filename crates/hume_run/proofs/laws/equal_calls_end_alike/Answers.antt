@@ -1,5 +1,5 @@
 use Rattle.hume_run.proofs.Alike.{answers_alike, of_form}
-use Rattle.hume_run.proofs.LogWords.{calls_name_further}
+use Rattle.hume_calls.proofs.LogWords.{calls_name_further}
 use Rattle.hume_run.proofs.laws.equal_calls_end_alike.Goals as goal
 
 pub returns : goal.returns

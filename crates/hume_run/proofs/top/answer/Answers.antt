@@ -1,5 +1,5 @@
 use Rattle.std.proofs.Common.{ap, ◌∙◌, Err}
-use Rattle.hume_run.proofs.Answering.{answers_from, same_source, same_text, source_unread, source_unstarted}
+use Rattle.hume_calls.proofs.Answering.{answers_from, same_source, same_text, source_unread, source_unstarted}
 use Rattle.hume_run.proofs.top.answer.Goals as goal
 
 pub returns-in-Ok : goal.returns-in-Ok

@@ -1,4 +1,4 @@
-use Rattle.hume_run.proofs.Answering.{of_order}
+use Rattle.hume_calls.proofs.Answering.{of_order}
 use Rattle.hume_run.proofs.top.answer_text.Goals as goal
 
 pub returns-in-Run : goal.returns-in-Run

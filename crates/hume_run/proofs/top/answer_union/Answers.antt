@@ -1,6 +1,6 @@
 use Rattle.std.proofs.Common.{◌∙◌, ap, sym, string_bytes, Err}
-use Rattle.hume_run.proofs.Answering.{answers_from, source_unread, source_unstarted}
-use Rattle.hume_run.proofs.FitPorts.{found_by}
+use Rattle.hume_calls.proofs.Answering.{answers_from, source_unread, source_unstarted}
+use Rattle.hume_calls.proofs.FitPorts.{found_by}
 use Rattle.hume_run.proofs.UnionSources.{named_source}
 use Rattle.hume_run.proofs.top.answer_union.Goals as goal
 

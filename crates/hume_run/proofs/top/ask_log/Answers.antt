@@ -1,9 +1,9 @@
 use Rattle.std.proofs.Common.{refl, string_bytes, sym, map}
-use Rattle.hume_run.specs.declared.order.Order.TheVariants.{Log}
-use Rattle.hume_run.proofs.Answering.{meant}
+use Rattle.hume_calls.specs.declared.order.Order.TheVariants.{Log}
+use Rattle.hume_calls.proofs.Answering.{meant}
 use Rattle.hume_run.proofs.FurtherCalls.{all_named, log_never, ended_no_usage, further_at_place, further_headline, word_is}
-use Rattle.hume_run.proofs.FitPorts.{found_place}
-use Rattle.hume_run.proofs.LogWords.{log_words_apart}
+use Rattle.hume_calls.proofs.FitPorts.{found_place}
+use Rattle.hume_calls.proofs.LogWords.{log_words_apart}
 use Rattle.hume_run.proofs.top.ask_log.Goals as goal
 
 pub answer_log-requires-clause-source : goal.answer_log-requires-clause-source

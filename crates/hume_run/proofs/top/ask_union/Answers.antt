@@ -1,5 +1,5 @@
 use Rattle.std.proofs.Common.{arith, ◌+◌, ◌-◌, ◌∙◌, map, refl, string_bytes, sym}
-use Rattle.hume_run.proofs.Answering.{meant}
+use Rattle.hume_calls.proofs.Answering.{meant}
 use Rattle.hume_run.proofs.UnionCalls.{lacking, named_sources, not_lacking, not_usage, slice_differs, slice_named, union_headline}
 use Rattle.hume_run.proofs.top.ask_union.Goals as goal
 

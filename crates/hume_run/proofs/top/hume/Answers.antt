@@ -1,7 +1,7 @@
 use Rattle.std.proofs.Common.{◌∙◌, ap, refl, string_bytes, sym, Some}
-use Rattle.hume_run.specs.declared.order.Order.TheVariants.{Calc, Log}
+use Rattle.hume_calls.specs.declared.order.Order.TheVariants.{Calc, Log}
 use Rattle.hume_run.proofs.FurtherCalls.{further_within, source_within}
-use Rattle.hume_run.proofs.FitPorts.{found_place}
+use Rattle.hume_calls.proofs.FitPorts.{found_place}
 use Rattle.hume_run.proofs.top.hume.Goals as goal
 
 pub show_demo-requires-clause-out : goal.show_demo-requires-clause-out

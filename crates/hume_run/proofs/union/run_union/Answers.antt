@@ -1,8 +1,9 @@
 use Rattle.std.proofs.Common.{arith, ◌∙◌, ◌∷◌, ◌-◌, ap, refl, sym, inl, length, drop, take, string_bytes, false, Err}
-use Rattle.hume_run.specs.Words.{all_differ}
+use Rattle.hume_calls.specs.Words.{all_differ}
 use Rattle.hume_run.proofs.UnionAnswering.{union_ends, union_read_fails, union_stops}
 use Rattle.hume_run.proofs.UnionParts.{broken_ends}
-use Rattle.hume_run.proofs.UnionSources.{accepted_by, broken_by, ends_by, fails_by, named_others, programs_many, read_by, stops_by, take_rest, texts_many}
+use Rattle.hume_calls.proofs.Taken.{take_rest}
+use Rattle.hume_run.proofs.UnionSources.{accepted_by, broken_by, ends_by, fails_by, named_others, programs_many, read_by, stops_by, texts_many}
 use Rattle.hume_run.proofs.union.run_union.Goals as goal
 
 pub returns-in-Err-Failed : goal.returns-in-Err-Failed

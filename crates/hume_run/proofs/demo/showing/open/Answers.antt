@@ -1,5 +1,5 @@
-use Rattle.hume_run.proofs.Runnable.{runnable, bounded, handles}
-use Rattle.hume_run.proofs.Showing.{shown_open}
+use Rattle.hume_calls.proofs.Runnable.{runnable, bounded, handles}
+use Rattle.hume_run.proofs.DemoShown.{shown_open}
 use Rattle.hume_run.proofs.demo.showing.open.Goals as goal
 
 pub compile-requires : goal.compile-requires

@@ -1,4 +1,4 @@
-use Rattle.hume_run.proofs.Showing.{demo_told, demo_failed}
+use Rattle.hume_run.proofs.DemoShown.{demo_told, demo_failed}
 use Rattle.hume_run.proofs.demo.showing.show_accepted.Goals as goal
 
 pub returns-in-Ok-tell : goal.returns-in-Ok-tell

@@ -3,7 +3,7 @@ use Rattle.hume_base.specs.Least.{IsLeast}
 use Rattle.box_costs.specs.CostRules.{BreaksCosts}
 use Rattle.hume_model.specs.declared.core_tree.Core.{Core}
 use Rattle.demo_rounds.specs.Opened.{core_in}
-use Rattle.hume_run.proofs.Showing.{total_failed, chains_failed, demo_ends}
+use Rattle.hume_run.proofs.DemoShown.{total_failed, chains_failed, demo_ends}
 use Rattle.hume_run.proofs.demo.showing.tell.Goals as goal
 
 pub write_total-requires-clause-within : goal.write_total-requires-clause-within

@@ -1,6 +1,6 @@
 use Rattle.std.proofs.Common.{[], ◌∷◌}
 use Rattle.run_rounds.specs.Streams.{std_out}
-use Rattle.hume_run.proofs.Answering.{meant}
+use Rattle.hume_calls.proofs.Answering.{meant}
 use Rattle.hume_run.proofs.Logged.{both_named, record_failed, record_made, record_unfinished}
 use Rattle.hume_run.proofs.log.making.make_record.Goals as goal
 

@@ -1,4 +1,4 @@
-use Rattle.hume_run.proofs.Answering.{meant}
+use Rattle.hume_calls.proofs.Answering.{meant}
 use Rattle.hume_run.proofs.Logged.{one_port, place_later, verify_failed, verify_made, verify_unfinished}
 use Rattle.hume_run.proofs.log.making.make_verify.Goals as goal
 

@@ -1,12 +1,12 @@
 use Rattle.std.proofs.Common.{◌≡◌, Result, Err, Vec, Global, subst, sym}
 use Rattle.hume_front.specs.declared.acceptance.Accepted.{Accepted}
 use Rattle.hume_front.specs.Accepted.{Breaks, IsUnaccepted}
-use Rattle.hume_run.specs.declared.program_refusal.ProgramRefusal.{ProgramRefusal}
+use Rattle.hume_calls.specs.declared.program_refusal.ProgramRefusal.{ProgramRefusal}
 use Rattle.hume_run.specs.declared.union.accepting.AcceptError.{AcceptError}
 use Rattle.hume_run.specs.declared.union.accepting.AcceptError.TheVariants.{Refused}
-use Rattle.hume_run.specs.Unions.{BreaksFirst}
+use Rattle.hume_calls.specs.Unions.{BreaksFirst}
 use Rattle.hume_run.specs.inner.Texts.{texts_of}
-use Rattle.hume_run.proofs.Programs.{accepted_next, breaks_at}
+use Rattle.hume_run.proofs.ProgramTexts.{accepted_next, breaks_at}
 use Rattle.hume_run.proofs.union.accepting.accept_all.Goals as goal
 
 same_refusal : (told refusal : ProgramRefusal) → ◌≡◌ {A = Result (Vec Accepted Global) AcceptError} (Err (Refused told)) (Err (Refused refusal)) → told ≡ refusal

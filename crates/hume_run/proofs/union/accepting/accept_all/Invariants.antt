@@ -1,5 +1,5 @@
 use Rattle.std.proofs.Common.{◌≡◌, ◌+◌, take}
-use Rattle.hume_run.specs.Unions.{AreAccepted}
+use Rattle.hume_calls.specs.Unions.{AreAccepted}
 use Rattle.hume_run.specs.inner.Texts.{texts_of}
 use Rattle.hume_run.proofs.union.accepting.accept_all.Given as goal
 

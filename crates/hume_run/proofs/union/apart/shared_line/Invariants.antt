@@ -1,7 +1,7 @@
 use Rattle.std.proofs.Common.{◌≡◌, ◌++◌, drop, map, string_bytes}
 use Rattle.std.specs.List.{filter_map}
 use Rattle.run_rounds.specs.Streams.{stream_of}
-use Rattle.hume_run.specs.Unions.{taken_line}
+use Rattle.hume_calls.specs.Unions.{taken_line}
 use Rattle.hume_run.specs.inner.Texts.{earlier_ports}
 use Rattle.hume_run.proofs.union.apart.shared_line.Given as goal
 

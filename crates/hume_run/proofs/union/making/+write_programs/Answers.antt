@@ -1,7 +1,7 @@
 use Rattle.std.proofs.Common.{rules, arith, subst, ◌+◌}
 use Rattle.std.specs.List.{All}
 use Rattle.std.proofs.lemmas.List.Elements.{All-head, All-tail}
-use Rattle.hume_run.specs.Unions.{program_tables}
+use Rattle.hume_calls.specs.Unions.{program_tables}
 use Rattle.hume_run.specs.inner.UnionEnds.{IsBounded}
 use Rattle.trace_print.proofs.LinesInTurn.{nothing_written}
 use Rattle.hume_run.proofs.UnionParts.{first_fail, later_end, one_table, tables_done, tables_in_turn, tables_none}

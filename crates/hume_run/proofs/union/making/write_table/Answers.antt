@@ -3,7 +3,7 @@ use Rattle.hume_base.specs.Least.{IsLeast}
 use Rattle.hume_model.specs.declared.core_tree.Core.{Core}
 use Rattle.box_costs.specs.CostRules.{BreaksCosts}
 use Rattle.trace_print.specs.table.Table.{total_line_of}
-use Rattle.hume_run.specs.Unions.{program_tables, union_core}
+use Rattle.hume_calls.specs.Unions.{program_tables, union_core}
 use Rattle.hume_run.proofs.UnionParts.{first_fail, later_end, members_there, table_is}
 use Rattle.hume_run.proofs.union.making.write_table.Goals as goal
 

@@ -2,7 +2,7 @@ use Rattle.std.proofs.Common.{◌≡◌, List, ◌∙◌, ap, map, string_bytes,
 use Rattle.hume_front.specs.declared.acceptance.Accepted.{Accepted}
 use Rattle.run_rounds.specs.Members.{views}
 use Rattle.run_rounds.specs.Streams.{ArePortsApart}
-use Rattle.hume_run.specs.Unions.{program_members}
+use Rattle.hume_calls.specs.Unions.{program_members}
 use Rattle.hume_run.proofs.UnionParts.{never_unfit, nodes_within, union_ready}
 use Rattle.hume_run.proofs.UnionSources.{named_first}
 use Rattle.hume_run.proofs.union.opening.open_union.Goals as goal

@@ -1,5 +1,5 @@
 use Rattle.std.proofs.Common.{◌∙◌}
-use Rattle.hume_run.proofs.Telling.{program_told, program_failed}
+use Rattle.hume_calls.proofs.Telling.{program_told, program_failed}
 use Rattle.hume_run.proofs.union.refusing.refuse_program.Goals as goal
 
 pub returns-in-Ok-write_and_finish : goal.returns-in-Ok-write_and_finish

@@ -1,0 +1,17 @@
+pub mod Statuses
+pub mod Words
+pub mod Reading
+pub mod Streams
+pub mod Calc
+pub mod Unions
+pub mod Bounds
+pub mod Ready
+pub mod Places
+pub mod Owed
+pub mod Few
+pub mod Headline
+pub mod Faults
+pub mod Calls
+pub mod Ended
+pub mod Opening
+pub mod inner

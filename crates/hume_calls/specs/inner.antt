@@ -1,0 +1,3 @@
+pub mod FoundPlaces
+pub mod FinishedPlaces
+pub mod RunEnds
