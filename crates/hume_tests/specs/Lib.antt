@@ -1,2 +1,1 @@
-pub mod cells
 pub mod locker_tests

@@ -1,4 +1,0 @@
-pub mod Places
-pub mod ReadInputs
-pub mod InputCells
-pub mod InputsAtHome

@@ -1,4 +1,0 @@
-pub mod TwoObjects
-pub mod TwoOutputs
-pub mod SoundFairCore
-pub mod FairHome
