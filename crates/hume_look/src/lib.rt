@@ -1,4 +1,4 @@
-//! What a designer looks at: why a source is refused, where a bound comes from, the net as a picture, and hints.
+//! What a designer looks at: why a source is refused, where a bound comes from, the net as a picture, and warnings.
 //!
 //! Main call: `look`, by a word of `read_word`. It asks `hume_front::accept` whether a source is accepted, and `why` asks it again
 //! of sources with one part put away, to find the part that breaks the rule.

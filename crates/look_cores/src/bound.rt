@@ -32,7 +32,7 @@ pub struct Bound {
 }
 
 impl Bound {
-    pub fn nothing() -> Bound {
+    pub(crate) fn nothing() -> Bound {
         Bound {
             heap: 0,
             stack: 0,
@@ -40,7 +40,7 @@ impl Bound {
         }
     }
 
-    pub fn by(&self, measure: Measure) -> u64 {
+    pub(crate) fn by(&self, measure: Measure) -> u64 {
         match measure {
             Measure::Heap => self.heap,
             Measure::Stack => self.stack,

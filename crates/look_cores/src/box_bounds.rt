@@ -26,14 +26,14 @@ impl Ground {
     }
 
     /// The bound of a handler by itself.
-    pub fn handler(&self, handler: &HandC) -> Bound {
+    pub(crate) fn handler(&self, handler: &HandC) -> Bound {
         let result = result_bound(self.functions.as_slice(), &handler.result);
         let variables = if handler.bound { 1 } else { 0 };
         above(1, with_variables(variables, 0, result))
     }
 
     /// The words of heap that build the inputs of a rule.
-    pub fn inputs(&self, b: &BoxC, rule: &RuleC) -> u64 {
+    pub(crate) fn inputs(&self, b: &BoxC, rule: &RuleC) -> u64 {
         inputs_build(
             self.builds.as_slice(),
             b.ins.as_slice(),
@@ -42,7 +42,7 @@ impl Ground {
     }
 
     /// The bound of a rule without its handlers.
-    pub fn rule(&self, b: &BoxC, rule: &RuleC) -> Bound {
+    pub(crate) fn rule(&self, b: &BoxC, rule: &RuleC) -> Bound {
         let patterns = rule.pats.as_slice();
         let result = result_bound(self.functions.as_slice(), &rule.result);
         let result = above(
@@ -115,7 +115,7 @@ fn handlers_bound(core: &Core, raised: &Raises, ground: &Ground, b: &BoxC, rule:
 }
 
 /// The bound of each rule of a box, with its handlers.
-pub fn rule_bounds(
+pub(crate) fn rule_bounds(
     alloc: Global,
     core: &Core,
     raised: &Raises,
@@ -133,7 +133,7 @@ pub fn rule_bounds(
 }
 
 /// The greatest of the bounds, each measure by itself.
-pub fn greatest(bounds: &[Bound]) -> Bound {
+pub(crate) fn greatest(bounds: &[Bound]) -> Bound {
     let mut most = Bound::nothing();
     for bound in bounds {
         most = either(most, *bound);
@@ -142,7 +142,7 @@ pub fn greatest(bounds: &[Bound]) -> Bound {
 }
 
 /// The bound of each node of the core; of a stream it is nothing.
-pub fn node_bounds(alloc: Global, core: &Core) -> Result<Vec<Bound>, AllocError> {
+pub(crate) fn node_bounds(alloc: Global, core: &Core) -> Result<Vec<Bound>, AllocError> {
     let raised = raises(alloc, core)?;
     let ground = Ground::of(alloc, core)?;
     let mut bounds = Vec::new(alloc);

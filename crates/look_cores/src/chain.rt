@@ -109,7 +109,7 @@ pub struct Deciding<'a> {
 
 impl<'a> Deciding<'a> {
     /// The dearest part of what is at that stage.
-    pub fn next(&self, stage: Stage<'a>) -> Link<'a> {
+    pub(crate) fn next(&self, stage: Stage<'a>) -> Link<'a> {
         match stage {
             Stage::Nowhere => end(),
             Stage::Expression(e) => self.of_expression(e),

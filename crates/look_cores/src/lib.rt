@@ -23,11 +23,8 @@ mod raised;
 mod result_bounds;
 mod texts;
 
-pub use bound::Bound;
 pub use bounds::put_bounds;
-pub use box_bounds::node_bounds;
 pub use broken::{Culprit, tell_of_core};
 pub use found::broken_in;
 pub use net::put_net;
 pub use raised::{first_raised, may_raise};
-pub use texts::{put_type, put_value};

@@ -4,7 +4,7 @@ use look_sources::Page;
 
 /// Puts the type.
 #[cycle(put_type)]
-pub fn put_type(page: &mut Page, types: &Types, ty: &Ty) {
+pub(crate) fn put_type(page: &mut Page, types: &Types, ty: &Ty) {
     match ty {
         Ty::Bool => page.put(b"bool"),
         Ty::Char => page.put(b"char"),
@@ -45,7 +45,7 @@ fn put_types(page: &mut Page, types: &Types, parts: &[Ty]) {
 
 /// Puts the value of the type.
 #[cycle(put_value)]
-pub fn put_value(page: &mut Page, types: &Types, ty: &Ty, value: &Value) {
+pub(crate) fn put_value(page: &mut Page, types: &Types, ty: &Ty, value: &Value) {
     match value {
         Value::Word(word) => put_word(page, ty, *word),
         Value::Tuple(parts) => {

@@ -3,33 +3,138 @@ use crate::names::is_given;
 use crate::reason::Reason;
 use crate::site::Site;
 use hume_ast::{Decl, Program};
-use hume_base::Text;
+use hume_base::limits::{MAX_LENGTH, MAX_PARTS, MAX_WIDTH, MAX_WIRE_DEPTH};
+use hume_base::{Keyword, Kind, Symbol, Text};
 use look_sources::{Sort, Span};
 
-/// Tells what is given and what is declared: of the part that was found, or else of an equation or a rule.
-pub fn tell_counts(site: &Site, program: &Program, found: Option<Span>, reason: &mut Reason) {
-    if let Some(span) = found {
-        reason.here = Some(site.place(span.first));
-        if let Some(token) = site.first_name(&span) {
-            if let Some(declared) = declared_parts(program, site.name(token)) {
-                if declared != span.parts {
-                    put_counts(site.name(token), span.parts, declared, reason);
-                }
-            }
-        }
+/// Tells what the part gives and what is declared.
+pub fn tell_counts(site: &Site, program: &Program, span: &Span, reason: &mut Reason) {
+    if span.sort == Sort::Type {
+        tell_type(site, span, reason);
         return;
     }
+    if is_word(site, span.first, Keyword::Raise) {
+        let _ = tell_arguments(site, program, span, span.first.saturating_add(1), reason);
+        return;
+    }
+    if tell_arguments(site, program, span, span.first, reason) || is_vector(site, span.first) {
+        return;
+    }
+    if let Some(outputs) = outputs_of(program, span.declaration) {
+        put_outputs(outputs, span, reason);
+    }
+}
+
+// Tells of a call, a constructor or a raise, whose name the token is, what it has and takes, if these differ; and whether they do.
+fn tell_arguments(
+    site: &Site,
+    program: &Program,
+    span: &Span,
+    token: usize,
+    reason: &mut Reason,
+) -> bool {
+    let name = site.name(token);
+    match declared_parts(program, name) {
+        Some(declared) if declared != span.parts => {
+            put_counts(name, span.parts, declared, reason);
+            true
+        }
+        _ => false,
+    }
+}
+
+fn is_word(site: &Site, token: usize, keyword: Keyword) -> bool {
+    match site.tokens.get(token) {
+        None => false,
+        Some(token) => match &token.kind {
+            Kind::Word(word) => *word == keyword,
+            _ => false,
+        },
+    }
+}
+
+fn is_vector(site: &Site, token: usize) -> bool {
+    match site.tokens.get(token) {
+        None => false,
+        Some(token) => matches!(&token.kind, Kind::Sign(Symbol::OpenAngles)),
+    }
+}
+
+// How many outputs the box has that the declaration declares.
+fn outputs_of(program: &Program, declaration: usize) -> Option<usize> {
+    match &program.decls.get(declaration)?.1 {
+        Decl::BoxD(_, _, outputs, _, _, _) => Some(outputs.len()),
+        _ => None,
+    }
+}
+
+fn put_outputs(outputs: usize, span: &Span, reason: &mut Reason) {
+    let given = span.parts.max(1);
+    if span.sort != Sort::Expression || outputs == given || given > MAX_PARTS {
+        return;
+    }
+    put_wanted(b"  the box has ", outputs, b" output", reason);
+    put_given(b", and this gives ", given, b" value", reason);
+}
+
+fn put_count(count: usize, what: &[u8], reason: &mut Reason) {
+    reason.note.number(count as u64);
+    reason.note.put(what);
+    reason
+        .note
+        .put(if count == 1 { b"".as_slice() } else { b"s" });
+}
+
+/// Tells of the first equation, rule, handler or wire in the line what it has and what is declared, where these differ.
+pub fn tell_miscounted(site: &Site, program: &Program, reason: &mut Reason) {
     for span in site.spans {
         if site.is_here(span) {
+            if span.sort == Sort::WireTo {
+                tell_depth(site, program, span, reason);
+            }
             if let Some(wanted) = wanted_parts(site, program, span) {
                 if wanted != span.parts {
                     reason.here = Some(site.place(span.first));
-                    put_counts(part_name(span.sort), span.parts, wanted, reason);
+                    put_miscounted(span, wanted, reason);
                     return;
                 }
             }
         }
     }
+}
+
+// Tells the depths that a wire may have, if it has another one.
+fn tell_depth(site: &Site, program: &Program, to: &Span, reason: &mut Reason) {
+    let Some(decl) = program.decls.get(to.declaration) else {
+        return;
+    };
+    if let Decl::Wire(_, _, Some(depth), _) = &decl.1 {
+        if *depth == 0 || *depth > u64::from(MAX_WIRE_DEPTH) {
+            reason.here = Some(site.place(to.after.saturating_add(1)));
+            put_range(b"  a depth is 1 to ", u64::from(MAX_WIRE_DEPTH), reason);
+        }
+    }
+}
+
+// Tells the widths, lengths or parts that a type may have.
+fn tell_type(site: &Site, span: &Span, reason: &mut Reason) {
+    if is_word(site, span.first, Keyword::Vector) {
+        put_range(b"  a length is 1 to ", u64::from(MAX_LENGTH), reason);
+    } else if is_word(site, span.first, Keyword::Int) || is_word(site, span.first, Keyword::Nat) {
+        put_range(b"  a width is 1 to ", u64::from(MAX_WIDTH), reason);
+    } else {
+        put_range(
+            b"  the parts of a tuple are 2 to ",
+            MAX_PARTS as u64,
+            reason,
+        );
+    }
+}
+
+fn put_range(words: &[u8], most: u64, reason: &mut Reason) {
+    reason.note.put(words);
+    reason.note.number(most);
+    reason.note.put(b"\n");
 }
 
 fn put_counts(name: &[u8], given: usize, declared: usize, reason: &mut Reason) {
@@ -43,12 +148,32 @@ fn put_counts(name: &[u8], given: usize, declared: usize, reason: &mut Reason) {
     note.put(b" here\n");
 }
 
-fn part_name(sort: Sort) -> &'static [u8] {
-    match sort {
-        Sort::Rule => b"rule",
-        Sort::Handler => b"handler",
-        _ => b"equation",
+fn put_miscounted(span: &Span, wanted: usize, reason: &mut Reason) {
+    match span.sort {
+        Sort::Rule => {
+            put_wanted(b"  the box has ", wanted, b" input", reason);
+            put_given(b", and this rule has ", span.parts, b" pattern", reason);
+        }
+        Sort::Handler => {
+            put_wanted(b"  the exception carries ", wanted, b" value", reason);
+            put_given(b", and this handler has ", span.parts, b" name", reason);
+        }
+        _ => {
+            put_wanted(b"  the function has ", wanted, b" parameter", reason);
+            put_given(b", and this equation has ", span.parts, b" pattern", reason);
+        }
     }
+}
+
+fn put_wanted(before: &[u8], count: usize, what: &[u8], reason: &mut Reason) {
+    reason.note.put(before);
+    put_count(count, what, reason);
+}
+
+fn put_given(before: &[u8], count: usize, what: &[u8], reason: &mut Reason) {
+    reason.note.put(before);
+    put_count(count, what, reason);
+    reason.note.put(b"\n");
 }
 
 // How many patterns a rule or an equation needs, and how many names a handler.

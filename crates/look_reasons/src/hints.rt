@@ -1,17 +1,25 @@
-//! Hints: what is accepted and yet hardly meant.
+//! Warnings: what is accepted and probably a mistake.
 //!
-//! Main call: `put_all_hints`. `unused` finds names that nothing uses, `behind` parts that are never reached, `outputs` outputs
-//! that no rule writes, and `waiting` boxes that wait for ever.
+//! Main call: `put_all_hints`. `unused` finds names that nothing uses, by `names`, a table of
+//! all names; `behind` parts that are never reached, `outputs` outputs
+//! that no rule writes, `waiting` boxes that wait for ever, `lost` rules behind which a box waits for ever, and `constant` comparisons that
+//! give one answer alone, by their `verdicts`.
 //!
 //! Proved: nothing beyond safety.
 
 mod behind;
+mod constant;
+mod lost;
+mod names;
 mod outputs;
 mod parts;
 mod unused;
+mod verdicts;
 mod waiting;
 
 use crate::hints::behind::put_behind;
+use crate::hints::constant::put_constant;
+use crate::hints::lost::put_lost;
 use crate::hints::outputs::put_outputs;
 use crate::hints::unused::put_unused;
 use crate::hints::waiting::put_waiting;
@@ -28,8 +36,9 @@ pub fn put_all_hints(
     page: &mut Page,
 ) -> Result<(), AllocError> {
     put_waiting(alloc, parts, core, page)?;
+    put_lost(parts, core, page);
     put_outputs(parts, core, page);
+    put_constant(alloc, parts, core, page)?;
     put_behind(parts, page);
-    put_unused(parts, page);
-    Ok(())
+    put_unused(alloc, parts, page)
 }

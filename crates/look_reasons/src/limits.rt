@@ -121,13 +121,16 @@ pub fn breaks_limits(
     let mut declared = Declared::nothing();
     let mut broken: Option<Rule> = None;
     let mut line = site.refusal.line;
+    let mut place: usize = 0;
+    let mut here: u32 = 1;
     for i in 0..site.spans.len() {
         let span = site.spans[i];
         declared.count(&span);
         broken = least(broken, excess_of(declared, &span, words.of_part(i)));
         if span.sort == Sort::Declaration {
+            here = here.saturating_add(line_ends(site, place, site.place(span.first)));
+            place = site.place(span.first);
             if let Some(rule) = broken {
-                let here = site.line(span.first);
                 if here > line {
                     line = here;
                     found.push(Refusal { rule, line })?;
@@ -137,6 +140,17 @@ pub fn breaks_limits(
         }
     }
     Ok(found)
+}
+
+// How many lines end between the places.
+fn line_ends(site: &Site, from: usize, to: usize) -> u32 {
+    let mut count: u32 = 0;
+    for byte in site.text.get(from..to).unwrap_or(b"") {
+        if *byte == b'\n' {
+            count = count.saturating_add(1);
+        }
+    }
+    count
 }
 
 // The rule with the lesser code.

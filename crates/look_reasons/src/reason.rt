@@ -11,6 +11,8 @@ pub struct Reason {
     pub here: Option<usize>,
     /// What is said, in lines.
     pub note: Page,
+    /// How it is mended, where more is known than of the rule.
+    pub remedy: Option<&'static [u8]>,
 }
 
 impl Reason {
@@ -19,6 +21,7 @@ impl Reason {
             head,
             here: None,
             note: Page::make(alloc),
+            remedy: None,
         }
     }
 }

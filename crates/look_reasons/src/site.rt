@@ -74,7 +74,7 @@ impl<'a> Site<'a> {
     }
 
     /// The first declaration of the line.
-    pub fn declaration(&self) -> Option<Span> {
+    pub(crate) fn declaration(&self) -> Option<Span> {
         for span in self.spans {
             if span.sort == Sort::Declaration && self.is_here(span) {
                 return Some(*span);
@@ -84,18 +84,8 @@ impl<'a> Site<'a> {
     }
 
     /// The line of a token.
-    pub fn line(&self, token: usize) -> u32 {
+    pub(crate) fn line(&self, token: usize) -> u32 {
         Spot::of(self.text, self.place(token)).line
-    }
-
-    /// The first name among the tokens of a part.
-    pub fn first_name(&self, span: &Span) -> Option<usize> {
-        for token in span.first..span.after {
-            if !self.name(token).is_empty() {
-                return Some(token);
-            }
-        }
-        None
     }
 
     /// Whether the token is a name with a capital letter.
@@ -108,7 +98,7 @@ impl<'a> Site<'a> {
 }
 
 /// The name that the token is, if it is one.
-pub fn name_of(tokens: &[Token], token: usize) -> &[u8] {
+pub(crate) fn name_of(tokens: &[Token], token: usize) -> &[u8] {
     match tokens.get(token) {
         None => b"",
         Some(token) => match &token.kind {
@@ -120,7 +110,7 @@ pub fn name_of(tokens: &[Token], token: usize) -> &[u8] {
 }
 
 /// The place of a token; of one that isn't there, the end.
-pub fn place_of(text: &[u8], tokens: &[Token], token: usize) -> usize {
+pub(crate) fn place_of(text: &[u8], tokens: &[Token], token: usize) -> usize {
     match tokens.get(token) {
         None => text.len(),
         Some(token) => token.place as usize,

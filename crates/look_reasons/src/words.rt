@@ -31,7 +31,7 @@ impl Words {
     }
 
     /// The words of the part of that number, if it is a type or the name of a declared data type; or 0.
-    pub fn of_part(&self, number: usize) -> u64 {
+    pub(crate) fn of_part(&self, number: usize) -> u64 {
         match self.parts.get(number) {
             None => 0,
             Some(words) => *words,

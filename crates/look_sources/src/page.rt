@@ -29,7 +29,7 @@ impl Page {
     }
 
     /// Puts the byte `count` times.
-    pub fn fill(&mut self, byte: u8, count: usize) {
+    pub(crate) fn fill(&mut self, byte: u8, count: usize) {
         for _ in 0..count {
             self.put(&[byte]);
         }

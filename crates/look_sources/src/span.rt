@@ -11,6 +11,8 @@ pub enum Sort {
     Expression,
     /// What a variable is known in, with the place that binds it.
     Scope,
+    /// From here on the variables of the scope are known that begins with the same token.
+    Known,
     Equation,
     Rule,
     Handler,
@@ -30,6 +32,14 @@ pub enum Sort {
     HandledName,
     /// The name of an equation.
     EquationName,
+    /// A name that is used: of a data type, of a constructor, of an exception that is raised, of a function, or of a variable.
+    TypeUse,
+    ConstructorUse,
+    ExceptionUse,
+    FunctionUse,
+    VariableUse,
+    /// A comparison of two parts.
+    Comparison,
     /// A rule, equation or alternative behind the one of that number, which takes all that it takes.
     Shadowed,
 }

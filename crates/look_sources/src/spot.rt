@@ -1,13 +1,17 @@
 //! Where a place of a source is, for people.
 use crate::page::Page;
 
-/// The line and the column of a place, counted from 1, and where its line begins and ends.
+// How many bytes of a line are shown at most, and how many of them before the caret where the line is longer.
+const MAX_SHOWN: usize = 160;
+
+const MAX_BEFORE: usize = 80;
+
+/// The line and the column of a place, counted from 1, and where its line begins.
 #[derive(Clone, Copy, Debug)]
 pub struct Spot {
     pub line: u32,
     pub column: u32,
     begin: usize,
-    end: usize,
 }
 
 impl Spot {
@@ -30,12 +34,10 @@ impl Spot {
                 column = column.saturating_add(1);
             }
         }
-        let end = line_end(text, begin);
         Spot {
             line,
             column,
             begin,
-            end,
         }
     }
 
@@ -49,34 +51,55 @@ impl Spot {
         page.put(b": ");
     }
 
-    /// Puts the line, and under it a caret at the column.
+    /// Puts the line, and under it a caret at the column. Of a long line the bytes around the column are put, with `..` where it
+    /// is cut.
     pub fn put_line(&self, text: &[u8], page: &mut Page) {
-        let Some(line) = text.get(self.begin..self.end) else {
-            return;
-        };
-        page.put(b"  ");
-        for byte in line {
+        let place = self
+            .begin
+            .saturating_add(self.column.saturating_sub(1) as usize);
+        let from = self.first_shown(text, place);
+        let to = shown_end(text, from);
+        let is_cut = from > self.begin;
+        page.put(if is_cut { b"  ..".as_slice() } else { b"  " });
+        for byte in text.get(from..to).unwrap_or(b"") {
             page.put(&[shown(*byte)]);
         }
-        page.put(b"\n  ");
-        let mut left = self.column.saturating_sub(1);
-        for byte in line {
-            if left == 0 {
-                break;
-            }
-            left = left.saturating_sub(1);
+        page.put(if is_end(text, to) {
+            b"\n  ".as_slice()
+        } else {
+            b"..\n  "
+        });
+        page.put(if is_cut { b"  ".as_slice() } else { b"" });
+        for byte in text.get(from..place).unwrap_or(b"") {
             put_blank(*byte, page);
         }
         page.put(b"^\n");
     }
+
+    // From where on the line is shown: from its begin if it can be shown whole, and else from shortly before the place.
+    fn first_shown(&self, text: &[u8], place: usize) -> usize {
+        if is_end(text, shown_end(text, self.begin)) {
+            self.begin
+        } else {
+            self.begin.max(place.saturating_sub(MAX_BEFORE))
+        }
+    }
 }
 
-// Where the line ends that begins there.
-fn line_end(text: &[u8], begin: usize) -> usize {
-    let mut end = begin;
-    for byte in text.iter().skip(begin) {
-        if *byte == b'\n' {
-            break;
+// Whether a line ends at the place.
+fn is_end(text: &[u8], place: usize) -> bool {
+    match text.get(place) {
+        None => true,
+        Some(byte) => *byte == b'\n',
+    }
+}
+
+// To where a line is shown that is shown from there on.
+fn shown_end(text: &[u8], from: usize) -> usize {
+    let mut end = from;
+    for _ in 0..MAX_SHOWN {
+        if is_end(text, end) {
+            return end;
         }
         end = end.saturating_add(1);
     }

@@ -28,6 +28,7 @@ pub(crate) fn walk_rules(walk: &mut Walk, fair: bool, rules: &[(List<Pat>, Exp)]
         let patterns = rule.0.as_slice();
         walk_patterns(walk, patterns, 1);
         walk.skip(2);
+        walk.note(Sort::Known, first, 0, 0);
         walk_expression(walk, &rule.1);
         walk.note(Sort::Rule, first, i.saturating_add(1), patterns.len());
         if !fair {
@@ -50,6 +51,7 @@ pub(crate) fn walk_handlers(walk: &mut Walk, handlers: &[(Text, Option<Pat>, Exp
             walk_pattern(walk, pattern);
         }
         walk.skip(1);
+        walk.note(Sort::Known, first, 0, 0);
         walk_expression(walk, &handler.2);
         walk.note(Sort::Handler, first, i.saturating_add(1), count);
         walk.note(Sort::Scope, first, 0, 0);

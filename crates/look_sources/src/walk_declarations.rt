@@ -86,6 +86,7 @@ fn walk_equations(walk: &mut Walk, equations: &[(Text, List<Pat>, Exp)]) {
         walk.name(Sort::EquationName, i.saturating_add(1));
         walk_patterns(walk, patterns, 0);
         walk.skip(1);
+        walk.note(Sort::Known, first, 0, 0);
         walk_expression(walk, &equation.2);
         walk.skip(1);
         walk.note(Sort::Equation, first, i.saturating_add(1), patterns.len());

@@ -4,7 +4,7 @@ use crate::span::Sort;
 use crate::walk::Walk;
 use crate::walk_patterns::walk_pattern;
 use crate::walk_types::walk_type;
-use hume_ast::{Exp, Pat};
+use hume_ast::{BinOp, Exp, Pat};
 
 #[cycle(walk_expressions)]
 pub(crate) fn walk_expression(walk: &mut Walk, exp: &Exp) {
@@ -23,19 +23,27 @@ pub(crate) fn walk_expression(walk: &mut Walk, exp: &Exp) {
             walk.skip(1);
         }
         Exp::Raise(_, value) => {
-            walk.skip(2);
+            walk.skip(1);
+            walk.name(Sort::ExceptionUse, 0);
             if let Some(value) = value {
+                count = 1;
                 walk_expression(walk, value);
             }
         }
-        Exp::Binary(_, left, right) => {
+        Exp::Binary(op, left, right) => {
             walk_expression(walk, left);
             walk_after(walk, 1, right);
+            note_comparison(walk, *op, first);
         }
         Exp::Neg(part) | Exp::Not(part) => walk_after(walk, 1, part),
-        Exp::App(_, arguments) | Exp::Con(_, arguments) => {
+        Exp::App(_, arguments) => {
             count = arguments.len();
-            walk.skip(1);
+            walk.name(sort_of_name(count), 0);
+            walk_expressions(walk, arguments.as_slice(), 0);
+        }
+        Exp::Con(_, arguments) => {
+            count = arguments.len();
+            walk.name(Sort::ConstructorUse, 0);
             walk_expressions(walk, arguments.as_slice(), 0);
         }
         Exp::Update(vector, place, item) => {
@@ -64,6 +72,25 @@ pub(crate) fn walk_expression(walk: &mut Walk, exp: &Exp) {
     walk.note(Sort::Expression, first, 0, count);
 }
 
+// Notes the operation that began at token `first` and ends here, if it is a comparison.
+fn note_comparison(walk: &mut Walk, op: BinOp, first: usize) {
+    match op {
+        BinOp::Eq | BinOp::Ne | BinOp::Lt | BinOp::Le | BinOp::Gt | BinOp::Ge => {
+            walk.note(Sort::Comparison, first, 0, 0);
+        }
+        _ => {}
+    }
+}
+
+// What a small name is that has so many arguments.
+fn sort_of_name(arguments: usize) -> Sort {
+    if arguments == 0 {
+        Sort::VariableUse
+    } else {
+        Sort::FunctionUse
+    }
+}
+
 /// An expression after so many tokens.
 #[cycle(walk_expressions)]
 fn walk_after(walk: &mut Walk, before: usize, exp: &Exp) {
@@ -77,7 +104,9 @@ fn walk_let(walk: &mut Walk, value: &Exp, body: &Exp) {
     let first = walk.at();
     walk.name(Sort::Variable, 0);
     walk_after(walk, 1, value);
-    walk_after(walk, 1, body);
+    walk.skip(1);
+    walk.note(Sort::Known, first, 0, 0);
+    walk_expression(walk, body);
     walk.note(Sort::Scope, first, 0, 0);
 }
 
@@ -89,7 +118,9 @@ fn walk_alternatives(walk: &mut Walk, alternatives: &[(Pat, Exp)]) {
         let first = walk.at();
         let alternative = &alternatives[i];
         walk_pattern(walk, &alternative.0);
-        walk_after(walk, 1, &alternative.1);
+        walk.skip(1);
+        walk.note(Sort::Known, first, 0, 0);
+        walk_expression(walk, &alternative.1);
         walk.note(Sort::Alternative, first, i.saturating_add(1), 0);
         note_shadowed(walk, first, covering_alternative(alternatives, i));
         walk.note(Sort::Scope, first, 0, 0);

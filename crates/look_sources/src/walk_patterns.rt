@@ -13,7 +13,7 @@ pub(crate) fn walk_pattern(walk: &mut Walk, pattern: &Pat) {
         Pat::Any | Pat::Letter(_) | Pat::Truth(_) | Pat::Star | Pat::AnyStar => walk.skip(1),
         Pat::Con(_, parts) => {
             count = parts.len();
-            walk.skip(1);
+            walk.name(Sort::ConstructorUse, 0);
             walk_patterns(walk, parts.as_slice(), 0);
         }
         Pat::Paren(inner) => {

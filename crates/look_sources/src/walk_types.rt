@@ -7,7 +7,8 @@ use hume_ast::TyExp;
 pub(crate) fn walk_type(walk: &mut Walk, ty: &TyExp) {
     let first = walk.at();
     match ty {
-        TyExp::Bool | TyExp::Char | TyExp::Named(_) => walk.skip(1),
+        TyExp::Bool | TyExp::Char => walk.skip(1),
+        TyExp::Named(_) => walk.name(Sort::TypeUse, 0),
         TyExp::Int(_) | TyExp::Nat(_) => walk.skip(2),
         TyExp::Vector(_, item) => {
             walk.skip(3);

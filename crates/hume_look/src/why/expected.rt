@@ -69,13 +69,12 @@ const SYMBOLS: [Symbol; 23] = [
     Symbol::At,
 ];
 
-/// Puts the kinds of token with which programs go on after these tokens. Each is tried.
-pub(crate) fn put_expected(
+/// The kinds of token with which programs go on after these tokens. Each is tried.
+pub(crate) fn expected_after(
     alloc: Global,
     tokens: &mut Vec<Token>,
     end: u32,
-    page: &mut Page,
-) -> Result<(), AllocError> {
+) -> Result<Page, AllocError> {
     let mut list = Page::make(alloc);
     let lower = Kind::Lower(Text::from_bytes(alloc, b"a")?);
     try_kind(alloc, tokens, lower, end, b"a lower name", &mut list)?;
@@ -94,10 +93,7 @@ pub(crate) fn put_expected(
     try_kind(alloc, tokens, quoted, end, b"a quoted text", &mut list)?;
     try_keywords(alloc, tokens, end, &mut list)?;
     try_symbols(alloc, tokens, end, &mut list)?;
-    page.put(b"  expected: ");
-    page.append(&list);
-    page.put(b"\n");
-    Ok(())
+    Ok(list)
 }
 
 fn try_keywords(

@@ -1,7 +1,8 @@
 //! Which type fits in the place of an expression, and which one it has by itself.
 use crate::why::marks::{Around, Mark, keep, marked_around, put_away};
-use crate::why::narrow::is_mended;
-use look_reasons::{Site, types_of_source};
+use crate::why::trying::Trying;
+use hume_base::Rule;
+use look_reasons::{Reason, Site, put_numbers, tell_comparison, types_of_source};
 use look_sources::{Page, Span};
 use std::alloc::{AllocError, Global};
 
@@ -9,76 +10,87 @@ use std::alloc::{AllocError, Global};
 pub(crate) fn tell_types(
     alloc: Global,
     site: &Site,
-    marks: &mut [Mark],
-    span: Span,
-    left: &mut usize,
-    note: &mut Page,
+    trying: &mut Trying,
+    span: &Span,
+    reason: &mut Reason,
 ) -> Result<(), AllocError> {
     let types = types_of_source(alloc, site)?;
     let types = types.as_slice();
-    let wanted = only_fitting(alloc, site, marks, span, types, true, left)?;
-    let own = only_fitting(alloc, site, marks, span, types, false, left)?;
-    if let Some(wanted) = wanted {
-        put_type(b"  here `", types, wanted, b"` is expected\n", note);
+    let wanted = only_fitting(alloc, site, trying, span, types, true)?;
+    if let Some(ty) = type_at(types, wanted) {
+        put_type(b"  here `", ty, b"` is expected\n", reason);
+        if site.refusal.rule == Rule::C41 {
+            put_numbers(ty, reason);
+        }
     }
-    if let Some(own) = own {
-        put_type(b"  by itself this is a `", types, own, b"`\n", note);
+    if site.refusal.rule == Rule::C40 {
+        let own = only_fitting(alloc, site, trying, span, types, false)?;
+        if let Some(ty) = type_at(types, own) {
+            put_type(b"  by itself this is of type `", ty, b"`\n", reason);
+            tell_comparison(site, span, ty, reason);
+        }
     }
     Ok(())
 }
 
-fn put_type(before: &[u8], types: &[Page], number: usize, behind: &[u8], note: &mut Page) {
-    if let Some(ty) = types.get(number) {
-        note.put(before);
-        note.put(ty.bytes());
-        note.put(behind);
+fn type_at(types: &[Page], number: Option<usize>) -> Option<&[u8]> {
+    match types.get(number?) {
+        None => None,
+        Some(page) => Some(page.bytes()),
     }
+}
+
+fn put_type(before: &[u8], ty: &[u8], behind: &[u8], reason: &mut Reason) {
+    reason.note.put(before);
+    reason.note.put(ty);
+    reason.note.put(behind);
 }
 
 // The number of the only type that fits: in the place of the expression, or the expression itself.
 fn only_fitting(
     alloc: Global,
     site: &Site,
-    marks: &mut [Mark],
-    span: Span,
+    trying: &mut Trying,
+    span: &Span,
     types: &[Page],
     wanted: bool,
-    left: &mut usize,
 ) -> Result<Option<usize>, AllocError> {
     let mut only = None;
     for i in 0..types.len() {
-        if *left == 0 {
-            return Ok(None);
-        }
-        *left = left.saturating_sub(site.text.len());
+        let ty = types[i].bytes();
         let text = if wanted {
-            with_place_of(alloc, site, marks, span, types[i].bytes())?
+            with_place_of(alloc, site, trying, span, ty)?
         } else {
-            with_use_of(alloc, site, marks, span, types[i].bytes())?
+            with_use_of(alloc, site, trying, span, ty)?
         };
-        if is_mended(alloc, text.as_slice(), site.refusal)? {
+        if trying.is_mended(alloc, site, text.as_slice())? {
             if only.is_some() {
                 return Ok(None);
             }
             only = Some(i);
         }
     }
-    Ok(only)
+    Ok(if trying.is_over() { None } else { only })
 }
 
 // The source with a value of the type in the place of the expression.
 fn with_place_of(
     alloc: Global,
     site: &Site,
-    marks: &mut [Mark],
-    span: Span,
+    trying: &mut Trying,
+    span: &Span,
     ty: &[u8],
 ) -> Result<Vec<u8>, AllocError> {
     let mut ending = Page::make(alloc);
     ending.put(b"\nlook_given :: bool -> ");
     ending.put(ty);
     ending.put(b" ;\nlook_given _ = raise NoCase ;\n");
-    put_away(marks, span.first, span.after, Mark::Gone);
+    put_away(
+        trying.marks.as_mut_slice(),
+        span.first,
+        span.after,
+        Mark::Gone,
+    );
     let around = Around {
         first: span.first,
         after: span.after,
@@ -86,8 +98,8 @@ fn with_place_of(
         behind: b" ",
         ending: ending.bytes(),
     };
-    let text = marked_around(alloc, site, marks, around);
-    keep(marks, span.first, span.after);
+    let text = marked_around(alloc, site, trying.marks.as_slice(), around);
+    keep(trying.marks.as_mut_slice(), span.first, span.after);
     text
 }
 
@@ -95,8 +107,8 @@ fn with_place_of(
 fn with_use_of(
     alloc: Global,
     site: &Site,
-    marks: &[Mark],
-    span: Span,
+    trying: &Trying,
+    span: &Span,
     ty: &[u8],
 ) -> Result<Vec<u8>, AllocError> {
     let mut ending = Page::make(alloc);
@@ -110,5 +122,5 @@ fn with_use_of(
         behind: b" in let look_use = look_taken look_own in raise NoCase) ",
         ending: ending.bytes(),
     };
-    marked_around(alloc, site, marks, around)
+    marked_around(alloc, site, trying.marks.as_slice(), around)
 }

@@ -1,6 +1,6 @@
 //! Which declarations break rules on limits, with the figures.
 
-use crate::why::message::put_message;
+use crate::why::message::{MAX_OTHERS, put_message, put_more};
 use check_signatures::signatures_of;
 use hume_ast::Program;
 use hume_base::limits::MAX_TOKENS;
@@ -8,7 +8,7 @@ use look_reasons::{Reason, Site, Words, breaks_limits, tell_limits};
 use look_sources::Page;
 use std::alloc::{AllocError, Global};
 
-/// Puts the messages: the first, and one for each later line.
+/// Puts the messages: the first, and those of later lines.
 pub(crate) fn put_of_limits(
     alloc: Global,
     name: &[u8],
@@ -25,9 +25,10 @@ pub(crate) fn put_of_limits(
             let words = Words::of(alloc, site, &ordered.signatures.types)?;
             put_limit(alloc, name, site, &words, page)?;
             let others = breaks_limits(alloc, site, &words)?;
-            for refusal in &others {
+            for refusal in others.iter().take(MAX_OTHERS) {
                 put_limit(alloc, name, &site.other(*refusal), &words, page)?;
             }
+            put_more(others.len(), page);
             Ok(())
         }
     }

@@ -113,7 +113,8 @@ fn put_token(site: &Site, marks: &[Mark], token: usize, page: &mut Page) {
     }
 }
 
-fn mark_of(marks: &[Mark], token: usize) -> Mark {
+/// What stands in the place of the token.
+pub(crate) fn mark_of(marks: &[Mark], token: usize) -> Mark {
     match marks.get(token) {
         None => Mark::Kept,
         Some(mark) => *mark,

@@ -1,14 +1,60 @@
 //! Which expression of a rule or a handler may raise what isn't handled.
 use crate::sources::core_of;
 use crate::why::marks::{Mark, all_kept, keep, marked, put_away};
+use hume_base::Rule;
 use hume_model::Core;
 use look_cores::{Culprit, first_raised, may_raise};
-use look_reasons::Site;
+use look_reasons::{Reason, Site};
 use look_sources::{Sort, Span};
 use std::alloc::{AllocError, Global};
 
 // How many bytes of sources are checked again at most.
 const MAX_CHECKED_BYTES: usize = 8_000_000;
+
+const NO_CASE_REMEDY: &[u8] =
+    b"end a `case` or a function with a pattern for all the rest: of several parameters an equation of variables or `_`";
+
+/// An expression that raises an exception, by the number of that.
+#[derive(Clone, Copy)]
+pub(crate) struct Raising {
+    pub(crate) span: Span,
+    exn: u32,
+}
+
+impl Raising {
+    /// Tells what raises the exception, and how that is mended.
+    pub(crate) fn tell(&self, site: &Site, core: &Core, reason: &mut Reason) {
+        reason.here = Some(site.place(self.span.first));
+        if self.span.parts > 0 && !site.is_upper(self.span.first) {
+            put_call(site.name(self.span.first), reason);
+        }
+        if let Some(raised) = core.exns.get(self.exn as usize) {
+            if site.refusal.rule == Rule::C60 {
+                reason.remedy = remedy_of_exception(raised.name.bytes());
+            }
+        }
+    }
+}
+
+fn put_call(name: &[u8], reason: &mut Reason) {
+    if !name.is_empty() {
+        reason.note.put(b"  the call of `");
+        reason.note.put(name);
+        reason.note.put(b"` raises it\n");
+    }
+}
+
+fn remedy_of_exception(name: &[u8]) -> Option<&'static [u8]> {
+    if name == b"NoCase".as_slice() {
+        Some(NO_CASE_REMEDY)
+    } else if name == b"DivZero".as_slice() {
+        Some(b"add a handler `handle DivZero -> ..`, or divide by a literal")
+    } else if name == b"Range".as_slice() {
+        Some(b"add a handler `handle Range -> ..`, or write the place as a literal")
+    } else {
+        None
+    }
+}
 
 /// The smallest expression without which the rule or handler doesn't raise the first exception that it may raise wrongly.
 pub(crate) fn raising_part(
@@ -16,7 +62,7 @@ pub(crate) fn raising_part(
     site: &Site,
     core: &Core,
     culprit: Culprit,
-) -> Result<Option<Span>, AllocError> {
+) -> Result<Option<Raising>, AllocError> {
     let Some(exn) = first_raised(alloc, core, site.refusal.line, culprit)? else {
         return Ok(None);
     };
@@ -37,7 +83,10 @@ pub(crate) fn raising_part(
             }
         }
     }
-    Ok(best)
+    Ok(match best {
+        None => None,
+        Some(span) => Some(Raising { span, exn }),
+    })
 }
 
 fn is_inside(best: Option<Span>, span: Span) -> bool {

@@ -3,19 +3,19 @@ ghost use Rattle.std.specs.Prelude.{◌≤◌, length};
 ghost use Rattle.hume_base.specs.declared.limits.TheConstants.{MAX_SOURCE_BYTES as MOST_BYTES};
 
 use crate::sources::core_of;
-use crate::why::expected::put_expected;
+use crate::why::expected::expected_after;
 use crate::why::large::put_of_limits;
-use crate::why::message::put_message;
+use crate::why::message::{MAX_OTHERS, put_message, put_more};
 use crate::why::parts::put_of_parts;
 use crate::why::raising::raising_part;
 use hume_ast::Program;
 use hume_base::limits::MAX_SOURCE_BYTES;
-use hume_base::{Refusal, Token};
+use hume_base::{Refusal, Rule, Token};
 use hume_lex::{LexError, lex};
 use hume_model::Core;
 use hume_parse::parse;
 use look_cores::{Culprit, broken_in, tell_of_core};
-use look_reasons::{Reason, Site};
+use look_reasons::{Misfit, Reason, Site, tell_habit};
 use look_sources::{Page, spans_of};
 use parse_errors::ParseError;
 use std::alloc::{AllocError, Global};
@@ -40,7 +40,10 @@ pub(crate) fn put_why(
             | LexError::LongName(place)
             | LexError::TooManyTokens(place),
         ) => {
-            let reason = Reason::at(alloc, Some(place as usize));
+            let mut reason = Reason::at(alloc, Some(place as usize));
+            if refusal.rule == Rule::C10 {
+                tell_habit(text, place as usize, &mut reason);
+            }
             put_message(name, text, refusal, &reason, page);
             Ok(())
         }
@@ -62,7 +65,7 @@ fn put_of_tokens(
     let reason = match parse(alloc, tokens.as_slice(), end) {
         Err(ParseError::NoMemory) => return Err(AllocError),
         Err(ParseError::Deep(place)) => Reason::at(alloc, Some(place as usize)),
-        Err(ParseError::Syntax(place)) => reason_of_syntax(alloc, tokens, place, end)?,
+        Err(ParseError::Syntax(place)) => reason_of_syntax(alloc, text, tokens, place)?,
         Ok(program) => {
             return put_of_program(
                 alloc,
@@ -82,10 +85,12 @@ fn put_of_tokens(
 // The place at which no program goes on, and what would have been accepted there.
 fn reason_of_syntax(
     alloc: Global,
+    text: &[u8],
     tokens: Vec<Token>,
     place: u32,
-    end: u32,
-) -> Result<Reason, AllocError> {
+) -> Result<Reason, AllocError>
+    requires { length text.now ≤ MOST_BYTES }
+{
     let mut reason = Reason::at(alloc, Some(place as usize));
     let mut tokens = tokens;
     let mut count: usize = 0;
@@ -97,8 +102,14 @@ fn reason_of_syntax(
     if count == tokens.len() {
         reason.note.put(b"  the source ends too early\n");
     }
+    let misfit = Misfit::of(tokens.get(count));
     tokens.truncate(count);
-    put_expected(alloc, &mut tokens, end, &mut reason.note)?;
+    let expected = expected_after(alloc, &mut tokens, text.len() as u32)?;
+    reason.note.put(b"  expected: ");
+    reason.note.append(&expected);
+    reason.note.put(b"\n");
+    misfit.tell(expected.bytes(), &mut reason);
+    tell_habit(text, place as usize, &mut reason);
     Ok(reason)
 }
 
@@ -137,9 +148,10 @@ fn put_of_core(
 ) -> Result<(), AllocError> {
     put_one_of_core(alloc, name, site, core, page)?;
     let others = broken_in(alloc, core, site.refusal)?;
-    for refusal in &others {
+    for refusal in others.iter().take(MAX_OTHERS) {
         put_one_of_core(alloc, name, &site.other(*refusal), core, page)?;
     }
+    put_more(others.len(), page);
     Ok(())
 }
 
@@ -155,8 +167,8 @@ fn put_one_of_core(
     reason.here = place_of_culprit(site, culprit);
     if let Some(culprit) = culprit {
         if site.refusal.rule.phase() == 9 {
-            if let Some(span) = raising_part(alloc, site, core, culprit)? {
-                reason.here = Some(site.place(span.first));
+            if let Some(raising) = raising_part(alloc, site, core, culprit)? {
+                raising.tell(site, core, &mut reason);
             }
         }
     }

@@ -3,7 +3,7 @@ use crate::hints::parts::Parts;
 use look_sources::{Page, Sort};
 
 /// Puts a hint on each that stands behind one that takes all that it takes.
-pub fn put_behind(parts: &Parts, page: &mut Page) {
+pub(crate) fn put_behind(parts: &Parts, page: &mut Page) {
     for span in parts.spans {
         if span.sort == Sort::Shadowed {
             parts.put_hint(

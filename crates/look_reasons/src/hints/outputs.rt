@@ -4,7 +4,7 @@ use hume_model::{BoxC, Core, Expr, NodeC, PatC, Res};
 use look_sources::{Page, Sort};
 
 /// Puts a hint on each output that no result of its box gives a value. A box that gives no output a value is taken as meant so.
-pub fn put_outputs(parts: &Parts, core: &Core, page: &mut Page) {
+pub(crate) fn put_outputs(parts: &Parts, core: &Core, page: &mut Page) {
     for node in core.nodes.as_slice() {
         if let NodeC::Rules(b) = node {
             if is_one_written(b) {
@@ -33,38 +33,38 @@ fn put_outputs_of(parts: &Parts, b: &BoxC, page: &mut Page) {
 
 fn is_written(b: &BoxC, output: usize) -> bool {
     for rule in b.rules.as_slice() {
-        if writes(&rule.result, output) {
+        if ends_with(&rule.result, output, true) {
             return true;
         }
     }
     for handler in b.handlers.as_slice() {
-        if writes(&handler.result, output) {
+        if ends_with(&handler.result, output, true) {
             return true;
         }
     }
     false
 }
 
-// Whether some way through the result gives the output a value.
-#[cycle(writes)]
-fn writes(res: &Res, output: usize) -> bool {
+/// Whether some way through the result gives the output a value, or, where that is not wanted, leaves it absent.
+#[cycle(ends_with)]
+pub(super) fn ends_with(res: &Res, output: usize, is_wanted: bool) -> bool {
     match res {
-        Res::Outs(outs) => gives(outs.as_slice(), output),
+        Res::Outs(outs) => gives(outs.as_slice(), output) == is_wanted,
         Res::If(_, when_true, when_false) => {
-            let first = writes(when_true, output);
-            let second = writes(when_false, output);
+            let first = ends_with(when_true, output, is_wanted);
+            let second = ends_with(when_false, output, is_wanted);
             first || second
         }
-        Res::Case(_, _, arms) => arms_write(arms.as_slice(), output),
-        Res::Let(_, body) => writes(body, output),
+        Res::Case(_, _, arms) => arms_end_with(arms.as_slice(), output, is_wanted),
+        Res::Let(_, body) => ends_with(body, output, is_wanted),
         Res::Raise(_, _) => false,
     }
 }
 
-#[cycle(writes)]
-fn arms_write(arms: &[(PatC, Res)], output: usize) -> bool {
+#[cycle(ends_with)]
+fn arms_end_with(arms: &[(PatC, Res)], output: usize, is_wanted: bool) -> bool {
     for i in 0..arms.len() {
-        if writes(&arms[i].1, output) {
+        if ends_with(&arms[i].1, output, is_wanted) {
             return true;
         }
     }

@@ -3,6 +3,9 @@ use crate::site::{name_of, place_of};
 use hume_base::{Keyword, Kind, Symbol, Token};
 use look_sources::{Page, Sort, Span, Spot};
 
+// How many bytes behind a token a remark on it is looked for.
+const MAX_REMARK: usize = 1_024;
+
 #[derive(Clone, Copy)]
 pub struct Parts<'a> {
     pub name: &'a [u8],
@@ -12,15 +15,22 @@ pub struct Parts<'a> {
 }
 
 impl<'a> Parts<'a> {
-    pub fn name_at(&self, token: usize) -> &'a [u8] {
+    pub(crate) fn name_at(&self, token: usize) -> &'a [u8] {
         name_of(self.tokens, token)
     }
 
     /// Puts a hint on the token, and the line with a caret.
-    pub fn put_hint(&self, token: usize, words: &[u8], name: &[u8], more: &[u8], page: &mut Page) {
+    pub(crate) fn put_hint(
+        &self,
+        token: usize,
+        words: &[u8],
+        name: &[u8],
+        more: &[u8],
+        page: &mut Page,
+    ) {
         let spot = Spot::of(self.text, place_of(self.text, self.tokens, token));
         spot.put_head(self.name, page);
-        page.put(b"hint: ");
+        page.put(b"warning: ");
         page.put(words);
         page.put(name);
         page.put(more);
@@ -29,7 +39,7 @@ impl<'a> Parts<'a> {
     }
 
     /// Whether the token stands right after a `let`.
-    pub fn is_of_let(&self, token: usize) -> bool {
+    pub(crate) fn is_of_let(&self, token: usize) -> bool {
         let Some(before) = token.checked_sub(1) else {
             return false;
         };
@@ -40,7 +50,7 @@ impl<'a> Parts<'a> {
     }
 
     /// Whether a written tuple begins with the token.
-    pub fn is_tuple(&self, token: usize) -> bool {
+    pub(crate) fn is_tuple(&self, token: usize) -> bool {
         let opens = match self.tokens.get(token) {
             None => false,
             Some(token) => matches!(&token.kind, Kind::Sign(Symbol::OpenParen)),
@@ -57,20 +67,33 @@ impl<'a> Parts<'a> {
     }
 
     /// The name of the box or stream.
-    pub fn node(&self, name: &[u8]) -> Option<Span> {
+    pub(crate) fn node(&self, name: &[u8]) -> Option<Span> {
+        self.declared(Sort::NodeName, name)
+    }
+
+    /// The part of that sort and name.
+    pub(crate) fn declared(&self, sort: Sort, name: &[u8]) -> Option<Span> {
         for span in self.spans {
-            if span.sort == Sort::NodeName && self.name_at(span.first) == name {
+            if span.sort == sort && self.name_at(span.first) == name {
                 return Some(*span);
             }
         }
         None
     }
 
-    /// Whether a name that stands outside of the tokens of the part, and inside those of the other, is that one.
-    pub fn is_used(&self, name: &[u8], inside: &Span, outside: &Span) -> bool {
-        for token in inside.first..inside.after.min(self.tokens.len()) {
-            if (token < outside.first || outside.after <= token) && self.name_at(token) == name {
-                return true;
+    /// Whether a comment `-- unused` stands behind the token in its line.
+    pub(crate) fn is_meant(&self, token: usize) -> bool {
+        let place = place_of(self.text, self.tokens, token);
+        let mut rest = self.text.get(place..).unwrap_or(b"");
+        for _ in 0..MAX_REMARK {
+            match rest.split_first() {
+                Some((byte, after)) if *byte != b'\n' => {
+                    if rest.starts_with(b"-- unused") {
+                        return true;
+                    }
+                    rest = after;
+                }
+                _ => return false,
             }
         }
         false

@@ -1,40 +1,47 @@
 //! Functions, data types, exceptions and variables that nothing uses.
+use crate::hints::names::Names;
 use crate::hints::parts::Parts;
+use crate::name_table::Meaning;
+use crate::resolved::Resolved;
 use look_sources::{Page, Sort, Span};
+use std::alloc::{AllocError, Global};
 
 /// Puts a hint on each name that nothing uses.
-pub fn put_unused(parts: &Parts, page: &mut Page) {
+pub(crate) fn put_unused(alloc: Global, parts: &Parts, page: &mut Page) -> Result<(), AllocError> {
+    let names = Names::of(alloc, parts.tokens)?;
+    let resolved = Resolved::of(alloc, parts.tokens, parts.spans)?;
+    let mut begin: usize = 0;
     for i in 0..parts.spans.len() {
         let span = parts.spans[i];
         match span.sort {
-            Sort::Declaration => put_declared(parts, span, page),
-            Sort::Variable => put_variable(parts, i, span, page),
+            Sort::Declaration => {
+                put_declared(parts, &names, begin, i, page);
+                begin = i;
+            }
+            Sort::Variable => put_variable(alloc, parts, &resolved, &span, page),
             _ => {}
         }
     }
+    Ok(())
 }
 
-// All tokens of the source.
-fn whole(parts: &Parts, like: Span) -> Span {
-    Span {
-        first: 0,
-        after: parts.tokens.len(),
-        ..like
-    }
-}
-
-// Puts a hint on the declaration, if none of its names is used outside of it. A data type of one constructor may be meant so.
-fn put_declared(parts: &Parts, declaration: Span, page: &mut Page) {
+// Puts a hint on the declaration whose parts have numbers up to its own, `last`, if none of its names is used outside of it. A data type
+// of one constructor may be meant so.
+fn put_declared(parts: &Parts, names: &Names, begin: usize, last: usize, page: &mut Page) {
+    let Some(declaration) = parts.spans.get(last) else {
+        return;
+    };
     let mut first: Option<Span> = None;
     let mut count: usize = 0;
-    for span in parts.spans {
-        if span.declaration == declaration.declaration && is_declared(span.sort) {
+    for i in begin..last.min(parts.spans.len()) {
+        let span = parts.spans[i];
+        if is_declared(span.sort) {
             let name = parts.name_at(span.first);
-            if parts.is_used(name, &whole(parts, declaration), &declaration) {
+            if names.stands_outside(parts.tokens, name, declaration) {
                 return;
             }
             if first.is_none() {
-                first = Some(*span);
+                first = Some(span);
             }
             count = count.saturating_add(1);
         }
@@ -52,27 +59,41 @@ fn is_declared(sort: Sort) -> bool {
     sort == Sort::FunctionName || sort == Sort::TypeName || sort == Sort::ConstructorName
 }
 
-// Puts a hint on the variable of a `let` that isn't used where it is known. One that only names a tuple may be meant so.
-fn put_variable(parts: &Parts, number: usize, variable: Span, page: &mut Page) {
-    if !parts.is_of_let(variable.first) || parts.is_tuple(variable.first.saturating_add(2)) {
+// Puts a warning on the variable, if it isn't used where it is known. One of a `let` that only names a tuple may be meant so.
+fn put_variable(
+    alloc: Global,
+    parts: &Parts,
+    resolved: &Resolved,
+    variable: &Span,
+    page: &mut Page,
+) {
+    let token = variable.first;
+    let is_tuple = parts.is_of_let(token) && parts.is_tuple(token.saturating_add(2));
+    if resolved.is_used(token) || is_tuple || parts.is_meant(token) {
         return;
     }
-    let name = parts.name_at(variable.first);
-    for span in parts.spans.iter().skip(number) {
-        if span.sort == Sort::Scope
-            && span.first <= variable.first
-            && variable.after <= span.after
-        {
-            if !parts.is_used(name, span, &variable) {
-                parts.put_hint(
-                    variable.first,
-                    b"the variable `",
-                    name,
-                    b"` of the `let` is not used",
-                    page,
-                );
-            }
-            return;
-        }
+    let name = parts.name_at(token);
+    let capital = with_capital(alloc, name);
+    let constructor = resolved.declared(parts.tokens, capital.bytes(), Meaning::Constructor);
+    if constructor.is_some() {
+        parts.put_hint(
+            token,
+            b"this is a variable that is not used, and not the constructor `",
+            capital.bytes(),
+            b"`",
+            page,
+        );
+    } else {
+        parts.put_hint(token, b"the variable `", name, b"` is not used", page);
     }
+}
+
+// The name with a capital letter at its begin.
+fn with_capital(alloc: Global, name: &[u8]) -> Page {
+    let mut capital = Page::make(alloc);
+    if let Some((first, rest)) = name.split_first() {
+        capital.put(&[first.to_ascii_uppercase()]);
+        capital.put(rest);
+    }
+    capital
 }

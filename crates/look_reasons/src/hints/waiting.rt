@@ -6,7 +6,7 @@ use look_sources::Page;
 use std::alloc::{AllocError, Global};
 
 /// Puts a hint on each box that can never fire.
-pub fn put_waiting(
+pub(crate) fn put_waiting(
     alloc: Global,
     parts: &Parts,
     core: &Core,
@@ -98,7 +98,8 @@ fn unfed(rule: &RuleC, fed: &[bool], n: usize) -> Option<usize> {
     None
 }
 
-fn needs(pattern: &InPat) -> bool {
+/// Whether the rule waits for a value there.
+pub(super) fn needs(pattern: &InPat) -> bool {
     match pattern {
         InPat::Star | InPat::AnyStar => false,
         InPat::Any | InPat::Built(_) => true,

@@ -1,0 +1,100 @@
+//! Comparisons that are always true or always false by the types of their operands.
+use crate::hints::parts::Parts;
+use crate::hints::verdicts::{Verdicts, gather, gather_of_result};
+use hume_model::{BoxC, Core, FunC, NodeC};
+use look_sources::{Page, Sort, Span};
+use std::alloc::{AllocError, Global};
+
+/// Puts a warning on each comparison with a literal that gives one answer for all values of its type.
+pub(crate) fn put_constant(
+    alloc: Global,
+    parts: &Parts,
+    core: &Core,
+    page: &mut Page,
+) -> Result<(), AllocError> {
+    for function in core.funs.as_slice() {
+        put_of_function(alloc, parts, function, page)?;
+    }
+    for node in core.nodes.as_slice() {
+        if let NodeC::Rules(b) = node {
+            put_of_box(alloc, parts, b, page)?;
+        }
+    }
+    Ok(())
+}
+
+fn put_of_function(
+    alloc: Global,
+    parts: &Parts,
+    function: &FunC,
+    page: &mut Page,
+) -> Result<(), AllocError> {
+    let mut verdicts = Verdicts::make(alloc);
+    for equation in function.equations.as_slice() {
+        gather(&mut verdicts, &equation.body);
+    }
+    let answers = verdicts.finish()?;
+    if let Some(name) = parts.declared(Sort::FunctionName, function.name.bytes()) {
+        put_answers(parts, &name, answers.as_slice(), page);
+    }
+    Ok(())
+}
+
+fn put_of_box(alloc: Global, parts: &Parts, b: &BoxC, page: &mut Page) -> Result<(), AllocError> {
+    let mut verdicts = Verdicts::make(alloc);
+    for rule in b.rules.as_slice() {
+        gather_of_result(&mut verdicts, &rule.result);
+    }
+    gather_of_handlers(&mut verdicts, b);
+    let answers = verdicts.finish()?;
+    if let Some(name) = parts.node(b.name.bytes()) {
+        put_answers(parts, &name, answers.as_slice(), page);
+    }
+    Ok(())
+}
+
+fn gather_of_handlers(verdicts: &mut Verdicts, b: &BoxC) {
+    for handler in b.handlers.as_slice() {
+        gather_of_result(verdicts, &handler.result);
+    }
+}
+
+// Puts the answers on the comparisons of the declaration, if there is one for each.
+fn put_answers(parts: &Parts, name: &Span, answers: &[Option<bool>], page: &mut Page) {
+    if count_comparisons(parts, name) != answers.len() {
+        return;
+    }
+    let mut number: usize = 0;
+    for span in parts.spans {
+        if is_comparison_of(span, name) {
+            if let Some(Some(holds)) = answers.get(number) {
+                put_answer(parts, span, *holds, page);
+            }
+            number = number.saturating_add(1);
+        }
+    }
+}
+
+fn count_comparisons(parts: &Parts, name: &Span) -> usize {
+    let mut count: usize = 0;
+    for span in parts.spans {
+        if is_comparison_of(span, name) {
+            count = count.saturating_add(1);
+        }
+    }
+    count
+}
+
+fn is_comparison_of(span: &Span, name: &Span) -> bool {
+    span.sort == Sort::Comparison && span.declaration == name.declaration
+}
+
+fn put_answer(parts: &Parts, span: &Span, holds: bool, page: &mut Page) {
+    parts.put_hint(
+        span.first,
+        b"this comparison is always ",
+        if holds { b"true" } else { b"false" },
+        b" by its type",
+        page,
+    );
+}

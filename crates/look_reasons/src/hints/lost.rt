@@ -1,0 +1,82 @@
+//! Rules that lose the state of their box, so that it never fires again.
+use crate::hints::outputs::ends_with;
+use crate::hints::parts::Parts;
+use crate::hints::waiting::needs;
+use hume_model::{BoxC, Core, NodeC, Res, WireC};
+use look_sources::{Page, Sort};
+
+/// Puts a warning on each rule and handler that puts nothing on an output of the box that alone feeds an input of it which every rule
+/// needs: on the wire there is one value at most.
+pub(crate) fn put_lost(parts: &Parts, core: &Core, page: &mut Page) {
+    for n in 0..core.nodes.len() {
+        if let NodeC::Rules(b) = &core.nodes[n] {
+            put_lost_of(parts, core, n, b, page);
+        }
+    }
+}
+
+fn put_lost_of(parts: &Parts, core: &Core, node: usize, b: &BoxC, page: &mut Page) {
+    for wire in core.wires.as_slice() {
+        if wire.initial.is_some()
+            && wire.from as usize == node
+            && wire.to as usize == node
+            && all_need(b, wire.to_port as usize)
+        {
+            put_of_rules(parts, b, wire, page);
+            put_of_handlers(parts, b, wire, page);
+        }
+    }
+}
+
+fn all_need(b: &BoxC, input: usize) -> bool {
+    for rule in b.rules.as_slice() {
+        match rule.pats.get(input) {
+            Some(pattern) if needs(pattern) => {}
+            _ => return false,
+        }
+    }
+    true
+}
+
+fn put_of_rules(parts: &Parts, b: &BoxC, wire: &WireC, page: &mut Page) {
+    for i in 0..b.rules.len() {
+        if loses(&b.rules[i].result, wire) {
+            put_of_part(parts, b, Sort::Rule, i, wire, page);
+        }
+    }
+}
+
+fn put_of_handlers(parts: &Parts, b: &BoxC, wire: &WireC, page: &mut Page) {
+    for i in 0..b.handlers.len() {
+        if loses(&b.handlers[i].result, wire) {
+            put_of_part(parts, b, Sort::Handler, i, wire, page);
+        }
+    }
+}
+
+// Whether each way through the result that raises nothing puts nothing on the wire.
+fn loses(res: &Res, wire: &WireC) -> bool {
+    let output = wire.from_port as usize;
+    ends_with(res, output, false) && !ends_with(res, output, true)
+}
+
+fn put_of_part(parts: &Parts, b: &BoxC, sort: Sort, place: usize, wire: &WireC, page: &mut Page) {
+    let (Some(node), Some(output)) = (
+        parts.node(b.name.bytes()),
+        b.outs.get(wire.from_port as usize),
+    ) else {
+        return;
+    };
+    let number = place.saturating_add(1);
+    for span in parts.spans {
+        if span.sort == sort && span.declaration == node.declaration && span.number == number {
+            parts.put_hint(
+                span.first,
+                b"after this the box never fires again: nothing is put on the output `",
+                output.name.bytes(),
+                b"`, which alone feeds an input that every rule needs",
+                page,
+            );
+        }
+    }
+}
