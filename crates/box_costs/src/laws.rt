@@ -41,7 +41,8 @@ pub fn what_spends_is_the_meaning()
     ensures expressions { (core : Core) (env : List Value) (e : Expr) → (spent core env e).outcome ≡ eval core env e }
     ensures results { (core : Core) (env : List Value) (res : Res) → (result_spent core env res).outcome ≡ result_of core env res }
     ensures firings { (core : Core) (b : BoxC) (order : List ℕ) (ins : List (Option Value))
-        → option_map (λ (s : Spent (List (Option Value))). s.outcome) (fire_spent core b order ins) ≡ option_map (λ (x : Firing). x.outs) (fire core b order ins) }
+        → option_map (λ (s : Spent (List (Option Value))). s.outcome) (fire_spent core b order ins)
+        ≡ option_map (λ (x : Firing). x.outs) (fire core b order ins) }
 {}
 
 /// No evaluation takes more than its bound, whatever the values of its variables. Neither does a rule that fits, or a box that

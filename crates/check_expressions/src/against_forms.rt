@@ -24,7 +24,8 @@ pub(crate) fn let_against<'a>(
     a: &'a Exp,
     b: &'a Exp,
 ) -> Result<(), Stop>
-    ensures ok { OnOk result (DoesAgainst ((let_walk name.now (walk (signatures_in at.now) a.now) (walk (signatures_in at.now) b.now)).against (scope_in at.now) (top (types_in at.now))) at.now tasks.old tasks.new) }
+    ensures ok { OnOk result (DoesAgainst ((let_walk name.now (walk (signatures_in at.now) a.now) (walk (signatures_in at.now) b.now)).against
+        (scope_in at.now) (top (types_in at.now))) at.now tasks.old tasks.new) }
     ensures none { IfErr result (λ stop. stop ≡ NoMemory) }
 {
     let count = at.environment.variables();
@@ -48,7 +49,8 @@ pub(crate) fn if_against<'a>(
     a: &'a Exp,
     b: &'a Exp,
 ) -> Result<(), Stop>
-    ensures ok { OnOk result (DoesAgainst ((if_walk (walk (signatures_in at.now) test.now) (walk (signatures_in at.now) a.now) (walk (signatures_in at.now) b.now)).against (scope_in at.now) (top (types_in at.now))) at.now tasks.old tasks.new) }
+    ensures ok { OnOk result (DoesAgainst ((if_walk (walk (signatures_in at.now) test.now) (walk (signatures_in at.now) a.now)
+        (walk (signatures_in at.now) b.now)).against (scope_in at.now) (top (types_in at.now))) at.now tasks.old tasks.new) }
     ensures none { IfErr result (λ stop. stop ≡ NoMemory) }
 {
     first(
@@ -71,7 +73,8 @@ pub(crate) fn case_against<'a>(
     a: &'a Exp,
     arms: &'a [(Pat, Exp)],
 ) -> Result<(), Stop>
-    ensures ok { OnOk result (DoesAgainst ((case_walk (signatures_in at.now) (walk (signatures_in at.now) a.now) (arm_walks (signatures_in at.now) arms.now)).against (scope_in at.now) (top (types_in at.now))) at.now tasks.old tasks.new) }
+    ensures ok { OnOk result (DoesAgainst ((case_walk (signatures_in at.now) (walk (signatures_in at.now) a.now)
+        (arm_walks (signatures_in at.now) arms.now)).against (scope_in at.now) (top (types_in at.now))) at.now tasks.old tasks.new) }
     ensures none { IfErr result (λ stop. stop ≡ NoMemory) }
 {
     first(
@@ -95,7 +98,8 @@ pub(crate) fn arithmetic_against<'a>(
     a: &'a Exp,
     b: &'a Exp,
 ) -> Result<(), Stop>
-    ensures ok { OnOk result (DoesAgainst ((arithmetic_walk operation (walk (signatures_in at.now) a.now) (walk (signatures_in at.now) b.now)).against (scope_in at.now) (top (types_in at.now))) at.now tasks.old tasks.new) }
+    ensures ok { OnOk result (DoesAgainst ((arithmetic_walk operation (walk (signatures_in at.now) a.now) (walk (signatures_in at.now) b.now)).against
+        (scope_in at.now) (top (types_in at.now))) at.now tasks.old tasks.new) }
     ensures none { IfErr result (λ stop. stop ≡ NoMemory) }
 {
     first(
@@ -115,7 +119,8 @@ pub(crate) fn neg_against<'a>(
     tasks: &mut Stack<Task<'a>>,
     a: &'a Exp,
 ) -> Result<(), Stop>
-    ensures ok { OnOk result (DoesAgainst ((neg_walk (walk (signatures_in at.now) a.now)).against (scope_in at.now) (top (types_in at.now))) at.now tasks.old tasks.new) }
+    ensures ok { OnOk result (DoesAgainst ((neg_walk (walk (signatures_in at.now) a.now)).against (scope_in at.now)
+        (top (types_in at.now))) at.now tasks.old tasks.new) }
     ensures none { IfErr result (λ stop. stop ≡ NoMemory) }
 {
     first(
@@ -136,7 +141,8 @@ pub(crate) fn update_against<'a>(
     b: &'a Exp,
     d: &'a Exp,
 ) -> Result<(), Stop>
-    ensures ok { OnOk result (DoesAgainst ((update_walk (walk (signatures_in at.now) a.now) (walk (signatures_in at.now) b.now) (walk (signatures_in at.now) d.now)).against (scope_in at.now) (top (types_in at.now))) at.now tasks.old tasks.new) }
+    ensures ok { OnOk result (DoesAgainst ((update_walk (walk (signatures_in at.now) a.now) (walk (signatures_in at.now) b.now)
+        (walk (signatures_in at.now) d.now)).against (scope_in at.now) (top (types_in at.now))) at.now tasks.old tasks.new) }
     ensures none { IfErr result (λ stop. stop ≡ NoMemory) }
 {
     first(tasks, &[Task::Against(a), Task::Update(b, d)])
@@ -148,7 +154,8 @@ pub(crate) fn tuple_against<'a>(
     tasks: &mut Stack<Task<'a>>,
     parts: &'a [Exp],
 ) -> Result<(), Stop>
-    ensures ok { OnOk result (DoesAgainst ((tuple_walk (walks (signatures_in at.now) parts.now)).against (scope_in at.now) (top (types_in at.now))) at.now tasks.old tasks.new) }
+    ensures ok { OnOk result (DoesAgainst ((tuple_walk (walks (signatures_in at.now) parts.now)).against (scope_in at.now)
+        (top (types_in at.now))) at.now tasks.old tasks.new) }
     ensures none { IfErr result (λ stop. stop ≡ NoMemory) }
 {
     first(

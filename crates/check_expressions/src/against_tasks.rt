@@ -29,7 +29,8 @@ pub(crate) fn against_tasks<'a>(
     tasks: &mut Stack<Task<'a>>,
     e: &'a Exp,
 ) -> Result<(), Stop>
-    ensures ok { OnOk result (run tasks.new at.new ≡ given (against_of ((walk (signatures_in at.old) e.now).against (scope_in at.old) (top (types_in at.old))) at.old) (run tasks.old)) }
+    ensures ok { OnOk result (run tasks.new at.new ≡ given (against_of
+        ((walk (signatures_in at.old) e.now).against (scope_in at.old) (top (types_in at.old))) at.old) (run tasks.old)) }
     ensures none { IfErr result (λ stop. stop ≡ NoType → (walk (signatures_in at.old) e.now).against (scope_in at.old) (top (types_in at.old)) ≡ None) }
 {
     match e {
@@ -58,7 +59,8 @@ pub(crate) fn against_tasks<'a>(
 // An expression that must have the last type by itself.
 #[tactic(auto, using(crate::proofs::Forms::closed_steps))]
 fn closed<'a>(at: &Elaboration<'a>, tasks: &mut Stack<Task<'a>>, e: &'a Exp) -> Result<(), Stop>
-    ensures ok { OnOk result (DoesAgainst (expected ((walk (signatures_in at.now) e.now).own (scope_in at.now)) (top (types_in at.now))) at.now tasks.old tasks.new) }
+    ensures ok { OnOk result (DoesAgainst (expected ((walk (signatures_in at.now) e.now).own (scope_in at.now))
+        (top (types_in at.now))) at.now tasks.old tasks.new) }
     ensures none { IfErr result (λ stop. stop ≡ NoMemory) }
 {
     first(tasks, &[Task::Own(e), Task::Types(TypeTask::IsSame)])
@@ -74,7 +76,8 @@ fn binary_against<'a>(
     a: &'a Exp,
     b: &'a Exp,
 ) -> Result<(), Stop>
-    ensures ok { walk (signatures_in at.now) e.now ≡ binary_walk sign (walk (signatures_in at.now) a.now) (walk (signatures_in at.now) b.now) → OnOk result (DoesAgainst ((walk (signatures_in at.now) e.now).against (scope_in at.now) (top (types_in at.now))) at.now tasks.old tasks.new) }
+    ensures ok { walk (signatures_in at.now) e.now ≡ binary_walk sign (walk (signatures_in at.now) a.now) (walk (signatures_in at.now) b.now)
+        → OnOk result (DoesAgainst ((walk (signatures_in at.now) e.now).against (scope_in at.now) (top (types_in at.now))) at.now tasks.old tasks.new) }
     ensures none { IfErr result (λ stop. stop ≡ NoMemory) }
 {
     match sign {
@@ -113,8 +116,10 @@ fn vector_against<'a>(
     tasks: &mut Stack<Task<'a>>,
     parts: &'a [Exp],
 ) -> Result<(), Stop>
-    ensures ok { OnOk result (DoesAgainst ((vector_walk (walks (signatures_in at.now) parts.now)).against (scope_in at.now) (top (types_in at.now))) at.now tasks.old tasks.new) }
-    ensures none { IfErr result (λ stop. stop ≡ NoType → (vector_walk (walks (signatures_in at.now) parts.now)).against (scope_in at.now) (top (types_in at.now)) ≡ None) }
+    ensures ok { OnOk result (DoesAgainst ((vector_walk (walks (signatures_in at.now) parts.now)).against (scope_in at.now)
+        (top (types_in at.now))) at.now tasks.old tasks.new) }
+    ensures none { IfErr result (λ stop. stop ≡ NoType → (vector_walk (walks (signatures_in at.now) parts.now)).against (scope_in at.now)
+        (top (types_in at.now)) ≡ None) }
 {
     let count = at.expect_vector()?;
     if parts.len() != count as usize {

@@ -123,7 +123,11 @@ fn int_literal(bits: u8, negative: bool, amount: u64) -> Option<(u64, bool)>
 }
 
 fn nat_literal(bits: u8, negative: bool, amount: u64) -> Option<(u64, bool)>
-    ensures { result ≡ when (is_width_of bits) (Some (word_of_literal negative amount, not (int_le (pos 0) (literal_number negative amount) && int_lt (literal_number negative amount) (pos (2 ^ bits))))) }
+    ensures { result ≡ when (is_width_of bits) (Some (
+      word_of_literal negative amount,
+      not
+          (int_le (pos 0) (literal_number negative amount) && int_lt (literal_number negative amount) (pos (2 ^ bits))),
+    )) }
 {
     if !is_width(bits) {
         return None;

@@ -40,8 +40,12 @@ pub(crate) fn call_own<'a>(
     name: &Text,
     parts: &'a [Exp],
 ) -> Result<(), Stop>
-    ensures ok { (part : Expression) (rest : List Expression) → parts.now ≡ part ∷ rest → OnOk result (run tasks.new at.new ≡ given (own_of ((app_walk (signatures_in at.old) name.now (walks (signatures_in at.old) parts.now)).own (scope_in at.old)) at.old) (run tasks.old)) }
-    ensures none { (part : Expression) (rest : List Expression) → parts.now ≡ part ∷ rest → IfErr result (λ stop. stop ≡ NoType → (app_walk (signatures_in at.old) name.now (walks (signatures_in at.old) parts.now)).own (scope_in at.old) ≡ None) }
+    ensures ok { (part : Expression) (rest : List Expression) → parts.now ≡ part ∷ rest
+        → OnOk result (run tasks.new at.new ≡ given (own_of ((app_walk (signatures_in at.old) name.now (walks (signatures_in at.old) parts.now)).own
+        (scope_in at.old)) at.old) (run tasks.old)) }
+    ensures none { (part : Expression) (rest : List Expression) → parts.now ≡ part ∷ rest
+        → IfErr result (λ stop. stop ≡ NoType → (app_walk (signatures_in at.old) name.now (walks (signatures_in at.old) parts.now)).own (scope_in at.old)
+        ≡ None) }
 {
     let Some(number) = at.environment.push_function(name.bytes())? else {
         return Err(Stop::NoType);
@@ -67,8 +71,10 @@ pub(crate) fn constructor_own<'a>(
     name: &Text,
     parts: &'a [Exp],
 ) -> Result<(), Stop>
-    ensures ok { OnOk result (run tasks.new at.new ≡ given (own_of ((con_walk (signatures_in at.old) name.now (walks (signatures_in at.old) parts.now)).own (scope_in at.old)) at.old) (run tasks.old)) }
-    ensures none { IfErr result (λ stop. stop ≡ NoType → (con_walk (signatures_in at.old) name.now (walks (signatures_in at.old) parts.now)).own (scope_in at.old) ≡ None) }
+    ensures ok { OnOk result (run tasks.new at.new ≡ given (own_of
+        ((con_walk (signatures_in at.old) name.now (walks (signatures_in at.old) parts.now)).own (scope_in at.old)) at.old) (run tasks.old)) }
+    ensures none { IfErr result (λ stop. stop ≡ NoType → (con_walk (signatures_in at.old) name.now (walks (signatures_in at.old) parts.now)).own
+        (scope_in at.old) ≡ None) }
 {
     let Some((sum, place)) = at.environment.push_constructor(name.bytes())? else {
         return Err(Stop::NoType);
@@ -87,7 +93,8 @@ pub(crate) fn constructor_own<'a>(
 /// An exception that carries nothing.
 #[tactic(auto, using(crate::proofs::Named::named_steps))]
 pub(crate) fn raise_alone(at: &mut Elaboration, name: &Text) -> Result<(), Stop>
-    ensures ok { OnOk result (against_of (given (raised_alone (exn_named name.now (signatures_in at.old))) (λ number. Some (raise_core number))) at.old ≡ Some at.new) }
+    ensures ok { OnOk result (against_of (given (raised_alone (exn_named name.now (signatures_in at.old))) (λ number. Some (raise_core number))) at.old
+        ≡ Some at.new) }
     ensures none { IfErr result (λ stop. stop ≡ NoType → raised_alone (exn_named name.now (signatures_in at.old)) ≡ None) }
 {
     match at.environment.push_exception(name.bytes())? {
@@ -118,8 +125,10 @@ pub(crate) fn raise_with_own<'a>(
     name: &Text,
     a: &'a Exp,
 ) -> Result<(), Stop>
-    ensures ok { OnOk result (run tasks.new at.new ≡ given (own_of ((raise_with_walk (signatures_in at.old) name.now (walk (signatures_in at.old) a.now)).own (scope_in at.old)) at.old) (run tasks.old)) }
-    ensures none { IfErr result (λ stop. stop ≡ NoType → (raise_with_walk (signatures_in at.old) name.now (walk (signatures_in at.old) a.now)).own (scope_in at.old) ≡ None) }
+    ensures ok { OnOk result (run tasks.new at.new ≡ given (own_of
+        ((raise_with_walk (signatures_in at.old) name.now (walk (signatures_in at.old) a.now)).own (scope_in at.old)) at.old) (run tasks.old)) }
+    ensures none { IfErr result (λ stop. stop ≡ NoType → (raise_with_walk (signatures_in at.old) name.now (walk (signatures_in at.old) a.now)).own
+        (scope_in at.old) ≡ None) }
 {
     at.environment.push(Node::Int(32))?;
     raise_with(at, tasks, name, a)
@@ -133,8 +142,12 @@ pub(crate) fn raise_with<'a>(
     name: &Text,
     a: &'a Exp,
 ) -> Result<(), Stop>
-    ensures ok { OnOk result (run tasks.new at.new ≡ given (against_of (given (raised_with (exn_named name.now (signatures_in at.old)) (walk (signatures_in at.old) a.now) (scope_in at.old)) (λ raised. Some (raise_with_core raised.0 raised.1))) at.old) (run tasks.old)) }
-    ensures none { IfErr result (λ stop. stop ≡ NoType → given (raised_with (exn_named name.now (signatures_in at.old)) (walk (signatures_in at.old) a.now) (scope_in at.old)) (λ raised. Some (raise_with_core raised.0 raised.1)) ≡ None) }
+    ensures ok { OnOk result (run tasks.new at.new ≡ given (against_of
+        (given (raised_with (exn_named name.now (signatures_in at.old)) (walk (signatures_in at.old) a.now) (scope_in at.old))
+        (λ raised. Some (raise_with_core raised.0 raised.1))) at.old) (run tasks.old)) }
+    ensures none { IfErr result (λ stop. stop ≡ NoType → given
+        (raised_with (exn_named name.now (signatures_in at.old)) (walk (signatures_in at.old) a.now) (scope_in at.old))
+        (λ raised. Some (raise_with_core raised.0 raised.1)) ≡ None) }
 {
     match at.environment.push_exception(name.bytes())? {
         None => Err(Stop::NoType),
@@ -158,8 +171,10 @@ pub(crate) fn cast_own<'a>(
     a: &'a Exp,
     ty: &TyExp,
 ) -> Result<(), Stop>
-    ensures ok { OnOk result (run tasks.new at.new ≡ given (own_of ((cast_walk (signatures_in at.old) (walk (signatures_in at.old) a.now) ty.now).own (scope_in at.old)) at.old) (run tasks.old)) }
-    ensures none { IfErr result (λ stop. stop ≡ NoType → (cast_walk (signatures_in at.old) (walk (signatures_in at.old) a.now) ty.now).own (scope_in at.old) ≡ None) }
+    ensures ok { OnOk result (run tasks.new at.new ≡ given (own_of
+        ((cast_walk (signatures_in at.old) (walk (signatures_in at.old) a.now) ty.now).own (scope_in at.old)) at.old) (run tasks.old)) }
+    ensures none { IfErr result (λ stop. stop ≡ NoType → (cast_walk (signatures_in at.old) (walk (signatures_in at.old) a.now) ty.now).own (scope_in at.old)
+        ≡ None) }
 {
     let Some(node) = number_node(ty) else {
         return Err(Stop::NoType);

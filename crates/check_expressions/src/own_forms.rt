@@ -24,7 +24,8 @@ pub(crate) fn let_own<'a>(
     a: &'a Exp,
     b: &'a Exp,
 ) -> Result<(), Stop>
-    ensures ok { OnOk result (DoesOwn ((let_walk name.now (walk (signatures_in at.now) a.now) (walk (signatures_in at.now) b.now)).own (scope_in at.now)) at.now tasks.old tasks.new) }
+    ensures ok { OnOk result (DoesOwn ((let_walk name.now (walk (signatures_in at.now) a.now) (walk (signatures_in at.now) b.now)).own
+        (scope_in at.now)) at.now tasks.old tasks.new) }
     ensures none { IfErr result (λ stop. stop ≡ NoMemory) }
 {
     let count = at.environment.variables();
@@ -48,7 +49,8 @@ pub(crate) fn if_own<'a>(
     a: &'a Exp,
     b: &'a Exp,
 ) -> Result<(), Stop>
-    ensures ok { OnOk result (DoesOwn ((if_walk (walk (signatures_in at.now) test.now) (walk (signatures_in at.now) a.now) (walk (signatures_in at.now) b.now)).own (scope_in at.now)) at.now tasks.old tasks.new) }
+    ensures ok { OnOk result (DoesOwn ((if_walk (walk (signatures_in at.now) test.now) (walk (signatures_in at.now) a.now)
+        (walk (signatures_in at.now) b.now)).own (scope_in at.now)) at.now tasks.old tasks.new) }
     ensures none { IfErr result (λ stop. stop ≡ NoMemory) }
 {
     first(
@@ -70,7 +72,8 @@ pub(crate) fn case_own<'a>(
     a: &'a Exp,
     arms: &'a [(Pat, Exp)],
 ) -> Result<(), Stop>
-    ensures ok { OnOk result (DoesOwn ((case_walk (signatures_in at.now) (walk (signatures_in at.now) a.now) (arm_walks (signatures_in at.now) arms.now)).own (scope_in at.now)) at.now tasks.old tasks.new) }
+    ensures ok { OnOk result (DoesOwn ((case_walk (signatures_in at.now) (walk (signatures_in at.now) a.now)
+        (arm_walks (signatures_in at.now) arms.now)).own (scope_in at.now)) at.now tasks.old tasks.new) }
     ensures none { IfErr result (λ stop. stop ≡ NoMemory) }
 {
     first(
@@ -94,7 +97,8 @@ pub(crate) fn arithmetic_own<'a>(
     a: &'a Exp,
     b: &'a Exp,
 ) -> Result<(), Stop>
-    ensures ok { OnOk result (DoesOwn ((arithmetic_walk operation (walk (signatures_in at.now) a.now) (walk (signatures_in at.now) b.now)).own (scope_in at.now)) at.now tasks.old tasks.new) }
+    ensures ok { OnOk result (DoesOwn ((arithmetic_walk operation (walk (signatures_in at.now) a.now) (walk (signatures_in at.now) b.now)).own
+        (scope_in at.now)) at.now tasks.old tasks.new) }
     ensures none { IfErr result (λ stop. stop ≡ NoMemory) }
 {
     first(
@@ -115,7 +119,8 @@ pub(crate) fn comparison_own<'a>(
     a: &'a Exp,
     b: &'a Exp,
 ) -> Result<(), Stop>
-    ensures ok { OnOk result (DoesOwn ((comparison_walk operation (walk (signatures_in at.now) a.now) (walk (signatures_in at.now) b.now)).own (scope_in at.now)) at.now tasks.old tasks.new) }
+    ensures ok { OnOk result (DoesOwn ((comparison_walk operation (walk (signatures_in at.now) a.now) (walk (signatures_in at.now) b.now)).own
+        (scope_in at.now)) at.now tasks.old tasks.new) }
     ensures none { IfErr result (λ stop. stop ≡ NoMemory) }
 {
     first(
@@ -137,7 +142,8 @@ pub(crate) fn and_own<'a>(
     a: &'a Exp,
     b: &'a Exp,
 ) -> Result<(), Stop>
-    ensures ok { OnOk result (DoesOwn ((logic_walk and_core (walk (signatures_in at.now) a.now) (walk (signatures_in at.now) b.now)).own (scope_in at.now)) at.now tasks.old tasks.new) }
+    ensures ok { OnOk result (DoesOwn ((logic_walk and_core (walk (signatures_in at.now) a.now) (walk (signatures_in at.now) b.now)).own
+        (scope_in at.now)) at.now tasks.old tasks.new) }
     ensures none { IfErr result (λ stop. stop ≡ NoMemory) }
 {
     first(
@@ -158,7 +164,8 @@ pub(crate) fn or_own<'a>(
     a: &'a Exp,
     b: &'a Exp,
 ) -> Result<(), Stop>
-    ensures ok { OnOk result (DoesOwn ((logic_walk or_core (walk (signatures_in at.now) a.now) (walk (signatures_in at.now) b.now)).own (scope_in at.now)) at.now tasks.old tasks.new) }
+    ensures ok { OnOk result (DoesOwn ((logic_walk or_core (walk (signatures_in at.now) a.now) (walk (signatures_in at.now) b.now)).own
+        (scope_in at.now)) at.now tasks.old tasks.new) }
     ensures none { IfErr result (λ stop. stop ≡ NoMemory) }
 {
     first(
@@ -179,7 +186,8 @@ pub(crate) fn index_own<'a>(
     a: &'a Exp,
     b: &'a Exp,
 ) -> Result<(), Stop>
-    ensures ok { OnOk result (DoesOwn ((index_walk (walk (signatures_in at.now) a.now) (walk (signatures_in at.now) b.now)).own (scope_in at.now)) at.now tasks.old tasks.new) }
+    ensures ok { OnOk result (DoesOwn ((index_walk (walk (signatures_in at.now) a.now) (walk (signatures_in at.now) b.now)).own
+        (scope_in at.now)) at.now tasks.old tasks.new) }
     ensures none { IfErr result (λ stop. stop ≡ NoMemory) }
 {
     first(tasks, &[Task::Own(a), Task::Index(b)])
@@ -231,7 +239,8 @@ pub(crate) fn update_own<'a>(
     b: &'a Exp,
     d: &'a Exp,
 ) -> Result<(), Stop>
-    ensures ok { OnOk result (DoesOwn ((update_walk (walk (signatures_in at.now) a.now) (walk (signatures_in at.now) b.now) (walk (signatures_in at.now) d.now)).own (scope_in at.now)) at.now tasks.old tasks.new) }
+    ensures ok { OnOk result (DoesOwn ((update_walk (walk (signatures_in at.now) a.now) (walk (signatures_in at.now) b.now)
+        (walk (signatures_in at.now) d.now)).own (scope_in at.now)) at.now tasks.old tasks.new) }
     ensures none { IfErr result (λ stop. stop ≡ NoMemory) }
 {
     first(tasks, &[Task::Own(a), Task::Update(b, d)])

@@ -67,7 +67,8 @@ fn binary_own<'a>(
     a: &'a Exp,
     b: &'a Exp,
 ) -> Result<(), Stop>
-    ensures ok { OnOk result (DoesOwn ((binary_walk sign (walk (signatures_in at.now) a.now) (walk (signatures_in at.now) b.now)).own (scope_in at.now)) at.now tasks.old tasks.new) }
+    ensures ok { OnOk result (DoesOwn ((binary_walk sign (walk (signatures_in at.now) a.now) (walk (signatures_in at.now) b.now)).own
+        (scope_in at.now)) at.now tasks.old tasks.new) }
     ensures none { IfErr result (λ stop. stop ≡ NoMemory) }
 {
     match sign {

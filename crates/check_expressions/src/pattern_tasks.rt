@@ -52,8 +52,11 @@ fn constructor_pattern<'a>(
     name: &Text,
     parts: &'a [Pat],
 ) -> Result<(), Stop>
-    ensures ok { OnOk result (run tasks.new at.new ≡ given (bound_of (con_bound (con_named name.now (signatures_in at.old)) (map (pattern (signatures_in at.old)) parts.now) (top (types_in at.old))) at.old) (run tasks.old)) }
-    ensures none { IfErr result (λ stop. stop ≡ NoType → con_bound (con_named name.now (signatures_in at.old)) (map (pattern (signatures_in at.old)) parts.now) (top (types_in at.old)) ≡ None) }
+    ensures ok { OnOk result (run tasks.new at.new ≡ given (bound_of
+        (con_bound (con_named name.now (signatures_in at.old)) (map (pattern (signatures_in at.old)) parts.now) (top (types_in at.old))) at.old)
+        (run tasks.old)) }
+    ensures none { IfErr result (λ stop. stop ≡ NoType → con_bound (con_named name.now (signatures_in at.old))
+        (map (pattern (signatures_in at.old)) parts.now) (top (types_in at.old)) ≡ None) }
 {
     let Shape::Named(expected) = at.environment.shape()? else {
         return Err(Stop::NoType);
@@ -80,7 +83,8 @@ fn tuple_pattern<'a>(
     tasks: &mut Stack<Task<'a>>,
     parts: &'a [Pat],
 ) -> Result<(), Stop>
-    ensures ok { OnOk result (run tasks.new at.now ≡ given (bound_of (tuple_bound (map (pattern (signatures_in at.now)) parts.now) (out-Ty (top (types_in at.now)))) at.now) (run tasks.old)) }
+    ensures ok { OnOk result (run tasks.new at.now ≡ given (bound_of
+        (tuple_bound (map (pattern (signatures_in at.now)) parts.now) (out-Ty (top (types_in at.now)))) at.now) (run tasks.old)) }
     ensures none { IfErr result (λ stop. stop ≡ NoMemory) }
 {
     first(
@@ -98,7 +102,8 @@ fn paren_pattern<'a>(
     tasks: &mut Stack<Task<'a>>,
     inner: &'a Pat,
 ) -> Result<(), Stop>
-    ensures ok { OnOk result (run tasks.new at.now ≡ given (bound_of (pattern (signatures_in at.now) inner.now (top (types_in at.now))) at.now) (run tasks.old)) }
+    ensures ok { OnOk result (run tasks.new at.now ≡ given (bound_of (pattern (signatures_in at.now) inner.now (top (types_in at.now))) at.now)
+        (run tasks.old)) }
     ensures none { IfErr result (λ stop. stop ≡ NoMemory) }
 {
     first(tasks, &[Task::Match(inner)])

@@ -1,5 +1,5 @@
-//! Which core a program stands for, and which rules of names, counts, types and limits it breaks; definitions and laws, nothing
-//! runs.
+//! Which core a program stands for, and which rules of names, counts, types and limits it breaks; definitions and laws,
+//! nothing runs.
 //!
 //! `CoreOf.antt` says which core belongs to a program in a source, over `SignaturesOf.antt` (its data types, exceptions and
 //! functions by their numbers), `Declared.antt` and `Constants.antt` (first values of wires). `CheckRules.antt` lists the rules

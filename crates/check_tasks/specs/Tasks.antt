@@ -76,15 +76,25 @@ core_step (cores.Call number count) state = of_cores (call_core number (last_one
 core_step (cores.Constructor place count) state = of_cores (con_core place (last_ones count state) ∷ drop count state.1) state
 core_step (cores.Tuple count) state = of_cores (tuple_core (last_ones count state) ∷ drop count state.1) state
 core_step (cores.Vector count) state = of_cores (vector_core (last_ones count state) ∷ drop count state.1) state
-core_step (cores.OwnTuple count) state =
-    ((state.0.0, TupleTy (reverse (take count state.0.1)) ∷ drop count state.0.1, state.0.2), tuple_core (last_ones count state) ∷ drop count state.1, state.2, state.3)
+core_step (cores.OwnTuple count) state = (
+  (state.0.0, TupleTy (reverse (take count state.0.1)) ∷ drop count state.0.1, state.0.2),
+  tuple_core (last_ones count state)
+      ∷ drop count state.1,
+  state.2,
+  state.3,
+)
 core_step (cores.OwnVector count) state =
     ((state.0.0, VectorTy count (top state.0.1) ∷ below state.0.1, state.0.2), vector_core (last_ones count state) ∷ drop count state.1, state.2, state.3)
 core_step cores.Arm state = (state.0, drop 1 state.1, drop 1 state.2, (top_pattern state.2, last state) ∷ state.3)
 core_step (cores.Alternatives count) state =
     (state.0, case_core (top state.0.1) (last state) (reverse (take count state.3)) ∷ drop 1 state.1, state.2, drop count state.3)
-core_step (cores.SameConstructor place count) state =
-    (state.0, state.1, (ConPat place (pat_cores (reverse (take count state.2))), some_pat_too_wide (reverse (take count state.2))) ∷ drop count state.2, state.3)
+core_step (cores.SameConstructor place count) state = (
+  state.0,
+  state.1,
+  (ConPat place (pat_cores (reverse (take count state.2))), some_pat_too_wide (reverse (take count state.2)))
+      ∷ drop count state.2,
+  state.3,
+)
 core_step (cores.SameTuple count) state =
     (state.0, state.1, (TuplePat (pat_cores (reverse (take count state.2))), some_pat_too_wide (reverse (take count state.2))) ∷ drop count state.2, state.3)
 core_step (cores.Lift others) state = of_cores (lifted others state.1) state
@@ -126,7 +136,8 @@ arms_own_of found state = given found (λ all. Some ((state.0.0, all.0 ∷ state
 abbrev pub step : Task → State → Option State
 step (task.Own e) state = own_of ((walk state.0.2 e.now).own state.0.0) state
 step (task.Against e) state = against_of ((walk state.0.2 e.now).against state.0.0 (top state.0.1)) state
-step (task.Two a b) state = two_of (two_own (walk state.0.2 a.now).is_open (walk state.0.2 b.now).is_open (walk state.0.2 a.now) (walk state.0.2 b.now) state.0.0) state
+step (task.Two a b) state = two_of (two_own (walk state.0.2 a.now).is_open (walk state.0.2 b.now).is_open (walk state.0.2 a.now)
+    (walk state.0.2 b.now) state.0.0) state
 step (task.OwnEach parts) state = each_of (each_own state.0.0 (walks state.0.2 parts.now)) state
 step (task.OwnArms arms) state = arms_own_of (arms_own state.0.2 state.0.0 (top state.0.1) (arm_walks state.0.2 arms.now)) state
 step (task.Match p) state = bound_of (pattern state.0.2 p.now (top state.0.1)) state

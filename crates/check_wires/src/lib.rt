@@ -1,8 +1,9 @@
 //! The wires of a program: the types at their ends, their first values, and their cores.
 //!
-//! Main calls: `first_values::first_without_value`, the rule on first values; `cores::wires`, the wires of the core.
-//! Meaning: the files of `specs/constants`, `specs/types`, `specs/first_values` and `specs/cores`.
-//! Knows: signatures and written declarations. Doesn't know: rules of boxes and functions.
+//! Main calls: `first_values::first_without_value` gives the first wire that breaks the rule on first values, and `cores::wires`
+//! the wires of the core. The files of `specs/first_values` and `specs/cores` define both, over those of `specs/types`.
+//!
+//! It knows signatures and written declarations. It doesn't know rules of boxes, or equations of functions.
 #![tactic(auto)]
 
 pub mod constants;

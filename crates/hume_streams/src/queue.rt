@@ -102,7 +102,8 @@ impl InQueue {
         requires own_type { size_of types.now ty.now ≡ (queue_view self.old).width }
         requires span { want ≤ (queue_view self.old).span }
         ensures fills { Fills types.now ty.now want (queue_view self.old) (queue_view self.new) (view port.old) (view port.new) result }
-        ensures idle { want ≤ length (queue_view self.old).values → (queue_view self.new ≡ queue_view self.old) × (view port.new ≡ view port.old) × IsOk result }
+        ensures idle { want ≤ length (queue_view self.old).values
+            → (queue_view self.new ≡ queue_view self.old) × (view port.new ≡ view port.old) × IsOk result }
     {
         'values: while self.count() < want {
             match self.buffer.next_line(port) {

@@ -164,7 +164,8 @@ fn read_vector<'a>(
 ) -> Option<(usize, &'a [u8])>
     requires { at ≤ length into.old }
     ensures read { MatchOption result
-        (read_in is_open_vector is_close_vector (replicate {A = Reader} count (read_with (length into.old) (read_named types.now (length into.old) bound) item.now))
+        (read_in is_open_vector is_close_vector (replicate {A = Reader} count
+        (read_with (length into.old) (read_named types.now (length into.old) bound) item.now))
         (take at into.old) line.now ≡ None)
         (λ read. read_in is_open_vector is_close_vector
         (replicate {A = Reader} count (read_with (length into.old) (read_named types.now (length into.old) bound) item.now)) (take at into.old) line.now
@@ -273,8 +274,10 @@ fn read_constructor<'a>(
 ) -> Option<(usize, &'a [u8])>
     requires { at ≤ length into.old }
     ensures read { MatchOption result
-        (read_con types.now (length into.old) (read_with (length into.old) (read_named types.now (length into.old) bound)) sum.now (take at into.old) line.now ≡ None)
-        (λ read. read_con types.now (length into.old) (read_with (length into.old) (read_named types.now (length into.old) bound)) sum.now (take at into.old) line.now
+        (read_con types.now (length into.old) (read_with (length into.old) (read_named types.now (length into.old) bound)) sum.now
+        (take at into.old) line.now ≡ None)
+        (λ read. read_con types.now (length into.old) (read_with (length into.old) (read_named types.now (length into.old) bound)) sum.now
+        (take at into.old) line.now
         ≡ Some (take read.0 into.new, read.1.now)) }
     ensures room { length into.new ≡ length into.old }
     ensures within { IfSome result (λ read. read.0 ≤ length into.old) }

@@ -26,7 +26,8 @@ pub fn steps_keep_bounds()
     ensures states { (core : Core) → IsTypedNet core → (state : State) → IsTypedState core state
         → (n : ℕ) (b : BoxC) → slice_get core.nodes n ≡ Some (Rules b) → IsAtMost (step_spent core state n) (box_bound core b) }
     ensures locksteps { (core : Core) → IsTypedNet core → InitialsAreTyped core → (coming : List (List Value)) → ComingAreTyped core coming
-        → (k n : ℕ) (b : BoxC) → slice_get core.nodes n ≡ Some (Rules b) → IsAtMost (step_spent core (lockstep core (start core coming) k) n) (box_bound core b) }
+        → (k n : ℕ) (b : BoxC) → slice_get core.nodes n ≡ Some (Rules b)
+        → IsAtMost (step_spent core (lockstep core (start core coming) k) n) (box_bound core b) }
 {}
 
 /// The greatest heap, stack and work over so many supersteps keep the bound of the box too, each by itself: from any state whose

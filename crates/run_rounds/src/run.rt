@@ -255,7 +255,8 @@ impl Running {
         requires few { length members.now < 2 ^ 31 }
         requires out { IsPlaceOf std_out (names (map view ports.old)) out }
         ensures ends { Ends never []
-            (writes std_out (member_bad_line (suc (members_before (views members.now) bad.node)) (name_of (slice_get (core_in self.old).nodes bad.node)) bad.line) ∷ []) []
+            (writes std_out (member_bad_line (suc (members_before (views members.now) bad.node))
+            (name_of (slice_get (core_in self.old).nodes bad.node)) bad.line) ∷ []) []
             (map view ports.old) (map view ports.new) result }
         ensures same_names { names (map view ports.new) ≡ names (map view ports.old) }
     {

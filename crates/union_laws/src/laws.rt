@@ -25,7 +25,8 @@ pub fn programs_run_as_alone()
     ensures right { (a b : Core) → IsWellFormed a → IsWellFormed b → (state : State) (k : ℕ)
         → right a (lockstep (united a b) state k) ≡ lockstep b (right a state) k }
     ensures each { (programs : List Core) → All IsWellFormed programs → (place : ℕ) (program : Core) → slice_get programs place ≡ Some program
-        → (state : State) (k : ℕ) → share programs place program (lockstep (united_all programs) state k) ≡ lockstep program (share programs place program state) k }
+        → (state : State) (k : ℕ) → share programs place program (lockstep (united_all programs) state k)
+        ≡ lockstep program (share programs place program state) k }
 {}
 
 /// The first state of a union is that of each program, with its share of the values that are to come.

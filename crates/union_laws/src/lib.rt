@@ -1,4 +1,5 @@
-//! Several programs as one net: the disjoint union of cores by its definitions, and the laws that each program runs as it runs alone.
+//! Several programs as one net: the disjoint union of cores, in which each program runs as it runs alone; definitions and laws,
+//! nothing runs.
 //!
 //! `Moving.antt` says what becomes of a program whose numbers move up, and `Union.antt` what the union of two programs and of a list
 //! of programs is. `Shares.antt` says which part of a united state is a program's own, and `Room.antt` when a union is within the

@@ -1,9 +1,9 @@
 //! The values on wires as flat words: `flatten` writes the words of a value, and a `WireCell` is the queue of one wire.
 //!
 //! `flatten` writes the words of a value into a slice, each once and in order. A `WireCell` holds the values of one wire, as
-//! many as its depth allows, in a ring that is made once; no other call takes memory. It counts its half steps (`time`, `tick`). `Flat.antt` of `hume_base` says which
-//! words are a value's, and `Cells.antt` which values a cell holds. Cells stand at home by the numbers of their wires (`Homes.antt`):
-//! `cell_at` and `cell_in` give the cell of a number, to be read and to be changed.
+//! many as its depth allows, in a ring that is made once; no other call takes memory. It counts its half steps (`time`, `tick`).
+//! `Flat.antt` of `hume_base` says which words are a value's, and `Cells.antt` which values a cell holds. Cells stand at home by the
+//! numbers of their wires (`Homes.antt`): `cell_at` and `cell_in` give the cell of a number, to be read and to be changed.
 //!
 //! Proved: `flatten` writes exactly the flat words of a value. Each call of `WireCell` takes, adds or shows exactly the value
 //! that it says, the oldest first, up to the wire's depth. Laws: `value_of` of `hume_model` reads what `flatten` writes as the

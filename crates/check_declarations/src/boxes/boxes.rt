@@ -37,7 +37,8 @@ pub fn box_cores<'a>(
     handlers: &'a [(Text, Option<Pat>, Exp)],
 ) -> Result<BoxCores, Stop>
     ensures keeps { OnOk result (at.new ≡ at.old) }
-    ensures ok { IfOk result (λ found. box_found (box_walk (signatures_in at.old.0) inputs.now outputs.now rules.now handlers.now) ≡ Some (found.rules, found.handlers, found.too_wide)) }
+    ensures ok { IfOk result (λ found. box_found (box_walk (signatures_in at.old.0) inputs.now outputs.now rules.now handlers.now)
+        ≡ Some (found.rules, found.handlers, found.too_wide)) }
     ensures none { IfErr result (λ stop. stop ≡ NoType → box_walk (signatures_in at.old.0) inputs.now outputs.now rules.now handlers.now ≡ None) }
 {
     enter_ports(at, inputs, outputs)?;

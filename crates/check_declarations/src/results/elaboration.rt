@@ -31,7 +31,8 @@ impl<'a> Model for ResultElaboration<'a> {
     ghost use Rattle.hume_model.specs.contracts.core_tree.PatC as pat;
     ghost use Rattle.hume_model.specs.contracts.core_tree.Res as res;
 
-    ghost Value = { ((List (List ℕ × Ty) × List Ty × Signatures) × List (Expr × Bool) × List (PatC × Bool) × List ((PatC × Bool) × (Expr × Bool))) × List (Res × Bool) × List (Option Expr × Bool) × List ((PatC × Bool) × (Res × Bool)) };
+    ghost Value = { ((List (List ℕ × Ty) × List Ty × Signatures) × List (Expr × Bool) × List (PatC × Bool) × List ((PatC × Bool) × (Expr × Bool)))
+        × List (Res × Bool) × List (Option Expr × Bool) × List ((PatC × Bool) × (Res × Bool)) };
 
     ghost coded = { Prim.hlevel (codes, ty.the_row.coded, sigs.the_row.coded, expr.the_row.coded, pat.the_row.coded, res.the_row.coded) };
 

@@ -40,7 +40,8 @@ pub(crate) fn tuple_result<'a>(
     e: &'a Exp,
     parts: &'a [Exp],
 ) -> Result<(), Stop>
-    requires { result_walk (signatures_in at.now.0) e.now ≡ tuple_result_walk (walk (signatures_in at.now.0) e.now) (result_walks (signatures_in at.now.0) parts.now) }
+    requires { result_walk (signatures_in at.now.0) e.now ≡ tuple_result_walk (walk (signatures_in at.now.0) e.now)
+        (result_walks (signatures_in at.now.0) parts.now) }
     ensures ok { OnOk result (DoesResult (result_walk (signatures_in at.now.0) e.now) at.now tasks.old tasks.new) }
     ensures none { IfErr result (λ stop. stop ≡ NoMemory) }
 {

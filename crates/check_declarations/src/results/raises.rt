@@ -25,7 +25,9 @@ pub(crate) fn raise_result<'a>(
     name: &Text,
     carried: &'a Option<Box<Exp>>,
 ) -> Result<(), Stop>
-    ensures ok { OnOk result (result_run tasks.new at.new ≡ given (result_of ((raised_found (signatures_in at.old.0) name.now carried.now).result (scope_of at.old) (last_outputs at.old)) at.old) (result_run tasks.old)) }
+    ensures ok { OnOk result (result_run tasks.new at.new ≡ given
+        (result_of ((raised_found (signatures_in at.old.0) name.now carried.now).result (scope_of at.old) (last_outputs at.old)) at.old)
+        (result_run tasks.old)) }
     ensures none { IfErr result (λ stop. stop ≡ NoType → HasNoResult (raised_found (signatures_in at.old.0) name.now carried.now) at.old) }
 {
     match carried {
@@ -41,7 +43,8 @@ fn raise_alone<'a>(
     tasks: &mut Stack<ResultTask<'a>>,
     name: &Text,
 ) -> Result<(), Stop>
-    ensures ok { OnOk result (result_run tasks.new at.new ≡ given (result_of ((raise_found (signatures_in at.old.0) name.now).result (scope_of at.old) (last_outputs at.old)) at.old) (result_run tasks.old)) }
+    ensures ok { OnOk result (result_run tasks.new at.new ≡ given
+        (result_of ((raise_found (signatures_in at.old.0) name.now).result (scope_of at.old) (last_outputs at.old)) at.old) (result_run tasks.old)) }
     ensures none { IfErr result (λ stop. stop ≡ NoType → HasNoResult (raise_found (signatures_in at.old.0) name.now) at.old) }
 {
     match at.plain.push_exception(name.bytes())? {
@@ -59,7 +62,8 @@ fn raise_with<'a>(
     name: &Text,
     a: &'a Exp,
 ) -> Result<(), Stop>
-    ensures ok { OnOk result (result_run tasks.new at.new ≡ given (result_of ((raise_with_found (signatures_in at.old.0) name.now a.now).result (scope_of at.old) (last_outputs at.old)) at.old) (result_run tasks.old)) }
+    ensures ok { OnOk result (result_run tasks.new at.new ≡ given
+        (result_of ((raise_with_found (signatures_in at.old.0) name.now a.now).result (scope_of at.old) (last_outputs at.old)) at.old) (result_run tasks.old)) }
     ensures none { IfErr result (λ stop. stop ≡ NoType → HasNoResult (raise_with_found (signatures_in at.old.0) name.now a.now) at.old) }
 {
     let number = carrying(at, name)?;

@@ -22,8 +22,10 @@ impl<'a> ResultElaboration<'a> {
     /// The core of the result for outputs whose types are the parts of the last type, a tuple. It goes on the stack of results.
     #[tactic(auto, using(crate::proofs::results_lemmas::Running::walk_steps))]
     pub fn result(&mut self, alloc: Global, e: &'a Exp) -> Result<(), Stop>
-        ensures ok { OnOk result (result_of ((result_walk (signatures_in self.old.0) e.now).result (scope_of self.old) (last_outputs self.old)) self.old ≡ Some self.new) }
-        ensures none { IfErr result (λ stop. stop ≡ NoType → (result_walk (signatures_in self.old.0) e.now).result (scope_of self.old) (last_outputs self.old) ≡ None) }
+        ensures ok { OnOk result (result_of ((result_walk (signatures_in self.old.0) e.now).result (scope_of self.old) (last_outputs self.old)) self.old
+            ≡ Some self.new) }
+        ensures none { IfErr result (λ stop. stop ≡ NoType → (result_walk (signatures_in self.old.0) e.now).result (scope_of self.old)
+            (last_outputs self.old) ≡ None) }
     {
         let mut tasks = Stack::new(alloc);
         tasks.push(ResultTask::Result(e))?;
@@ -78,7 +80,8 @@ fn result_tasks<'a>(
     tasks: &mut Stack<ResultTask<'a>>,
     e: &'a Exp,
 ) -> Result<(), Stop>
-    ensures ok { OnOk result (result_run tasks.new at.new ≡ given (result_of ((result_walk (signatures_in at.old.0) e.now).result (scope_of at.old) (last_outputs at.old)) at.old) (result_run tasks.old)) }
+    ensures ok { OnOk result (result_run tasks.new at.new ≡ given
+        (result_of ((result_walk (signatures_in at.old.0) e.now).result (scope_of at.old) (last_outputs at.old)) at.old) (result_run tasks.old)) }
     ensures none { IfErr result (λ stop. stop ≡ NoType → HasNoResult (result_walk (signatures_in at.old.0) e.now) at.old) }
 {
     match e {

@@ -81,9 +81,11 @@ abbrev pub result_step : ResultTask → ResultState → Option ResultState
 result_step (task.Result e) state = result_of ((result_walk (signatures_of state) e.now).result (scope_of state) (last_outputs state)) state
 result_step (task.Output e) state = output_of ((result_walk (signatures_of state) e.now).output (scope_of state) (top (types_of state))) state
 result_step (task.Outputs parts first) state =
-    given (all_outputs (scope_of state) (result_walks (signatures_of state) parts.now) (drop first (last_outputs state))) (λ outs. Some (with_outputs outs state))
+    given (all_outputs (scope_of state) (result_walks (signatures_of state) parts.now) (drop first (last_outputs state)))
+    (λ outs. Some (with_outputs outs state))
 result_step (task.Arms arms) state =
-    given (arms_result (signatures_of state) (scope_of state) (top (below (types_of state))) (result_arm_walks (signatures_of state) arms.now) (last_outputs state))
+    given (arms_result (signatures_of state) (scope_of state) (top (below (types_of state))) (result_arm_walks (signatures_of state) arms.now)
+    (last_outputs state))
     (λ cs. Some (with_result_arms cs state))
 result_step (task.Plain t) state = given (step t state.0) (λ plain. Some (with_plain plain state))
 result_step (task.Make m) state = Some (make_step m state)

@@ -25,8 +25,10 @@ with_caught name pat known = given (exn_named name known.2) (λ (found : ℕ × 
 
 -- the number of the exception, the variables and whether there are any, and the core of the result
 abbrev pub handler_parts : ResultState → WrittenHandler → Option ((ℕ × Scope × Bool) × CoredRes)
-handler_parts state handler = given (exn_named handler.0 (signatures_of state)) (λ (found : ℕ × ExnDef). given (carried_vars found.1.carries handler.1) (λ carried.
-    given ((result_walk (signatures_of state) handler.2).result (scope_of state ++ carried.0) (last_outputs state)) (λ c. Some ((found.0, carried.0, carried.1), c))))
+handler_parts state handler = given (exn_named handler.0 (signatures_of state))
+    (λ (found : ℕ × ExnDef). given (carried_vars found.1.carries handler.1) (λ carried.
+    given ((result_walk (signatures_of state) handler.2).result (scope_of state ++ carried.0) (last_outputs state))
+    (λ c. Some ((found.0, carried.0, carried.1), c))))
 
 -- the number of the exception and whether what it carries is bound; and the variables in scope, and the core of the result on the
 -- stack

@@ -40,7 +40,8 @@ DoesResult found state others tasks = result_run tasks state ≡ given (result_o
 
 -- the same of an output
 abbrev pub DoesOutput : ResultWalk → ResultState → List ResultTask → List ResultTask → Type 0
-DoesOutput found state others tasks = result_run tasks state ≡ given (output_of (found.output (scope_of state) (top (types_of state))) state) (result_run others)
+DoesOutput found state others tasks = result_run tasks state ≡ given (output_of (found.output (scope_of state) (top (types_of state))) state)
+    (result_run others)
 
 -- no result is found
 abbrev pub HasNoResult : ResultWalk → ResultState → Type 0

@@ -49,15 +49,18 @@ module _ (R S : RattleType) (as_other : R.Denot → S.Denot) where
   unfolding part_of
   std_box_places alike = record {
     mir_same = λ i. (std_box_of (one_value R (alike.mir_same i) (λ _. ftrue) (λ _ _. nothing) gnil)).mir;
-    own_same = λ from i. (std_box_of (one_value R (alike.mir_same i) (alike.own_same from.value i) (alike.shr_same from.value i) gnil)).own_val (revalued from tt);
-    shr_same = λ from i. (std_box_of (one_value R (alike.mir_same i) (alike.own_same from.value i) (alike.shr_same from.value i) gnil)).shr_at (revalued from tt);
+    own_same = λ from i. (std_box_of (one_value R (alike.mir_same i) (alike.own_same from.value i) (alike.shr_same from.value i) gnil)).own_val
+        (revalued from tt);
+    shr_same = λ from i. (std_box_of (one_value R (alike.mir_same i) (alike.own_same from.value i) (alike.shr_same from.value i) gnil)).shr_at
+        (revalued from tt);
   }
 
   pub the_places : Alike R S as_other → Alike (outer.the_row R) (outer.the_row S) ((the_former this).map R.Denot S.Denot as_other)
   the_places alike = view_places box_field this view (λ X Y _ _. refl) (λ X _. refl) R.Denot S.Denot as_other (outer.the_row R).coded (outer.the_row S).coded
       (invariant R.Denot) (invariant S.Denot) (λ _ _ _. refl) (λ _ _ _. refl) (λ _ _. tt) (λ _ _. tt)
       (over (inner.the_row R)) (over (inner.the_row S))
-      (struct_places (inner.the_type R) (inner.the_type S) ((λ from. revalued from (as_other from.value)), tt) _ (λ _. refl) refl (laid _ _ _ (std_box_places alike), tt))
+      (struct_places (inner.the_type R) (inner.the_type S) ((λ from. revalued from (as_other from.value)), tt) _ (λ _. refl) refl
+      (laid _ _ _ (std_box_places alike), tt))
 
   pub the_codes_placed : Recodes R S as_other → Recodes (outer.the_row R) (outer.the_row S) ((the_former this).map R.Denot S.Denot as_other)
   the_codes_placed recodes value = recodes value

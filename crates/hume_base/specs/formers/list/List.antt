@@ -46,10 +46,12 @@ vec_field = via (vec.the_former this Global) Inside (λ X fields. fields.items) 
 -- elements that lie in memory as others do make lists that lie as the others' lists do
 module _ (R S : RattleType) (as_other : R.Denot → S.Denot) where
   pub the_places : Alike R S as_other → Alike (outer.the_row R) (outer.the_row S) ((the_former this).map R.Denot S.Denot as_other)
-  the_places alike = view_places vec_field (list this) view (λ X Y _ _. refl) (λ X _. refl) R.Denot S.Denot as_other (outer.the_row R).coded (outer.the_row S).coded
+  the_places alike = view_places vec_field (list this) view (λ X Y _ _. refl) (λ X _. refl) R.Denot S.Denot as_other (outer.the_row R).coded
+      (outer.the_row S).coded
       (invariant R.Denot) (invariant S.Denot) (λ _ _ _. refl) (λ _ _ _. refl) (λ _ _. tt) (λ _ _. tt)
       (over (inner.the_row R)) (over (inner.the_row S))
-      (struct_places (inner.the_type R) (inner.the_type S) (vec.mapped as_other, tt) _ (λ _. refl) refl (laid _ _ _ (vec.the_places heap.the_row ghosts R S as_other alike), tt))
+      (struct_places (inner.the_type R) (inner.the_type S) (vec.mapped as_other, tt) _ (λ _. refl) refl
+      (laid _ _ _ (vec.the_places heap.the_row ghosts R S as_other alike), tt))
 
   pub the_codes_placed : Recodes R S as_other → Recodes (outer.the_row R) (outer.the_row S) ((the_former this).map R.Denot S.Denot as_other)
   the_codes_placed recodes elements = sym (code_map R.coded.code S.coded.code as_other (λ x. sym (recodes x)) elements)
