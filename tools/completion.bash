@@ -5,6 +5,16 @@ _hume_ports() {
     sed -n 's/^ *stream  *[a-z][A-Za-z0-9_]*  *\(from\|to\)  *"\([^"]*\)".*/\2/p' -- "$1" 2>/dev/null | grep -v '^std_\(in\|out\)$'
 }
 
+# _hume_options WORD: the options of a word
+_hume_options() {
+    case $1 in
+    test) echo --bless --cover ;;
+    go) echo -j --force ;;
+    watch) echo -w --until --width ;;
+    net) echo --svg ;;
+    esac
+}
+
 # _hume_files KIND: the files of that kind, and folders on the way to them
 _hume_files() {
     case $1 in
@@ -17,16 +27,17 @@ _hume_files() {
 _hume() {
     local word=${COMP_WORDS[COMP_CWORD]} kind='' ports=''
     if ((COMP_CWORD == 1)); then
-        mapfile -t COMPREPLY < <(compgen -W 'check run trace calc union record verify demo console why bounds net hints test go watch vcd waves page install uninstall --help --version --rebuild' -- "$word")
+        mapfile -t COMPREPLY < <(compgen -W 'check run trace calc union record verify demo console why bounds net hints test go live watch cover vcd waves page server install uninstall help --help --version --rebuild' -- "$word")
         return
     fi
-    # Where the SOURCE stands, and from where on there are ports.
-    local source=0
+    # Where the SOURCE stands, behind which there are ports, and where the last word does.
+    local source=0 last=100
     case ${COMP_WORDS[1]} in
-    check | why | bounds | net | hints) source=2 ;;
+    check | why | bounds | net | hints) source=2 last=2 ;;
+    live) source=2 ;;
     run | trace | calc) source=4 ;;
     union) source=5 ;;
-    watch | vcd | page | console) source=3 ;;
+    watch | cover | vcd | page | console) source=3 ;;
     record | verify)
         source=3
         ((COMP_CWORD != 4)) || kind=file
@@ -36,7 +47,11 @@ _hume() {
     test | install | uninstall) kind=folder ;;
     esac
     ((source == 0 || COMP_CWORD != source)) || kind=source
-    if [ -z "$kind" ] && ((source > 2 && COMP_CWORD > source)); then
+    if [[ $word == -* ]]; then
+        mapfile -t COMPREPLY < <(compgen -W "$(_hume_options "${COMP_WORDS[1]}")" -- "$word")
+        return
+    fi
+    if [ -z "$kind" ] && ((source > 0 && COMP_CWORD > source && COMP_CWORD <= last)); then
         ports=$(_hume_ports "${COMP_WORDS[source]}")
         mapfile -t COMPREPLY < <(compgen -W "$ports" -- "$word")
         return

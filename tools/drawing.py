@@ -4,7 +4,10 @@ import shutil
 import subprocess
 import tempfile
 
+from program import started
+
 WIDEST = 24
+MOST_SECONDS = 10
 
 
 def quoted(text):
@@ -32,11 +35,32 @@ def stream_line(it):
     return f"  {quoted(it.name)} [shape = {'cds' if it.incoming else 'note'}, label = {quoted(label)}];"
 
 
-def wire_line(number, wire, widest):
-    """A wire: the names of its ends at the boxes and its depth, and a line for its values that is as long as the widest."""
+def label_of(wire, widest):
+    """The names of a wire's ends at the boxes and its depth, and a line for its values that is as long as the widest."""
     ends = " to ".join(it.partition(".")[2] for it in (wire.start, wire.finish) if "." in it)
-    label = ends + (f" @ {wire.depth}" if wire.depth > 1 else "") + "\n" + widest
-    return f"  {node_of(wire.start)} -> {node_of(wire.finish)} [id = wire{number}, label = {quoted(label)}];"
+    return quoted(ends + (f" @ {wire.depth}" if wire.depth > 1 else "") + "\n" + widest)
+
+
+def loop_lines(number, box, label, place):
+    """A wire from a box to itself, through a node that has its label: the first one stands above the box, the second one below, and each
+    further one beside it. An edge names the upper node first, since that keeps it there."""
+    node = quoted(f"wire {number}")
+    text = f"{node} [id = wire{number}, class = wire{number}, shape = plaintext, fontsize = 10, style = solid, label = {label}];"
+    yield f"  {{ rank = same; {box}; {text} }}" if place < 2 else f"  {text}"
+    edge = f"{node} -> {box}" if place == 0 else f"{box} -> {node}"
+    yield f"  {edge} [class = wire{number}, dir = none];"
+    yield f"  {edge} [class = wire{number}, dir = {'back' if place else 'forward'}];"
+
+
+def wire_lines(net, widest):
+    """All wires. `dot` draws several loops at one box over their labels, so there each has a node of its own."""
+    ends = [(node_of(it.start), node_of(it.finish)) for it in net.wires]
+    for n, (start, finish) in enumerate(ends):
+        label = label_of(net.wires[n], widest[n])
+        if start == finish and ends.count(ends[n]) > 1:
+            yield from loop_lines(n, start, label, ends[:n].count(ends[n]))
+        else:
+            yield f"  {start} -> {finish} [id = wire{n}, class = wire{n}, label = {label}];"
 
 
 def graph(net, bounds, widest):
@@ -45,16 +69,22 @@ def graph(net, bounds, widest):
     lines.append('  edge [fontname = "Helvetica", fontsize = 10];')
     lines += [box_line(n, it, bounds) for n, it in enumerate(net.boxes)]
     lines += [stream_line(it) for it in net.streams]
-    lines += [wire_line(n, it, widest[n]) for n, it in enumerate(net.wires)]
+    lines += wire_lines(net, widest)
     return "\n".join(lines) + "\n}\n"
 
 
 def picture(text, kind="svg"):
-    """What `dot` makes of the text, as bytes; nothing where it isn't installed."""
+    """What `dot` makes of the text, as bytes; nothing where it isn't installed, fails, or takes too long."""
     dot = shutil.which("dot")
     if not dot:
         return b""
-    return subprocess.run([dot, f"-T{kind}"], input=text.encode("latin-1"), stdout=subprocess.PIPE, check=True).stdout
+    streams = {"stdin": subprocess.PIPE, "stdout": subprocess.PIPE, "stderr": subprocess.DEVNULL}
+    try:
+        with started([dot, f"-T{kind}"], **streams) as process:
+            drawn, _ = process.communicate(text.encode("latin-1"), MOST_SECONDS)
+    except (OSError, subprocess.TimeoutExpired):
+        return b""
+    return b"" if process.returncode else drawn
 
 
 def browser():

@@ -1,79 +1,24 @@
-"""hume test [--bless] [FOLDER..]: runs the program in every folder that has `words`, and compares what it does with `expected/`.
+"""hume test [--bless | --cover] [FOLDER..]: runs the program in every folder that has `words`, and compares what it does with `expected/`.
 
 An example's folder has its inputs, `words` (a word of the call on each line) and maybe `stdin`. `expected/` has `status`, the `table` of
 bounds, the rest of the standard output (`stdout`) and each file that is written. `expected/taken` has the superstep in which each value
 is taken, in lines `SUPERSTEP STREAM VALUE`. `expected.py STREAM` works the values of a stream out in its own way.
 """
 import os
-import shutil
 import subprocess
 import sys
-import tempfile
+from concurrent.futures import ThreadPoolExecutor
 
-from program import TOP, Usage, built, call
+from covering import Sources
+from program import TOP, Usage, built, is_number, running
+from room import Room, names, read, words_of
 
-NOT_INPUTS = ("words", "README.md", "expected.py", "expected", "stdin")
 NOT_OUTPUTS = ("status", "table", "taken", "stdout")
 # which word of a call is WORKERS, and the numbers that are tried
 WORKERS_AT = {"run": 2, "trace": 2, "calc": 2, "union": 2, "demo": 3}
 # which word of a call is SOURCE, where it isn't the word 3
 SOURCE_AT = {"check": 1, "console": 2}
 WORKERS = ("1", "2", "3", "16")
-
-
-def read(*path):
-    """The bytes of the file; none where there is no such file."""
-    try:
-        with open(os.path.join(*path), "rb") as file:
-            return file.read()
-    except FileNotFoundError:
-        return b""
-
-
-def names(*path):
-    folder = os.path.join(*path)
-    return sorted(os.listdir(folder)) if os.path.isdir(folder) else []
-
-
-class Room:
-    """A fresh folder with the inputs of an example, in which the program runs."""
-
-    program = None
-
-    def __init__(self, example):
-        self.example = example
-
-    def __enter__(self):
-        self.path = tempfile.mkdtemp(prefix="hume-test-")
-        for name in names(self.example):
-            if name not in NOT_INPUTS:
-                whole = os.path.join(self.example, name)
-                (shutil.copytree if os.path.isdir(whole) else shutil.copy)(whole, os.path.join(self.path, name))
-        return self
-
-    def __exit__(self, *_):
-        shutil.rmtree(self.path)
-
-    def call(self, words):
-        """The call as a user makes it, by the command."""
-        return call(words, self.path, read(self.example, "stdin"))
-
-    def call_program(self, words):
-        """The same by the built program itself, which takes less time."""
-        return call(words, self.path, read(self.example, "stdin"), self.program)
-
-    def files(self):
-        """Every file in the room, with its bytes."""
-        found = {}
-        for folder, _, inside in os.walk(self.path):
-            for name in inside:
-                whole = os.path.join(folder, name)
-                found[os.path.relpath(whole, self.path)] = read(whole)
-        return found
-
-
-def words_of(example):
-    return read(example, "words").decode().split("\n")[:-1]
 
 
 def first_difference(what, wanted, found):
@@ -142,11 +87,12 @@ def compare_workers(example):
 def compare_check(example):
     """A check of the same source writes the table, and nothing else. What a script makes of a source, or a union, has a table of its own."""
     words, table = words_of(example), read(example, "expected", "table")
-    if not table or words[0] in ("calc", "union"):
+    at = SOURCE_AT.get(words[0], 3)
+    if not table or words[0] in ("calc", "union") or len(words) <= at:
         return None
     with Room(example) as room:
         files = room.files()
-        done = room.call_program(["check", words[SOURCE_AT.get(words[0], 3)]])
+        done = room.call_program(["check", words[at]])
         return (
             first_difference("status of a check", b"0", str(done.returncode).encode())
             or first_difference("standard output of a check", table, done.stdout)
@@ -161,6 +107,8 @@ def compare_counts(example):
     lines = [it.split(b" ", 2) for it in read(example, "expected", "taken").split(b"\n")[:-1]]
     if not lines:
         return None
+    if not all(len(it) == 3 and it[0].isdigit() for it in lines) or not all(map(is_number, words[1:2])):
+        raise Usage(f"{os.path.relpath(example)}/expected/taken needs lines SUPERSTEP STREAM VALUE, and words a number of supersteps")
     for steps in range(int(words[1]) + 1):
         with Room(example) as room:
             files = room.files()
@@ -194,6 +142,26 @@ def compare(example):
         if difference := part(example):
             return difference
     return None
+
+
+def compare_all(examples):
+    """Each example with its first difference or none, in order; as many are tried at once as there are processors."""
+    pool = ThreadPoolExecutor(len(os.sched_getaffinity(0)))
+    try:
+        yield from zip(examples, pool.map(compare, examples))
+    except BaseException:
+        for process in list(running):
+            process.terminate()
+        raise
+    finally:
+        pool.shutdown(wait=False, cancel_futures=True)
+
+
+def bless_all(examples):
+    for example in examples:
+        bless(example)
+        print(f"written: {os.path.relpath(example)}/expected", flush=True)
+    return 0
 
 
 def bless(example):
@@ -230,24 +198,35 @@ def examples_below(folders):
     return found
 
 
-def main(_, words):
-    blesses = "--bless" in words
-    folders = [it for it in words if it != "--bless"]
-    if any(it.startswith("-") for it in folders):
-        raise Usage("usage: hume test [--bless] [FOLDER..]")
-    passed = failed = 0
-    Room.program = built()
-    for example in examples_below(folders or [os.path.join(TOP, "examples")]):
+def try_all(examples):
+    """Prints what comes of each example, and gives how many fail."""
+    failed = 0
+    for example, difference in compare_all(examples):
+        failed += difference is not None
         shown = os.path.relpath(example)
-        if blesses:
-            bless(example)
-            print(f"written: {shown}/expected")
-        elif difference := compare(example):
-            failed += 1
-            print(f"FAILED: {shown}: {difference}")
-        else:
-            passed += 1
-            print(f"passed: {shown}")
-    if not blesses:
-        print(f"{passed} passed, {failed} failed")
+        print(f"FAILED: {shown}: {difference}" if difference else f"passed: {shown}", flush=True)
+    print(f"{len(examples) - failed} passed, {failed} failed")
+    return failed
+
+
+def cover_all(examples):
+    """Prints what the examples cover of their sources."""
+    sources = Sources()
+    for example in examples:
+        sources.add(example)
+    for line in sources.lines():
+        print(line)
+
+
+def main(_, words):
+    options = {it for it in words if it.startswith("-")}
+    if options - {"--bless", "--cover"} or len(options) > 1:
+        raise Usage("usage: hume test [--bless | --cover] [FOLDER..]")
+    Room.program = built()
+    examples = examples_below([it for it in words if it not in options] or [os.path.join(TOP, "examples")])
+    if "--bless" in options:
+        return bless_all(examples)
+    failed = try_all(examples)
+    if "--cover" in options:
+        cover_all(examples)
     return 1 if failed else 0

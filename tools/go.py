@@ -1,19 +1,20 @@
 """hume go [STEPS] SOURCE [-j WORKERS] [--force]: runs a source in its folder, on the files that its streams name.
 
-A file that it would write, and that no earlier `hume go` left there, is asked about. `.hume-go` in the folder has the sum of each file
-that was written.
+A file that it would write, and that no earlier `hume go` left there, is asked about. `.hume/written` in the folder has the sum of each
+file that was written. No stream may have a port in that folder.
 """
 import hashlib
 import os
-import subprocess
 import sys
 
-from program import Usage, call, command, read_bytes, report
+from program import Usage, call, command, is_number, read_bytes, read_source, report
+from program import run as run_command
 from source import read_net
 
 USAGE = "usage: hume go [STEPS] SOURCE [-j WORKERS] [--force]"
 STEPS = "1000"
-NOTES = ".hume-go"
+FOLDER = ".hume"
+NOTES = os.path.join(FOLDER, "written")
 STANDARD = ("std_in", "std_out")
 
 
@@ -28,19 +29,41 @@ def words_of(words):
         workers = "".join(words[at + 1 : at + 2])
         del words[at : at + 2]
     steps = words.pop(0) if len(words) == 2 else STEPS
-    if len(words) != 1 or not steps.isdigit() or not workers.isdigit() or words[0].startswith("-"):
+    if len(words) != 1 or not is_number(steps) or not is_number(workers) or words[0].startswith("-"):
         raise Usage(USAGE)
     return steps, words[0], workers, force
 
 
 def sum_of(name):
-    return hashlib.sha256(read_bytes(name)).hexdigest()
+    total = hashlib.sha256()
+    with open(name, "rb") as file:
+        while part := file.read(1 << 16):
+            total.update(part)
+    return total.hexdigest()
 
 
 def notes():
     """The sums of the files that earlier runs wrote in this folder, by their names."""
-    lines = read_bytes(NOTES).decode().split("\n") if os.path.exists(NOTES) else []
+    lines = os.fsdecode(read_bytes(NOTES)).split("\n") if os.path.exists(NOTES) else []
     return dict(reversed(line.split(" ", 1)) for line in lines if " " in line)
+
+
+def check_ports(streams):
+    """No port may lie where the notes are."""
+    notes_at = os.path.realpath(FOLDER)
+    for it in streams:
+        if os.path.commonpath([notes_at, os.path.realpath(it.port)]) == notes_at:
+            raise Usage(f"the stream {it.name} has the port '{it.port}', and '{FOLDER}' is kept for the notes of 'hume go'")
+
+
+def marks(names):
+    """What changes when a file is written, of each file that is there."""
+    found = {}
+    for name in names:
+        if os.path.isfile(name):
+            seen = os.stat(name)
+            found[name] = (seen.st_dev, seen.st_ino, seen.st_ctime_ns, seen.st_size)
+    return found
 
 
 def is_foreign(name, known):
@@ -56,9 +79,12 @@ def may_write(name):
     return sys.stdin.readline().strip().lower() in ("y", "yes")
 
 
-def note(outputs, known):
-    known |= {it: sum_of(it) for it in outputs if os.path.isfile(it)}
-    with open(NOTES, "w", encoding="utf-8") as file:
+def note(outputs, before, known):
+    """Notes the files that the run has written, and no others."""
+    after = marks(outputs)
+    known |= {it: sum_of(it) for it in after if after[it] != before.get(it)}
+    os.makedirs(FOLDER, exist_ok=True)
+    with open(NOTES, "w", encoding="utf-8", errors="surrogateescape") as file:
         file.writelines(f"{total} {name}\n" for name, total in sorted(known.items()))
 
 
@@ -69,7 +95,8 @@ def run(steps, source, workers, force):
         sys.stdout.buffer.write(check.stdout)
         sys.stderr.buffer.write(check.stderr)
         return check.returncode
-    streams = [it for it in read_net(read_bytes(source)).streams if it.port not in STANDARD]
+    streams = [it for it in read_net(read_source(source)).streams if it.port not in STANDARD]
+    check_ports(streams)
     outputs, known = [it.port for it in streams if not it.incoming], notes()
     if not force and not all(may_write(it) for it in outputs if is_foreign(it, known)):
         return 1
@@ -77,15 +104,16 @@ def run(steps, source, workers, force):
         if it.incoming and not os.path.exists(it.port):
             report(f"the stream {it.name} reads the file '{it.port}', which isn't there")
             return 1
-    status = subprocess.run([command(), "run", steps, workers, source, *(it.port for it in streams)]).returncode
-    if status in (0, 3, 4):
-        note(outputs, known)
-    return status
+    before = marks(outputs)
+    try:
+        return run_command([command(), "run", steps, workers, source, *(it.port for it in streams)])
+    finally:
+        note(outputs, before, known)
 
 
 def main(_, words):
     steps, source, workers, force = words_of(words)
-    read_bytes(source)
+    read_source(source)
     if "HUME_PROGRAM" in os.environ:
         os.environ["HUME_PROGRAM"] = os.path.abspath(command())
     folder, name = os.path.split(source)

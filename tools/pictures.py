@@ -56,7 +56,7 @@ def main():
         folder = os.path.join(room, "run")
         shutil.copytree(os.path.join(TOP, "examples", EXAMPLE), folder)
         write(f"{folder}/run.html", made("page", folder))
-        photograph(f"file://{folder}/run.html#{SHOWN}", os.path.join(pictures, "page.png"), 900, 610)
+        photograph(f"file://{folder}/run.html#{SHOWN}", os.path.join(pictures, "page.png"), 1000, 1150)
         draw_waves(folder, os.path.join(pictures, "waves.png"))
 
 

@@ -4,6 +4,7 @@ What a box has yet to put out is seen on no wire. A box that fired, has put noth
 its rule put nothing on any output. So both are followed, until what comes later contradicts one.
 """
 from collections import namedtuple
+from functools import lru_cache
 from itertools import product
 
 from terms import matches, read_text
@@ -17,6 +18,12 @@ Step = namedtuple("Step", "deeds taken put")
 Hidden = namedtuple("Hidden", "pending orders given")
 
 MOST_AT_ONCE = 256
+
+
+@lru_cache(None)
+def shared_deed(rule, put, blocked):
+    """The deed; equal ones are one object, since a long run has many."""
+    return Deed(rule, put, blocked, False)
 
 
 class Unexplained(Exception):
@@ -66,7 +73,8 @@ class Nodes:
             number, wires = (None, []) if pending else self.fire(box, hidden.orders[box], state)
             fired.append(number)
             taken += wires
-        return fired, [it[wire in taken :] for wire, it in enumerate(state)], taken
+        taken = set(taken)
+        return fired, [it[1:] if wire in taken else it for wire, it in enumerate(state)], taken
 
     def given(self, hidden, middle, put, after):
         """How many values each input stream has given after the superstep; None where it should have given another one."""
@@ -84,14 +92,14 @@ class Nodes:
         rule = 0 if fired is None else fired + 1
         wires = self.out_of[box]
         if any(put[wire] for wire in wires):
-            return [Deed(rule, True, False, False)] if pending or rule else []
+            return [shared_deed(rule, True, False)] if pending or rule else []
         if not pending and not rule:
-            return [Deed(0, False, False, False)]
+            return [shared_deed(0, False, False)]
         ways = []
         if any(len(middle[wire]) >= self.depths[wire] for wire in wires):
-            ways.append(Deed(rule, False, True, False))
+            ways.append(shared_deed(rule, False, True))
         if rule and self.net.boxes[box].rules[fired].silent:
-            ways.append(Deed(rule, False, False, False))
+            ways.append(shared_deed(rule, False, False))
         return ways
 
     def successors(self, hidden, before, after):
@@ -116,13 +124,13 @@ class Nodes:
 def joined(steps):
     """One step of those that may have been made: the first, with what others say otherwise marked as unsure."""
     first = steps[0]
-    deeds = [
-        deed._replace(unsure=any(other.deeds[box][:3] != deed[:3] for other in steps)) for box, deed in enumerate(first.deeds)
-    ]
+    if len(steps) == 1:
+        return first
+    deeds = [it._replace(unsure=any(other.deeds[box][:3] != it[:3] for other in steps)) for box, it in enumerate(first.deeds)]
     return first._replace(deeds=deeds)
 
 
-def follow(nodes, states):
+def follow(nodes, states, progress=None):
     """For each superstep the steps that may have been made: a table from what is hidden after it to pairs of a step and what was before."""
     boxes = nodes.net.boxes
     start = Hidden((False,) * len(boxes), tuple(tuple(range(len(it.rules))) for it in boxes), (0,) * len(nodes.sources))
@@ -136,6 +144,8 @@ def follow(nodes, states):
             raise Unexplained
         layers.append(layer)
         reached = list(layer)
+        if progress:
+            progress.tell(f"{len(layers)} of {len(states) - 1} supersteps are looked at")
     return layers
 
 
@@ -155,19 +165,24 @@ def still(nodes, step, given, states, k):
     return True
 
 
-def explain(net, states, inputs):
+def first_still(nodes, steps, states):
+    """The number of the first superstep from which on nothing changes, if there is one."""
+    given = [0] * len(nodes.sources)
+    for k, step in enumerate(steps):
+        given = [count + step.put[wire] for count, (wire, _) in zip(given, nodes.sources)]
+        if still(nodes, step, given, states, k):
+            return k + 1
+    return None
+
+
+def explain(net, states, inputs, progress=None):
     """For each superstep what happened in it; and the number of the first one from which on nothing changes, if there is one."""
     nodes = Nodes(net, inputs)
-    layers = follow(nodes, states)
-    steps, alive, givens = [], set(layers[-1]) if layers else set(), []
+    layers = follow(nodes, states, progress)
+    steps, alive = [], set(layers[-1]) if layers else set()
     for layer in reversed(layers):
         ways = [(pair, hidden) for hidden, pairs in layer.items() if hidden in alive for pair in pairs]
         steps.append(joined([step for (step, _), _ in ways]))
-        givens.append(ways[0][1].given)
         alive = {before for (_, before), _ in ways}
     steps.reverse()
-    givens.reverse()
-    for k, step in enumerate(steps):
-        if still(nodes, step, givens[k], states, k):
-            return steps, k + 1
-    return steps, None
+    return steps, first_still(nodes, steps, states)

@@ -9,21 +9,24 @@ OPENING, CLOSING = ("(", "<<", "case"), (")", ">>", "end")
 
 @dataclass
 class Rule:
-    """The patterns of a rule, and whether it may put nothing on any output: a `*` stands in its result."""
+    """The patterns of a rule, the tokens of its result, and whether it may put nothing on any output: a `*` stands there."""
 
     patterns: list
+    result: list
     silent: bool
+    place: int
 
 
 @dataclass
 class Box:
-    """A box: its inputs and outputs as pairs of a name and a type."""
+    """A box: its inputs and outputs as pairs of a name and a type, its rules, and the tokens of each of its handlers."""
 
     name: str
     inputs: list
     outputs: list
     fair: bool
     rules: list
+    handlers: list
 
 
 @dataclass
@@ -102,16 +105,17 @@ def has_star(found):
 
 def rule_of(found, silent):
     patterns, result = inside(found)
-    return Rule([read_term(it) for it in parts_of(patterns, (",",))], silent or has_star(result[1:]))
+    return Rule([read_term(it) for it in parts_of(patterns, (",",))], result[1:], silent or has_star(result[1:]), found[0].place)
 
 
 def box_of(found):
     inputs, rest = inside(found[3:])
     outputs, rest = inside(rest[1:])
-    rules, *handlers = parts_of(rest[1:], ("handle",))
+    rules, *handled = parts_of(rest[1:], ("handle",))
+    handlers = [one for it in handled for one in parts_of(it, ("|",))]
     silent = any(map(has_star, handlers))
     fair = rest[0].text == "fair"
-    return Box(found[1].text, ports_of(inputs), ports_of(outputs), fair, [rule_of(it, silent) for it in parts_of(rules, ("|",))])
+    return Box(found[1].text, ports_of(inputs), ports_of(outputs), fair, [rule_of(it, silent) for it in parts_of(rules, ("|",))], handlers)
 
 
 def wire_of(found):

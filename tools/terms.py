@@ -4,12 +4,20 @@ from collections import namedtuple
 from lexing import NoToken, tokens
 
 # `kind` is number, letter, truth, constructor, tuple or vector, or of a pattern any (`_` and variables), skip (`*`) or drain (`_*`);
-# `name` is the number, the letter's text, `true`, or the constructor's name.
+# `name` is the number, the letter's text, `true`, the name of the constructor or variable, or that pattern's text.
 Term = namedtuple("Term", "kind name parts")
 
 
 class NoTerm(Exception):
     """The tokens are no value and no pattern."""
+
+
+def number_of(digits):
+    """The number; no type has one of more than 20 digits."""
+    digits = digits.lstrip("0") or "0"
+    if len(digits) > 20:
+        raise NoTerm
+    return int(digits)
 
 
 class Reader:
@@ -47,9 +55,9 @@ class Reader:
     def atom(self):
         token = self.take()
         if token.text == "-":
-            return Term("number", -int(self.number()), ())
+            return Term("number", -number_of(self.number()), ())
         if token.kind == "number":
-            return Term("number", int(token.text), ())
+            return Term("number", number_of(token.text), ())
         if token.kind == "letter":
             return Term("letter", token.text, ())
         if token.text in ("true", "false"):
@@ -57,7 +65,7 @@ class Reader:
         if token.kind == "upper":
             return Term("constructor", token.text, ())
         if token.kind == "lower" or token.text in ("_", "*", "_*"):
-            return Term({"*": "skip", "_*": "drain"}.get(token.text, "any"), "", ())
+            return Term({"*": "skip", "_*": "drain"}.get(token.text, "any"), token.text, ())
         if token.text == "<<":
             return Term("vector", "", self.list_until(">>"))
         if token.text != "(":

@@ -89,9 +89,11 @@ class Standstill:
         return [it for n, it in enumerate(groups) if it and it not in groups[:n]]
 
     def left(self, stream):
-        """How many values the input stream has yet to give."""
+        """How many values the input stream has yet to give, in words; nothing where there are none."""
+        values, may_go_on = self.run.inputs.get(stream.name, ([], False))
         wire = self.net.wires.index(self.out_of[stream.name])
-        return len(self.run.inputs.get(stream.name, [[]])[0]) - sum(it.put[wire] for it in self.run.steps)
+        left = len(values) - sum(it.put[wire] for it in self.run.steps)
+        return f"at least {left} more" if may_go_on else f"{left} more" if left else ""
 
     def lines(self):
         """The whole report."""
@@ -99,9 +101,9 @@ class Standstill:
         for box in self.net.boxes:
             yield "  " + self.waiting(box)
         for it in self.net.streams:
-            left = self.left(it) if it.incoming else 0
+            left = self.left(it) if it.incoming else ""
             if left:
-                yield f"  stream {it.name} has {left} more, and finds no room: {self.out_of[it.name].name} is full"
+                yield f"  stream {it.name} has {left}, and finds no room: {self.out_of[it.name].name} is full"
         for ring in self.rings():
             waits = "waits for itself" if len(ring) == 1 else "wait for each other"
             mend = "a greater depth (`@`)" if any(self.deeds[it].blocked for it in ring) else "a first value (`initial`)"

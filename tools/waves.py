@@ -6,11 +6,12 @@ the oldest value on the wire, and z where the wire is empty.
 import re
 import sys
 
-from program import Usage, read_bytes
+from program import Usage, call, is_number, read_source
 from source import read_net
-from tracing import read_trace, run_traced
+from tracing import lines_of, read_lines, run_traced
 
 NUMBER = re.compile(r"(?:int|nat) (\d+)$")
+NUMBER_TEXT = re.compile("-?[0-9]{1,20}")
 ESCAPED = re.compile(r"[^!-~]|\\")
 
 
@@ -29,6 +30,8 @@ class Signal:
         if self.width == 1:
             return f"{ {'true': '1', 'false': '0', '-1': '1', None: 'z'}.get(value, value) }{self.code}"
         if self.width:
+            if value is not None and not NUMBER_TEXT.fullmatch(value):
+                raise Usage("the trace is of another source: a wire of numbers has another value")
             bits = "z" if value is None else format(int(value) % (1 << self.width), f"0{self.width}b")
             return f"b{bits} {self.code}"
         text = "z" if value is None else ESCAPED.sub(lambda it: f"\\x{ord(it[0]):02x}", value)
@@ -63,7 +66,7 @@ def guessed_width(values):
     """The width of values whose type isn't known: of truth values 1, of numbers the least that holds all, of others 0."""
     if values and all(it in ("true", "false") for it in values):
         return 1
-    if not values or not all(re.fullmatch("-?[0-9]+", it) for it in values):
+    if not values or not all(NUMBER_TEXT.fullmatch(it) for it in values):
         return 0
     numbers = [int(it) for it in values]
     if min(numbers) < 0:
@@ -150,17 +153,34 @@ def waves_of_trace(trace, net):
     return Waves(trace.wires, widths, deep, []).lines(trace.numbers, trace.states, [None] * len(trace.states))
 
 
+def stored_trace(path):
+    if path == "-":
+        return read_lines(lines_of(sys.stdin.buffer))[0]
+    try:
+        with open(path, "rb") as file:
+            return read_lines(lines_of(file))[0]
+    except OSError as error:
+        raise Usage(f"{path}: {error.strerror}") from None
+
+
+def read_accepted(path):
+    """The net of a source, if the program accepts it."""
+    text = read_source(path)
+    if call(["check", path]).returncode:
+        raise Usage(f"{path}: it is no source that 'hume check' accepts")
+    return read_net(text)
+
+
 def main(word, words):
     if word == "waves":
         if not 1 <= len(words) <= 2:
             raise Usage("usage: hume waves TRACE [SOURCE]")
-        text = sys.stdin.buffer.read() if words[0] == "-" else read_bytes(words[0])
-        trace = read_trace(text.decode("latin-1"))
+        trace = stored_trace(words[0])
         if not trace.numbers:
             raise Usage(f"{words[0]} has no line 'step K': it is no trace")
-        lines, status = waves_of_trace(trace, read_net(read_bytes(words[1])) if len(words) == 2 else None), 0
+        lines, status = waves_of_trace(trace, read_accepted(words[1]) if len(words) == 2 else None), 0
     else:
-        if len(words) < 2 or not words[0].isdigit():
+        if len(words) < 2 or not is_number(words[0]):
             raise Usage("usage: hume vcd STEPS SOURCE PORT..")
         run, done = run_traced(words[0], words[1], words[2:], sys.stdin.buffer)
         if run is None:

@@ -81,6 +81,44 @@ class TextMate(unittest.TestCase):
                 json.load(file)
 
 
+# VS Code as far as the extension sees it: one document that opens, whose findings, bounds and declarations are printed.
+VSCODE_STUB = """
+const it = (name, ...parts) => class { constructor(...given) { parts.forEach((part, n) => (this[part] = given[n])); } };
+const document = { languageId: "hume", uri: { toString: () => "file:///a" }, getText: () => process.argv[3] };
+const place = { line: 0, character: 5 };
+const shown = { command: process.argv[2] };
+const done = () => "found" in shown && "hover" in shown && "at" in shown && (console.log(JSON.stringify(shown)), process.exit());
+const vscode = {
+  DiagnosticSeverity: { Error: "error", Warning: "warning" }, Uri: { parse: (text) => text }, MarkdownString: it("M", "text"),
+  Range: it("R", "line", "from", "last", "to"), Diagnostic: it("D", "range", "message", "severity"), Hover: it("H", "text", "range"),
+  Location: it("L", "uri", "range"), window: { showWarningMessage: console.error },
+  workspace: { textDocuments: [document], getConfiguration: () => ({ get: () => process.argv[2] }), onDidOpenTextDocument: () => 0,
+    onDidChangeTextDocument: () => 0, onDidCloseTextDocument: () => 0 },
+  languages: {
+    createDiagnosticCollection: () => ({ set: (uri, found) => { shown.found = found; done(); } }),
+    registerHoverProvider: (_, { provideHover }) => provideHover(document, place).then((found) => { shown.hover = found; done(); }),
+    registerDefinitionProvider: (_, { provideDefinition }) => provideDefinition(document, place).then((found) => { shown.at = found; done(); }),
+  },
+};
+const load = require("module")._load;
+require("module")._load = (name, ...more) => (name === "vscode" ? vscode : load(name, ...more));
+require(process.argv[4]).activate({ subscriptions: [] });
+"""
+UNUSED = "box b in (x :: bool) out (y :: bool) match (x) -> x ; wire b.y to b.x ; f :: bool -> bool ; f x = x ;"
+
+
+@unittest.skipUnless(shutil.which("node"), "node is missing (apt-get install nodejs)")
+class VSCode(InRoom):
+    def test_the_extension_shows_what_the_server_tells(self):
+        words = [self.put("stub.js", VSCODE_STUB), os.path.join(TOP, "hume"), UNUSED, os.path.join(TOP, "editors/vscode/extension.js")]
+        done = subprocess.run(["node", *words], stdin=subprocess.DEVNULL, capture_output=True, timeout=100)
+        self.assertEqual(done.stderr, b"")
+        shown = json.loads(done.stdout)
+        self.assertEqual({it["severity"] for it in shown["found"]}, {"warning"})
+        self.assertIn("box b heap 0 stack ", shown["hover"]["text"]["text"])
+        self.assertEqual(shown["at"], {"uri": "file:///a", "range": {"line": 0, "from": 4, "last": 0, "to": 5}})
+
+
 @unittest.skipUnless(shutil.which("vim"), "vim is missing (apt-get install vim)")
 class Vim(InRoom):
     def run_vim(self, script):
@@ -107,6 +145,13 @@ class Vim(InRoom):
                 self.assertIn(group, VIM_KEYWORDS, (text, path))
             else:
                 self.assertEqual(group, VIM[kind], (text, path))
+
+    def test_the_server_is_registered(self):
+        self.put("autoload/lsp.vim", f"function lsp#register_server(server)\n  call writefile([json_encode(a:server)], '{self.room}/server')\nendfunction\n")
+        os.symlink(os.path.join(TOP, "hume"), os.path.join(self.room, "hume"))
+        script = f"set runtimepath+={self.room}\nlet $PATH .= ':{self.room}'\nlet g:lsp_loaded = 1\nfiletype plugin on\nsetfiletype hume"
+        self.run_vim(script)
+        self.assertEqual(json.loads(self.read("server")), {"name": "hume", "cmd": ["hume", "server"], "allowlist": ["hume"]})
 
     def test_refusals_are_errors(self):
         self.put("told", "p.hume:4: refused 55: the port isn't handed in\nbox b heap 0 stack 3 work 3\nq.hume:2:7: refused 20: no program goes on so\n")

@@ -10,6 +10,7 @@ stream t to "o" ;
 wire s to b.x ;
 wire b.y to t ;
 """
+NOT_COUNTED = ["not counted: 1 example, no run, trace or record of an accepted source", "no rule is counted"]
 
 
 class Examples(InRoom):
@@ -60,6 +61,21 @@ class Examples(InRoom):
         self.assertEqual(self.read("new/expected/o"), "2\n3\n")
         self.assertEqual(self.read("new/expected/stdout"), "peak b heap 0 stack 4\n")
         self.assertEqual(self.call("test", "new")[:2], (0, "passed: new\n1 passed, 0 failed\n"))
+
+    def test_words_and_counts_that_are_none(self):
+        self.put("empty/words", "")
+        wanted = (1, "", "hume: empty/words has no line: it needs a line for each word of a call\n")
+        for options in ([], ["--cover"], ["--bless"]):
+            self.assertEqual(self.call("test", *options, "empty"), wanted)
+        self.example("taken", "2\n3\n")
+        for line in ("3 o\n", "x o 2\n"):
+            self.put("taken/expected/taken", line)
+            status, shown, told = self.call("test", "taken")
+            self.assertEqual((status, shown, told.count("\n")), (1, "", 1))
+        with open(self.put("bytes/words", ""), "wb") as file:
+            file.write(b"run\n4\n1\n\xff\n")
+        status, shown, told = self.call("test", "--cover", "bytes")
+        self.assertEqual((status, shown.splitlines()[1:], told), (1, ["0 passed, 1 failed", *NOT_COUNTED], ""))
 
     def test_words_of_no_form(self):
         self.assertEqual(self.call("test", "absent")[0], 1)

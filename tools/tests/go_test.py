@@ -56,6 +56,36 @@ class Go(InRoom):
         self.assertEqual(self.call("go", "in/add.hume")[0], 1)
         self.assertEqual(self.read("in/totals"), "5\n15\nand a note\n")
 
+    def test_a_file_that_a_failing_run_left_alone_is_no_file_of_its_own(self):
+        self.put("out/add.hume", ADD)
+        self.put("out/totals", "mine\n")
+        os.mkdir(os.path.join(self.room, "out/numbers"))
+        self.assertEqual(self.call("go", "out/add.hume", "--force")[0], 4)
+        self.assertEqual(self.read("out/totals"), "mine\n")
+        os.rmdir(os.path.join(self.room, "out/numbers"))
+        self.put("out/numbers", "5\n10\n")
+        self.assertEqual(self.call("go", "out/add.hume")[0], 1)
+        self.assertEqual(self.read("out/totals"), "mine\n")
+
+    def test_notes_and_ports_are_apart(self):
+        self.put("in/add.hume", ADD.replace('"totals"', '".hume-go"'))
+        for _ in range(2):
+            self.assertEqual(self.call("go", "in/add.hume")[0], 0)
+            self.assertEqual(self.read("in/.hume-go"), "5\n15\n")
+        for port in (".hume", ".hume/written", "./.hume/more"):
+            self.put("in/add.hume", ADD.replace('"totals"', f'"{port}"'))
+            status, _, told = self.call("go", "in/add.hume", "--force")
+            self.assertEqual((status, told), (1, f"hume: the stream totals has the port '{port}', and '.hume' is kept for the notes of 'hume go'\n"))
+
+    def test_notes_that_are_no_text_are_no_notes(self):
+        os.mkdir(os.path.join(self.room, "in/.hume"))
+        with open(os.path.join(self.room, "in/.hume/written"), "wb") as file:
+            file.write(bytes(range(256)))
+        self.put("in/totals", "mine\n")
+        self.assertEqual(self.call("go", "in/add.hume")[0], 1)
+        self.assertEqual(self.call("go", "in/add.hume", "--force")[0], 0)
+        self.assertEqual(self.call("go", "in/add.hume")[0], 0)
+
     def test_an_input_that_is_missing_and_a_refusal(self):
         self.put("out/add.hume", ADD)
         self.assertIn("'numbers', which isn't there", self.call("go", "out/add.hume")[2])

@@ -47,6 +47,11 @@ COMP_WORDS=("$@") COMP_CWORD=$(($# - 1)) && _hume && printf '%s\\n' "${{COMPREPL
         self.assertEqual(self.complete("hume", "w"), ["watch", "waves", "why"])
         self.assertLessEqual(set(WORDS), set(self.complete("hume", "")))
 
+    def test_options(self):
+        self.assertEqual(self.complete("hume", "watch", "4", "add.hume", "-"), ["--until", "--width", "-w"])
+        self.assertEqual(self.complete("hume", "test", "--"), ["--bless", "--cover"])
+        self.assertEqual(self.complete("hume", "net", "p", "-"), ["--svg"])
+
     def test_sources_folders_and_ports(self):
         self.put("add.hume", ADD)
         self.put("other.txt", "")
@@ -55,6 +60,10 @@ COMP_WORDS=("$@") COMP_CWORD=$(($# - 1)) && _hume && printf '%s\\n' "${{COMPREPL
         self.assertEqual(self.complete("hume", "run", "4", "1", ""), ["add.hume", "in"])
         self.assertEqual(self.complete("hume", "run", "4", "1", "add.hume", ""), ["numbers", "totals"])
         self.assertEqual(self.complete("hume", "watch", "4", "add.hume", "t"), ["totals"])
+        self.assertEqual(self.complete("hume", "cover", "4", "add.hume", "n"), ["numbers"])
+        self.assertEqual(self.complete("hume", "live", "a"), ["add.hume"])
+        self.assertEqual(self.complete("hume", "live", "add.hume", ""), ["numbers", "totals"])
+        self.assertEqual(self.complete("hume", "check", "add.hume", ""), [])
         self.assertEqual(self.complete("hume", "test", ""), ["in"])
         self.assertEqual(self.complete("hume", "waves", "o"), ["other.txt"])
 

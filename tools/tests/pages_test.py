@@ -1,4 +1,4 @@
-"""The pages show what the commands write: each block that begins with `$ ` is made again, in a copy of examples/."""
+"""The pages show what the commands write: each block that begins with `$ ` is made again, and only in out/, a copy of examples/."""
 import os
 import re
 import shutil
@@ -39,9 +39,14 @@ def steps_of(block):
 class Pages(InRoom):
     def setUp(self):
         super().setUp()
-        shutil.copytree(os.path.join(TOP, "examples"), os.path.join(self.room, "examples"))
+        for name in ("examples", "out"):
+            shutil.copytree(os.path.join(TOP, "examples"), os.path.join(self.room, name))
+        self.before = self.files_of_examples()
         path = self.put("hume", COMMAND % (" | ".join(WORDS), sys.executable, TOP, TOP))
         os.chmod(path, 0o755)
+
+    def files_of_examples(self):
+        return sorted(os.path.join(at, it) for at, _, names in os.walk(os.path.join(self.room, "examples")) for it in names)
 
     def try_block(self, block):
         """All commands of a block in one shell, with a line between what each writes."""
@@ -56,6 +61,7 @@ class Pages(InRoom):
         for block in blocks:
             with self.subTest(block.splitlines()[1]):
                 self.try_block(block)
+        self.assertEqual(self.files_of_examples(), self.before)
 
     def test_the_tutorial(self):
         self.try_page("docs/TUTORIAL.md", 15)
@@ -66,19 +72,13 @@ class Pages(InRoom):
     def test_the_console(self):
         self.try_page("docs/CONSOLE.md", 1)
 
+    def test_the_live_run(self):
+        self.try_page("docs/LIVE.md", 1)
+
     def test_each_word_has_a_section(self):
         sections = " ".join(re.findall(r"^## (.*)$", page("docs/COMMANDS.md"), re.MULTILINE))
         for word in WORDS:
             self.assertRegex(sections, rf"`{word}\b")
-
-    def test_what_examples_write_is_ignored(self):
-        written = []
-        for folder, _, names in os.walk(os.path.join(TOP, "examples")):
-            if os.path.basename(folder) == "expected":
-                outputs = [it for it in names if it not in ("status", "table", "stdout", "taken")]
-                written += [os.path.join(os.path.dirname(folder), it) for it in outputs]
-        done = subprocess.run(["git", "check-ignore", "--no-index", *written], cwd=TOP, stdout=subprocess.PIPE)
-        self.assertEqual(sorted(done.stdout.decode().split()), sorted(written))
 
     def test_the_idioms_show_the_programs(self):
         shown = page("docs/IDIOMS.md")

@@ -6,12 +6,22 @@ import unittest
 
 from setting import TOP, InRoom, sources
 
+from coverage import covered
 from page import page_of
+from page_data import data_of
 from tracing import run_traced
 from watch import rows, table
 from waves import waves_of_run
 
 MOST = 80
+
+
+def flags_of(turns):
+    return [bool(n % 2) for n, count in enumerate(turns) for _ in range(count)]
+
+
+def texts_of(values, table):
+    return [table[it[0]] if isinstance(it, list) else str(it) for it in values]
 
 
 class Sweep(InRoom):
@@ -45,7 +55,28 @@ class Sweep(InRoom):
         self.assertGreaterEqual(len(list(table(rows(run, range(len(run.net.wires)))))), 3)
         times = [it for it in waves_of_run(run) if it.startswith("#")]
         self.assertEqual(len(times), len(run.states) + 1)
-        self.assertIn("</html>", page_of(run, "p"))
+        coverage, steps = covered(run)
+        self.assertEqual(coverage.steps, len(run.steps))
+        self.compare_deeds(run.steps, steps)
+        self.assertIn("</html>", page_of(run, coverage, "p"))
+        self.compare_wires(run, data_of(run, coverage, "p"))
+
+    def compare_deeds(self, seen, worked_out):
+        """What is worked out from the rules is what the wires show, as far as they show it."""
+        for step, exact in zip(seen, worked_out):
+            self.assertEqual((step.taken, step.put), (exact.taken, exact.put))
+            for deed, other in zip(step.deeds, exact.deeds):
+                self.assertTrue(deed.unsure or deed == other)
+
+    def compare_wires(self, run, data):
+        """What a page has of each wire gives its values back."""
+        for n, wire in enumerate(data["wires"]):
+            taken, put = flags_of(wire["taken"]), flags_of(wire["put"])
+            state, values = texts_of(wire["first"], data["texts"]), iter(texts_of(wire["values"], data["texts"]))
+            for k, (is_taken, is_put) in enumerate(zip(taken, put)):
+                self.assertEqual(state, run.states[k][n])
+                state = state[is_taken:] + [next(values) for _ in range(is_put)]
+            self.assertEqual((state, len(taken)), (run.states[-1][n], data["steps"]))
 
     def compare_with_outputs(self, run):
         """What output streams have taken by these steps is what the program wrote."""

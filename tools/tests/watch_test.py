@@ -79,6 +79,44 @@ standstill: from superstep 5 on nothing changes, and nothing can come any more
         self.assertEqual(shown, wanted)
         self.assertEqual(self.call("watch", "3", "add.hume", "numbers", "totals", "-w", "absent")[0], 1)
 
+    def test_until(self):
+        self.put("add.hume", ADD)
+        self.put("numbers", "".join(f"{n}\n" for n in range(1, 30)))
+        call = ("watch", "40", "add.hume", "numbers", "totals", "-w", "add.total")
+        wanted = ["step  add.total", "      totals", "5     10", *(f"{n + 1:<6}{n * (n + 1) // 2}" for n in range(5, 15))]
+        status, shown, told = self.call(*call, "--until", "totals  105 ")
+        self.assertEqual((status, shown.splitlines(), told), (0, [*wanted, "until: add.total to totals has 105 after superstep 15"], ""))
+        shown = self.call(*call, "--until", "add.sum 0")[1]
+        self.assertEqual(shown, "step  add.total\n      totals\n0     .\nuntil: add.next to add.sum has 0 after superstep 0\n")
+        lines = self.call(*call, "--until", "totals 2")[1].splitlines()
+        self.assertEqual([it.split()[0] for it in lines[2:5]], ["30", "31", "40"])
+        self.assertEqual(lines[-1], "until: add.total to totals never has 2 in 40 supersteps")
+
+    def test_until_of_no_value_and_of_no_wire(self):
+        self.put("add.hume", ADD)
+        self.put("numbers", "1\n")
+        for until, told in (
+            ("totals", "--until needs a wire and a value, as in --until 'b.y 7', and not 'totals'"),
+            ("totals 1 2", "--until needs a wire and a value, as in --until 'b.y 7', and not 'totals 1 2'"),
+            ("totals true", "--until can't come true: add.total to totals has the type int 32, and true is no value of that"),
+            ("totals 2147483648", "--until can't come true: add.total to totals has the type int 32, and 2147483648 is no value of that"),
+            ("add 1", "--until needs one wire, and 'add' has 3: name it by an end, of numbers, add.next, add.total"),
+            ("add.y 1", "no wire begins or ends at 'add.y'; the wires are numbers to add.x, add.next to add.sum, add.total to totals"),
+        ):
+            self.assertEqual(self.call("watch", "4", "add.hume", "numbers", "totals", "--until", until), (1, "", f"hume: {told}\n"))
+        self.assertFalse(os.path.exists(os.path.join(self.room, "totals")))
+
+    def test_the_width_of_cells_and_the_length_of_a_queue(self):
+        self.put("add.hume", ADD.replace("add.total to totals", "add.total to totals @ 2").replace("numbers to add.x", "numbers to add.x @ 3"))
+        self.put("numbers", "1000000\n20000\n3\n4\n5\n")
+        wanted = "step  numbers   add.next  add.total\n      add.x     add.sum   totals\n0     .         0         .\n1     1: 100..\n"
+        shown = self.call("watch", "1", "add.hume", "numbers", "totals", "--width", "8")[1]
+        self.assertTrue(shown.startswith(wanted), shown)
+        for width in ("3", "x", "100001"):
+            told = f"hume: --width is 4 to 100000, not '{width}'\n"
+            self.assertEqual(self.call("watch", "1", "add.hume", "numbers", "totals", "--width", width), (1, "", told))
+        self.assertEqual(self.call("watch", "1", "add.hume", "numbers", "totals", "--until")[0], 1)
+
     def test_a_bad_value_and_a_refusal(self):
         self.put("add.hume", ADD)
         self.put("numbers", "5\nx\n")
