@@ -18,13 +18,14 @@ from failing_world import FAILED, OLD, Call, World  # noqa: E402
 PIECES = 1, 4096
 
 
-def reached(acts, calls):
+def reached(case, calls):
     """How many acts were made before the last of the calls, or none where the calls are not those of the acts. An input is opened and
-    read by wants. A line for the standard output is one write or several. Lines for a file wait until the finish, or for room."""
-    at, part = 0, 0
+    read by wants, the next one once the bytes of a want were read. A line for the standard output is one write or several. Lines for a
+    file wait until the finish, or for room, unless they are direct."""
+    acts, at, part, read = case.acts, 0, 0, 0
     for call in calls:
-        if call.port == "std_out":
-            at = at if part else after(acts, at, "writes", "std_out")
+        if call.port == "std_out" or case.is_direct and call.kind == "write":
+            at = at if part else after(acts, at, "writes", call.port)
             if at is None:
                 return None
             part += max(call.count, 0)
@@ -33,10 +34,12 @@ def reached(acts, calls):
         elif part:
             return None
         else:
-            there = after(acts, at, "wants", call.port)
-            at = there if there is not None else output_at(acts, at, call)
+            is_read = 0 < len(acts[at].text) <= read
+            there = after(acts, at + is_read, "wants", call.port)
+            before, at = at, there if there is not None else output_at(acts, at, call)
             if at is None:
                 return None
+            read = (read if at == before else 0) + (max(call.count, 0) if call.kind == "read" else 0)
     return at
 
 
@@ -80,7 +83,7 @@ def front_of(case, outcome, whole, at_most, persistent):
     opened = {it.port for it in calls[:at_most] if it.kind == "open"}
     if any(it.kind != "write" or it.port not in opened for it in calls[at_most:]):
         return "a call follows on the one that failed"
-    made = reached(case.acts, [*calls[:at_most - 1], Call(failed.kind, failed.port, 0)])
+    made = reached(case, [*calls[:at_most - 1], Call(failed.kind, failed.port, 0)])
     if made is None:
         return "the calls are not those that are owed"
     for port in (*case.outputs, "std_out"):
@@ -113,7 +116,7 @@ def try_calls(world, piece, is_once):
     """Each call fails in turn. What was tried, and the findings."""
     case = world.case
     whole = world.run(PIECE=piece)
-    why = owed_wholly(case, whole) or ("" if reached(case.acts, whole.calls) is not None else "the calls are not those that are owed")
+    why = owed_wholly(case, whole) or ("" if reached(case, whole.calls) is not None else "the calls are not those that are owed")
     if why:
         return 1, [f"unharmed: {why}"]
     findings = []
@@ -130,6 +133,13 @@ def interrupted(world):
     return [f"interrupted at each second call: {why}"] if why else []
 
 
+def stuck(world):
+    """Reads bring nothing, so that each source is empty, and no write takes anything."""
+    outcome = world.run(PIECE=0)
+    is_fault = outcome.status == FAULT and not outcome.given["std_out"]
+    return [] if is_fault else ["writes that take nothing: no fault"]
+
+
 def all_calls(library, program, calls, whole):
     """How many calls failed in turn, and the findings."""
     tried, findings = 0, []
@@ -138,7 +148,7 @@ def all_calls(library, program, calls, whole):
             if piece == 1 and len(case.acts) > 50 and not whole:
                 continue
             with World(library, program, case) as world:
-                found = interrupted(world)
+                found = interrupted(world) + stuck(world)
                 for is_once in (True, False):
                     count, more = try_calls(world, piece, is_once)
                     tried += count

@@ -16,7 +16,7 @@ DONE, REFUSED, BAD_VALUE, FAULT, NO_MEMORY, LOG_FAILS = 0, 2, 3, 4, 5, 6
 
 @dataclass(frozen=True)
 class Act:
-    """A want reads the port, a write gives it the text by one call, a finish ends it."""
+    """A want reads the port, of which it gets the text if one is given; a write gives the text to it by one call, a finish ends it."""
     kind: str
     port: str
     text: bytes = b""
@@ -31,6 +31,8 @@ class Case:
     status: int
     outputs: list = field(default_factory=list)
     standard_input: bytes = b""
+    # whether each line for a file is a write of the system, as those for the standard output are
+    is_direct: bool = False
 
     def ports(self):
         """The names of the ports that the words name, and the standard output."""
@@ -41,8 +43,8 @@ class Case:
         return b"".join(it.text for it in acts if it.kind == "writes" and it.port == port)
 
 
-def wants(port):
-    return Act("wants", port)
+def wants(port, text=b""):
+    return Act("wants", port, text)
 
 
 def writes(port, *lines):
@@ -178,7 +180,7 @@ def log_of(blocks):
 
 def recorded():
     start, first, second, third, last = (writes("l", *block) for block in LOG)
-    acts = [wants("p"), *start, wants("i"), *first, *second, wants("i"), *third, *last, *finishes("l", "std_out")]
+    acts = [wants("p"), *start, wants("i", b"1\n"), *first, *second, wants("i", b"2\n"), *third, *last, *finishes("l", "std_out")]
     return Case("a run that is recorded", "record 2 p l i o", {"p": ADD_ONE, "i": b"1\n2\n"}, acts, DONE, ["l", "o"])
 
 
@@ -209,7 +211,7 @@ def session(name, commands, acts, status, workers, **files):
     """A session of ADD_ONE, whose ports are the inputs `i` and `j` and the outputs `o` and `q`."""
     files = {"p": ADD_ONE, "i": b"1\n2\n", "j": b"7\n", **files}
     text = "".join(f"{line}\n" for line in commands).encode()
-    return Case(name, f"{workers} p i j o q", files, [wants("p"), *TABLE, *acts], status, ["o", "q"], text)
+    return Case(name, f"{workers} p i j o q", files, [wants("p"), *TABLE, *acts], status, ["o", "q"], text, True)
 
 
 def exchanged(workers):

@@ -1,10 +1,10 @@
 #!/usr/bin/env python3
-"""Tries calls of the tool over ports in memory, of which each read, write and finish fails in turn, and compares the calls that were made, the
-status and what each port was given with what the call owed until then.
+"""Tries calls of the tool over ports in memory, of which each read, write and finish fails in turn, and over ports with room for fewer bytes
+than they are owed. It compares the calls that were made, the status and what each port was given with what the call owed until then.
 
 usage: failing_ports.py PROGRAM [whole]
 
-PROGRAM is `port_trials`, whose ports tell each call. With `whole` the longest call is made by pieces of one byte too. A line tells each finding,
+PROGRAM is `trials`, whose ports tell each call. With `whole` the longest call is made by pieces of one byte too. A line tells each finding,
 and the last one has the counts. Status 1 says that there are findings."""
 import os
 import re
@@ -19,6 +19,8 @@ from failing_cases import ADD_ONE, FAULT, WORKERS, add_one, cases  # noqa: E402
 NO_PORT = "-"
 WHOLE = 1_000_000
 MOST_OF_SOURCE = 262_144
+# more than any call writes to a port
+ROOM = 1_000_000
 # acts of a call that takes long by single bytes
 MANY = 50
 TWO_LINES = b"box b heap 0 stack 4 work 5\ntotal heap 0 stack 4\n"
@@ -46,11 +48,11 @@ class Trials:
             with open(os.path.join(self.folder.name, name), "wb") as file:
                 file.write(text)
 
-    def run(self, piece, port=NO_PORT, call=1, taken=0):
+    def run(self, piece, port=NO_PORT, call=1, taken=0, room=ROOM):
         """The calls that were made, the status, and what each port was given."""
         self.tried += 1
-        words = [str(piece), port, str(call), str(taken), *self.case.ports(), "--", *self.case.words.split()]
-        out = subprocess.run([self.program, *words], cwd=self.folder.name, capture_output=True, check=False).stdout
+        words = [str(piece), str(room), port, str(call), str(taken), *self.case.ports(), "--", *self.case.words.split()]
+        out = subprocess.run([self.program, "call", *words], cwd=self.folder.name, capture_output=True, check=False).stdout
         told, _, rest = out.partition(b"status ")
         calls = [tuple(line.split(" ")) for line in told.decode().splitlines()]
         status, _, rest = rest.partition(b"\n")
@@ -108,6 +110,32 @@ def one_case(trials, piece):
     return findings
 
 
+def first_short(whole, room):
+    """The place of the first write that a port with that room doesn't take wholly, and how many bytes it takes, if there is one."""
+    given = {}
+    for place, (port, kind, *count) in enumerate(whole):
+        if kind == "write":
+            before, size = given.get(port, 0), int(count[0])
+            if before + size > room:
+                return place, room - before
+            given[port] = before + size
+    return None
+
+
+def short_ports(program):
+    """Ports with each room from none up to what the longest port is given. A write that doesn't fit takes what does, and is the last call."""
+    tried, findings = 0, []
+    for workers in WORKERS:
+        trials = Trials(program, add_one(workers))
+        whole = trials.run(4096)
+        for room in range(max(len(it) for it in whole[2].values()) + 1):
+            run, short = trials.run(4096, room=room), first_short(whole[0], room)
+            if not (is_front(trials.case, whole[0], short[0], run, short[1]) if short else is_whole(trials.case, run)):
+                findings.append(f"ports with room for {room} bytes, {workers} workers")
+        tried += trials.tried
+    return tried, findings
+
+
 def by_hand(program):
     """The rows of the table, with pieces of 1 and 4,096 bytes."""
     tried, findings = 0, []
@@ -133,7 +161,8 @@ def long_source(program):
 
 def main(program, whole):
     tried, findings = by_hand(program)
-    findings += long_source(program)
+    more_tried, more = short_ports(program)
+    tried, findings = tried + more_tried, findings + more + long_source(program)
     for piece in (1, 4096):
         for case in cases(2 if piece == 1 else 100):
             if whole or piece > 1 or len(case.acts) < MANY:

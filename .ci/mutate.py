@@ -23,7 +23,7 @@ MOST_BYTES = 20_000
 PIECE = re.compile(r"--[^\n]*|\"[^\"\n]*\"|'(?:\\.|[^\\])'|[A-Za-z][A-Za-z0-9_]*|[0-9]+|[<>=/]=|<<|>>|->|::|_\*|\s+|.", re.S)
 NUMBERS = ("0", "1", "2", "7", "16", "17", "64", "65", "128", "255", "256", "1024", "1025", "65536", "2147483648", "18446744073709551616")
 NAMES = ("x", "y", "other", "Other", "Range", "NoCase", "bool", "a" * 33)
-TOLD = re.compile(r"^.*:(\d+):\d+: refused (\d+): ")
+TOLD = re.compile(r"^.*:(\d+):\d+: refused (\d+): .*?(?:, in the declaration of line (\d+))?$")
 
 
 def sources():
@@ -120,7 +120,7 @@ def told_by_why(path):
     status, lines = answer(LOOK, "why", path)
     told = TOLD.match(lines[0])
     if told:
-        return status, int(told[2]), int(told[1])
+        return status, int(told[2]), int(told[3] or told[1])
     return (status,) if lines[0] == f"{path}: accepted" else (status, lines[0])
 
 

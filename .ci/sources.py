@@ -109,7 +109,7 @@ class Function:
 
     def __init__(self, crate, path, name, owner, says, clauses, imports):
         self.crate, self.path, self.name, self.owner = crate, path, name, owner
-        self.says, self.clauses, self.imports = says, clauses, imports
+        self.says, self.clauses, self.imports, self.public = says, clauses, imports, True
         self.words = set(re.findall(NAME, clauses))
 
     def named_clauses(self):
@@ -199,13 +199,14 @@ def functions(only_public=True):
                     head = head_of(lines, at)
                     public = is_public(line, m.group(1), path, exporting, head)
                     it = Function(crate, path, m.group(1), owner_of(head), comment_before(lines, at), clauses_from(lines, at), imports)
-                    found.append((public, it))
+                    it.public = public
+                    found.append(it)
             # what a type or a trait means stands in its ghost members
             for m in re.finditer(r"ghost \w+\s*[:=] \{(.*?)\};", text, re.S):
-                found.append((True, Function(crate, path, "(member)", "", "", m.group(1), imports)))
+                found.append(Function(crate, path, "(member)", "", "", m.group(1), imports))
             for m in re.finditer(r"ghost (\w+): \{(.*?)\},?\n", text, re.S):
-                found.append((True, Function(crate, path, "(member)", "", "", m.group(2), imports)))
-    return [it for public, it in found if public or not only_public]
+                found.append(Function(crate, path, "(member)", "", "", m.group(2), imports))
+    return [it for it in found if it.public or not only_public]
 
 
 def clauses_from(lines, at):

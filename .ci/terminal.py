@@ -44,7 +44,7 @@ def differences(folder):
     why = plain(["why", "p"], folder)[1].decode().split("\n")[0]
     wanted = [(words, [SENTENCE], [SENTENCE, why]) for words in CHECKS]
     wanted += [(words, [], [why]) for words in LOOKS] + [(["why", "p"], [], [])]
-    if not why.startswith("p:1:1: refused 31: "):
+    if not why.startswith("p:2:11: refused 31: ") or not why.endswith(", in the declaration of line 1"):
         yield f"why tells {why!r}"
     for words, by_itself, there in wanted:
         status, out, told = plain(words, folder)

@@ -1,6 +1,5 @@
 #!/usr/bin/env bash
-# Times a call: the command `./hume check` over a small source, with the sum of the sources that an earlier call kept and with one made anew;
-# and the program of dist/ alone. `bench/call.sh [CALLS]`, 100 if it isn't said: the least and the middle time of that many.
+# Times a call: the command `./hume check` over a small source, one with two thousand ports, and the program of dist/ alone. `bench/call.sh [CALLS]`, 100 if it isn't said: the least and the middle time of that many.
 set -euo pipefail
 export LC_ALL=C
 
@@ -13,7 +12,6 @@ row() {
     local what=$1 count=$2 start took
     shift 2
     for ((; count > 0; count--)); do
-        [ -z "${anew-}" ] || rm -f -- "$top/out/seen"
         start=$EPOCHREALTIME
         "$@" >/dev/null
         took=$((${EPOCHREALTIME/./} - ${start/./}))
@@ -21,10 +19,12 @@ row() {
     done | sort -n | awk -v what="$what" '{ all[NR] = $1 } END { printf "| %s | %.1f | %.1f |\n", what, all[1] / 1000, all[int((NR + 1) / 2)] / 1000 }'
 }
 
-"$top/hume" check "$source" >/dev/null
-[ -f "$top/out/seen" ] || { echo 'no sum was kept: were the sources changed within two seconds?' >&2 && exit 1; }
 printf '| call | ms, least | ms, middle |\n|---|---|---|\n'
 row './hume' "$calls" "$top/hume" check "$source"
-anew=yes row './hume, all sources read' $(((calls + 9) / 10)) "$top/hume" check "$source"
+folder=$(mktemp -d)
+trap 'rm -rf -- "$folder"' EXIT
+cd -- "$folder"
+cp -- "$source" "${source%/*}/i" .
+row './hume, 2,000 ports' $(((calls + 9) / 10)) "$top/hume" run 4 1 add_one.hume i o port.{1..2000}
 row 'the program' "$calls" "$top/dist/hume-x86_64-linux" check "$source"
 row '`/bin/bash -c :`' "$calls" /bin/bash -c :

@@ -2,7 +2,7 @@
 # Times a superstep of nets of 200 boxes of one kind, in ten chains: boxes that add, that call, that take data types apart, that change
 # vectors; boxes to which nothing comes, and boxes that are blocked. Beside them one box of some 20,000 instructions a step, and one
 # that filters a window of 64 numbers. `bench/kinds.sh [TOOL [TRIALS]]`, where TOOL is the program to call, and TRIALS the built program
-# `box_trials`, which makes the same supersteps by the plain net; `bench/kinds.sh --check [TOOL]` only checks the sources and what short
+# `trials`, which makes the same supersteps by the plain net; `bench/kinds.sh --check [TOOL]` only checks the sources and what short
 # runs write. Where the machine has perf, it also says what of the time is the machine's that runs code.
 set -euo pipefail
 export LC_ALL=C

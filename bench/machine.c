@@ -2,9 +2,9 @@
  * The machine of docs/CODE.md as a C programmer would write it for speed: a switch in a loop, registers in locals, and no check of any
  * kind. What the meaning asks for is there: wrapping, exceptions, places of vectors.
  *
- * `machine CODEFILE COUNT` reads what `box_trials code` printed and runs rule 0 so many times, each time with the inputs' words on the
- * stack and an empty heap. It prints the instructions of all runs together, the most words that were on the stack, and the outputs of the
- * last run, each of which has to be one scalar word: objects aren't made flat here.
+ * `machine CODEFILE COUNT WORD..` reads what `trials code` printed and runs rule 0 so many times, each time with the words of the inputs
+ * on the stack and an empty heap. It prints the instructions of all runs together, the most words that were on the stack, and the outputs
+ * of the last run, each of which has to be one scalar word: objects aren't made flat here.
  *
  * The most words on the stack are an answer of the machine, so the loop keeps them. With -DWITHOUT_PEAK it doesn't, and prints none.
  */
@@ -252,13 +252,19 @@ static void read_code(const char *name) {
     if (number(file, "heap") > MOST_HEAP) leave("heap");
     if (number(file, "stack") > MOST_STACK) leave("stack");
     number(file, "outputs");
-    input_count = words(file, "inputs", inputs, MOST_INPUTS);
     fclose(file);
 }
 
+/* Words that may be written as numbers below 0. */
+static void read_inputs(int count, char **texts) {
+    if (count > MOST_INPUTS) leave("too many inputs");
+    for (input_count = 0; input_count < (uint64_t)count; input_count++) inputs[input_count] = strtoull(texts[input_count], NULL, 10);
+}
+
 int main(int count, char **names) {
-    if (count != 3) leave("wants CODEFILE and COUNT");
+    if (count < 3) leave("wants CODEFILE, COUNT and the words of the inputs");
     read_code(names[1]);
+    read_inputs(count - 3, names + 3);
     const uint64_t *outputs = stack;
     for (uint64_t left = strtoul(names[2], NULL, 10); left; left--) {
         memcpy(stack + 1, inputs, input_count * sizeof *inputs);

@@ -1,6 +1,6 @@
 #!/usr/bin/env bash
 # net.sh [TOOL [TRIALS]]: times a superstep of a generated net of 200 boxes, 10 streams and 400 wires by `TOOL run` (by default the
-# program of dist/) beside the same net in C (net.c, gcc -O2) and, if the built program `box_trials` is given, beside the plain net,
+# program of dist/) beside the same net in C (net.c, gcc -O2) and, if the built program `trials` is given, beside the plain net,
 # which the meaning of programs is compared with. All are timed in turn, least of five runs, and the time of few supersteps is taken
 # off. What the streams bring out has to be what the C program says.
 set -eu
