@@ -1,5 +1,0 @@
-set -e
-/opt/rattle/toolchain/bin/clang -S -emit-llvm -x ir module.bc -O0 -Xclang -disable-llvm-passes -o module.ll
-python3 strip.py /tmp/m/trials module.ll module2.ll
-/opt/rattle/toolchain/bin/clang --target=x86_64-unknown-linux-gnu --sysroot=/opt/rattle/toolchain -march=x86-64 -mllvm -no-trap-after-noreturn -ffunction-sections -fdata-sections -mllvm -trap-unreachable -mllvm -no-x86-call-frame-opt -mllvm -disable-machine-licm -mllvm -disable-postra-machine-licm -mllvm -sink-common-insts=false --no-default-config -no-canonical-prefixes -fintegrated-cc1 -fno-crash-diagnostics -c -x ir module2.ll -o module2.o -fPIE -O3 -Xclang -fmerge-functions -mllvm -mergefunc-use-aliases
-/opt/rattle/bin/rattle-link --target x86_64-unknown-linux-gnu --toolchain /opt/rattle/toolchain -o trial_free module2.o /opt/rattle/c/libos_c.a /opt/rattle/c/liblibc_c.a

@@ -1,1 +1,0 @@
-date +%H:%M:%S; grep -E "rt: .* (proved|not)" /work/c/gate.log | awk '{print $2}' | tail -n +${1:-1} | tr '\n' ' '; echo; for p in $(pgrep -x rattle); do tr '\0' ' ' < /proc/$p/cmdline 2>/dev/null | sed 's/.*rattle \([a-z]*\) .*--crate-name \([a-z_]*\).*/\1 \2/' ; done | sort | uniq -c | tr '\n' ';'; uptime | sed 's/.*load/load/'; free -g | awk 'NR==2{print "free", $7}'
