@@ -29,6 +29,11 @@ def line_of(file):
     return text.decode().replace("\r\n", "\n")
 
 
+def hear_interrupts():
+    """Lets the process hear Ctrl-C where the tests ignore it, as all does that a shell runs in the background."""
+    signal.signal(signal.SIGINT, signal.SIG_DFL)
+
+
 class Live(InRoom):
     def setUp(self):
         super().setUp()
@@ -42,7 +47,7 @@ class Live(InRoom):
     def started(self, *words, **how):
         """The word as a process, which is ended with the test."""
         streams = {"stdin": subprocess.DEVNULL, "stdout": subprocess.PIPE, "stderr": subprocess.PIPE, **how}
-        process = subprocess.Popen([sys.executable, MAIN, "live", *words], cwd=self.room, **streams)
+        process = subprocess.Popen([sys.executable, MAIN, "live", *words], cwd=self.room, preexec_fn=hear_interrupts, **streams)
         self.addCleanup(self.stop, process)
         return process
 
