@@ -1,6 +1,5 @@
 use Rattle.std.proofs.Common.{◌∙◌, ap, refl, Err}
 use Rattle.hume_calls.proofs.Answering.{out_of_memory}
-use Rattle.hume_calls.proofs.RunOpened.{apart_in, places_in}
 use Rattle.hume_run.proofs.LogTexts.{apart_ports, log_answers, refused_log, unfit_log}
 use Rattle.hume_run.proofs.log.log_text.Goals as goal
 
@@ -30,15 +29,3 @@ log_ready-requires-clause-log g c = (
   c.requires.log.place,
   apart_ports _ _ _ c.in-Ok.accepted.core c.made_ready.result.core c.made_ready.ensures.core c.requires.log.only c.in-Ok-find_places.ensures.fit,
 )
-
-pub log_ready-requires-clause-ready : goal.log_ready-requires-clause-ready
-log_ready-requires-clause-ready g c = c.made_ready.ensures.ready
-
-pub log_ready-requires-clause-places : goal.log_ready-requires-clause-places
-log_ready-requires-clause-places g c = places_in _ _ _ _ c.made_ready.ensures.core c.in-Ok-find_places.ensures.places
-
-pub log_ready-requires-clause-apart : goal.log_ready-requires-clause-apart
-log_ready-requires-clause-apart g c = apart_in _ _ c.made_ready.ensures.core c.in-Ok-find_places.ensures.apart
-
-pub log_ready-requires-clause-out : goal.log_ready-requires-clause-out
-log_ready-requires-clause-out g c = c.requires.out
