@@ -1,4 +1,4 @@
-// threads BOXES ROUNDS SUPERSTEPS WORKERS: the net of threads.sh as one would write it by hand. Each box takes the value on its wire, makes
+// threads BOXES ROUNDS SUPERSTEPS WORKERS: the net of threads.py as one would write it by hand. Each box takes the value on its wire, makes
 // ROUNDS steps of arithmetic with it, and gives it to the next box of its ring. Each superstep has two halves with a barrier behind each:
 // all boxes take and compute, then all put out. Prints the seconds that the supersteps took, and the sum of the values on the wires.
 #define _GNU_SOURCE

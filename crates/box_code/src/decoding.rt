@@ -46,66 +46,26 @@ fn decode_kind(words: &[u64], at: usize, kind: u64, head: u64) -> (Instr, usize)
             },
             at + 2,
         ),
-        1 => (
-            Instr::Load {
-                depth: high_of(head),
-            },
-            at + 1,
-        ),
+        1 => (Instr::Load { depth: high(head) }, at + 1),
         2 => (
             Instr::Make {
-                tag: high_of(head),
-                count: low_of(head),
+                tag: high(head),
+                count: low(head),
             },
             at + 1,
         ),
-        3 => (
-            Instr::Add {
-                ty: scalar(low_of(head), high_of(head)),
-            },
-            at + 1,
-        ),
-        4 => (
-            Instr::Sub {
-                ty: scalar(low_of(head), high_of(head)),
-            },
-            at + 1,
-        ),
-        5 => (
-            Instr::Mul {
-                ty: scalar(low_of(head), high_of(head)),
-            },
-            at + 1,
-        ),
-        6 => (
-            Instr::Div {
-                ty: scalar(low_of(head), high_of(head)),
-            },
-            at + 1,
-        ),
-        7 => (
-            Instr::Mod {
-                ty: scalar(low_of(head), high_of(head)),
-            },
-            at + 1,
-        ),
-        8 => (
-            Instr::Neg {
-                ty: scalar(low_of(head), high_of(head)),
-            },
-            at + 1,
-        ),
+        3 => (Instr::Add { ty: ty_of(head) }, at + 1),
+        4 => (Instr::Sub { ty: ty_of(head) }, at + 1),
+        5 => (Instr::Mul { ty: ty_of(head) }, at + 1),
+        6 => (Instr::Div { ty: ty_of(head) }, at + 1),
+        7 => (Instr::Mod { ty: ty_of(head) }, at + 1),
+        8 => (Instr::Neg { ty: ty_of(head) }, at + 1),
         9 => (Instr::Not, at + 1),
-        10 => (
-            Instr::Convert {
-                ty: scalar(low_of(head), high_of(head)),
-            },
-            at + 1,
-        ),
+        10 => (Instr::Convert { ty: ty_of(head) }, at + 1),
         11 => (
             Instr::Compare {
-                comparison: comparison(low_of(head) / 4),
-                ty: scalar(low_of(head) % 4, high_of(head)),
+                comparison: comparison(low(head) / 4),
+                ty: scalar(low(head) % 4, high(head)),
             },
             at + 1,
         ),
@@ -124,56 +84,41 @@ fn decode_other(words: &[u64], at: usize, kind: u64, head: u64) -> (Instr, usize
         ≡ Some (result.0, result.1) }
 {
     match kind {
-        12 => (
-            Instr::Index {
-                count: high_of(head),
-            },
-            at + 1,
-        ),
-        13 => (
-            Instr::Update {
-                count: high_of(head),
-            },
-            at + 1,
-        ),
-        14 => (Instr::Jump { to: high_of(head) }, at + 1),
-        15 => (Instr::JumpFalse { to: high_of(head) }, at + 1),
-        16 => match_word(words, at, low_of(head), high_of(head)),
-        17 => match_tag(words, at, low_of(head), high_of(head)),
+        12 => (Instr::Index { count: high(head) }, at + 1),
+        13 => (Instr::Update { count: high(head) }, at + 1),
+        14 => (Instr::Jump { to: high(head) }, at + 1),
+        15 => (Instr::JumpFalse { to: high(head) }, at + 1),
+        16 => match_word(words, at, low(head), high(head)),
+        17 => match_tag(words, at, low(head), high(head)),
         18 => (
             Instr::Field {
-                depth: low_of(head),
+                depth: low(head),
                 path: Path {
                     at: (at + 1) as u32,
-                    length: high_of(head),
+                    length: high(head),
                 },
             },
-            at + 1 + high_of(head) as usize,
+            at + 1 + high(head) as usize,
         ),
-        19 => (
-            Instr::Slide {
-                count: high_of(head),
-            },
-            at + 1,
-        ),
+        19 => (Instr::Slide { count: high(head) }, at + 1),
         20 => (
             Instr::Call {
-                to: high_of(head),
-                count: low_of(head),
+                to: high(head),
+                count: low(head),
             },
             at + 1,
         ),
         21 => (
             Instr::Return {
-                count: low_of(head),
-                variables: high_of(head),
+                count: low(head),
+                variables: high(head),
             },
             at + 1,
         ),
         22 => (
             Instr::Raise {
-                exn: high_of(head),
-                carried: low_of(head) == 1,
+                exn: high(head),
+                carried: low(head) == 1,
             },
             at + 1,
         ),
@@ -193,17 +138,25 @@ fn decode_other(words: &[u64], at: usize, kind: u64, head: u64) -> (Instr, usize
 
 // The operands of an instruction's first word. Each is cut out where it is used alone.
 #[inline(always)]
-fn low_of(head: u64) -> u32
+fn low(head: u64) -> u32
     ensures { result ≡ low_operand head }
 {
     (head / 0x100 % 0x100_0000) as u32
 }
 
 #[inline(always)]
-fn high_of(head: u64) -> u32
+fn high(head: u64) -> u32
     ensures { result ≡ high_operand head }
 {
     (head / 0x1_0000_0000) as u32
+}
+
+// The type of words that both operands stand for.
+#[inline(always)]
+fn ty_of(head: u64) -> Scalar
+    ensures { result ≡ scalar_of (low_operand head) (high_operand head) }
+{
+    scalar(low(head), high(head))
 }
 
 #[inline(always)]
@@ -237,12 +190,7 @@ fn finish(head: u64, at: usize) -> (Instr, usize)
     requires { at < 4294967295 }
     ensures { result ≡ (Finish (high_operand head), at + 1) }
 {
-    (
-        Instr::Finish {
-            mask: high_of(head),
-        },
-        at + 1,
-    )
+    (Instr::Finish { mask: high(head) }, at + 1)
 }
 
 #[inline(always)]

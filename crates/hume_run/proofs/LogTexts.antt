@@ -186,16 +186,19 @@ module _ (steps place at : ℕ) (named : Named) (text : List ℕ) (accepted : Ac
       logged_text records verifies verify
       (subst (λ (c : Core). EndsLogged verify (further_of named) steps c olds news status) same (ends (further_of named) is))
 
--- the core that was opened is the one that was ready
+-- by whether the log is compared
+pub verified_as : (verify : Bool) (port : List ℕ) (steps : ℕ) (core : Core) (olds news : List PortView) (status : Status) → verify ≡ true
+    → Verifies port steps core olds news status → EndsLogged verify port steps core olds news status
+verified_as verify port steps core olds news status is ends =
+    subst (λ (v : Bool). EndsLogged v port steps core olds news status) (sym is) ends
 
-pub verified_as : (verify : Bool) (port : List ℕ) (steps : ℕ) (opened ready : Core) (olds news : List PortView) (status : Status) → opened ≡ ready → verify ≡ true
-    → Verifies port steps opened olds news status → EndsLogged verify port steps ready olds news status
-verified_as verify port steps opened ready olds news status same is ends =
-    subst (λ (v : Bool). EndsLogged v port steps ready olds news status) (sym is)
-    (subst (λ (core : Core). Verifies port steps core olds news status) same ends)
+pub recorded_as : (verify : Bool) (port : List ℕ) (steps : ℕ) (core : Core) (olds news : List PortView) (status : Status) → verify ≡ false
+    → Records port steps core olds news status → EndsLogged verify port steps core olds news status
+recorded_as verify port steps core olds news status is ends =
+    subst (λ (v : Bool). EndsLogged v port steps core olds news status) (sym is) ends
 
-pub recorded_as : (verify : Bool) (port : List ℕ) (steps : ℕ) (opened ready : Core) (olds news : List PortView) (status : Status) → opened ≡ ready → verify ≡ false
-    → Records port steps opened olds news status → EndsLogged verify port steps ready olds news status
-recorded_as verify port steps opened ready olds news status same is ends =
-    subst (λ (v : Bool). EndsLogged v port steps ready olds news status) (sym is)
-    (subst (λ (core : Core). Records port steps core olds news status) same ends)
+-- the core that is opened is the one that was ready
+pub ends_of : (verify : Bool) (port : List ℕ) (steps : ℕ) (opened ready : Core) (olds news : List PortView) (status : Status) → opened ≡ ready
+    → EndsLogged verify port steps opened olds news status → EndsLogged verify port steps ready olds news status
+ends_of verify port steps opened ready olds news status same ends =
+    subst (λ (core : Core). EndsLogged verify port steps core olds news status) same ends

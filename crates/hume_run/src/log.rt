@@ -11,9 +11,10 @@ mod making;
 ghost use Rattle.std.specs.Prelude.{◌≤◌, ◌⊎◌, ℕ, List, map, string_bytes};
 ghost use Rattle.hume_base.specs.declared.limits.TheConstants.{MAX_SUPERSTEPS};
 ghost use Rattle.hume_ports.specs.Ports.{names};
+ghost use Rattle.phase_workers.specs.Runnable.{IsRunnable};
 ghost use Rattle.port_acts.specs.Places.{IsPlaceOf};
 ghost use Rattle.run_rounds.specs.Streams.{ArePlacesOf, ArePortsApart, std_out};
-ghost use Rattle.log_rounds.specs.Opened.{IsApart};
+ghost use Rattle.log_rounds.specs.Opened.{core_in, run_in, IsApart, IsFresh};
 ghost use Rattle.hume_calls.specs.declared.order.Order.TheVariants.{Log};
 ghost use Rattle.hume_calls.specs.Words.{source_with};
 ghost use Rattle.hume_calls.specs.Ended.{EndsText, IsFurtherAt, RunsOut};
@@ -26,8 +27,8 @@ use hume_calls::{
 };
 use hume_front::accept;
 use hume_ports::Port;
-use log_rounds::logged_runs_read_their_ports;
-use std::alloc::Global;
+use log_rounds::{LoggedRun, logged_runs_read_their_ports};
+use std::alloc::{AllocError, Global};
 
 /// Runs a source of that text for `steps` supersteps. If `verify`, the log's port is read and compared with the log of the run, which
 /// otherwise is written to it: it is the one word of `others`, and stands at the place `log`. `out` is the place of `std_out`, and `source`
@@ -91,9 +92,54 @@ fn log_ready(
         ⊎ ((port : List ℕ) → IsPlaceOf port (names (map view ports.old)) log
         → EndsLogged verify port steps ready.core (map view ports.old) (map view ports.new) result) }
 {
-    let Ok(logged) = open_log(alloc, ready) else {
-        return Status::NoMemory;
-    };
+    match open_log(alloc, ready) {
+        Ok(logged) => run_logged(logged, ports, steps, verify, places, log, out),
+        Err(AllocError) => Status::NoMemory,
+    }
+}
+
+// Runs what all memory is taken for. The run is dropped here alone, on one way, since each way on which it is costs a proof that it may be.
+fn run_logged(
+    mut logged: LoggedRun,
+    ports: &mut [Box<dyn Port>],
+    steps: u32,
+    verify: bool,
+    places: &[usize],
+    log: usize,
+    out: usize,
+) -> Status
+    requires steps { steps ≤ MAX_SUPERSTEPS }
+    requires runnable { IsRunnable (core_in logged) }
+    requires fresh { IsFresh (core_in logged) (run_in logged) }
+    requires places { ArePlacesOf (core_in logged) (names (map view ports.old)) places.now }
+    requires apart { ArePortsApart (core_in logged) }
+    requires log { (port : List ℕ) × IsPlaceOf port (names (map view ports.old)) log × IsApart (core_in logged) port }
+    requires out { IsPlaceOf std_out (names (map view ports.old)) out }
+    ensures { (port : List ℕ) → IsPlaceOf port (names (map view ports.old)) log
+        → EndsLogged verify port steps (core_in logged) (map view ports.old) (map view ports.new) result }
+{
+    verify_or_record(&mut logged, ports, steps, verify, places, log, out)
+}
+
+fn verify_or_record(
+    logged: &mut LoggedRun,
+    ports: &mut [Box<dyn Port>],
+    steps: u32,
+    verify: bool,
+    places: &[usize],
+    log: usize,
+    out: usize,
+) -> Status
+    requires steps { steps ≤ MAX_SUPERSTEPS }
+    requires runnable { IsRunnable (core_in logged.old) }
+    requires fresh { IsFresh (core_in logged.old) (run_in logged.old) }
+    requires places { ArePlacesOf (core_in logged.old) (names (map view ports.old)) places.now }
+    requires apart { ArePortsApart (core_in logged.old) }
+    requires log { (port : List ℕ) × IsPlaceOf port (names (map view ports.old)) log × IsApart (core_in logged.old) port }
+    requires out { IsPlaceOf std_out (names (map view ports.old)) out }
+    ensures { (port : List ℕ) → IsPlaceOf port (names (map view ports.old)) log
+        → EndsLogged verify port steps (core_in logged.old) (map view ports.old) (map view ports.new) result }
+{
     if verify {
         verify_log(logged, ports, steps, places, log, out)
     } else {

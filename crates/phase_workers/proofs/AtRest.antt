@@ -27,7 +27,7 @@ use Rattle.box_step.specs.nodes.Openings.{Opening}
 use Rattle.box_step.specs.nodes.Right.{IsRightNode}
 use Rattle.box_step.specs.nodes.Sides.{brought_type, taken_type, type_found, type_there}
 use Rattle.box_step.proofs.nodes_lemmas.Begun.{first_state}
-use Rattle.step_turns.specs.declared.sides.Sides.{Sides}
+use Rattle.phase_workers.specs.declared.paths.Paths.{Paths}
 use Rattle.step_turns.specs.Homes.{IsHome}
 use Rattle.step_turns.specs.Rounds.{AreInPlace, node_time, time_there}
 use Rattle.phase_workers.specs.Runnable.{IsRunnable}
@@ -99,8 +99,8 @@ has_log opening n time (Coded box) is right = absurd (subst IsOutput right.there
 has_log opening n time (Queued queue) is right = absurd (subst IsOutput right.there is)
 has_log opening n time (Logged log) is right = (log.value, refl, right.values, right.width)
 
-module _ (core bare : Core) (sides : Sides) (span : ℕ) (state : State) (nodes : List BoxCell) (home : List (Option CellView))
-    (whole : IsWhole core bare sides span state nodes home) where
+module _ (core bare : Core) (paths : Paths) (span : ℕ) (state : State) (nodes : List BoxCell) (home : List (Option CellView))
+    (whole : IsWhole core bare paths span state nodes home) where
   pub home_at : (w : ℕ) → w < length bare.wires → IsHome w 0 home
   home_at w less = subst (λ t. IsHome w t home) (zero_wire bare nodes (zero_times nodes whole.begun) w) (whole.place.wires w less)
 
@@ -108,7 +108,7 @@ module _ (core bare : Core) (sides : Sides) (span : ℕ) (state : State) (nodes 
   wire_time_is w cell at =
       let inside = slice_get_within home w (Some cell) at in
       let held = whole.wires in
-      let all = bare_wires core bare sides span state nodes home whole in
+      let all = bare_wires core bare paths span state nodes home whole in
       let is = home_at w (omega (arith, inside, held, all)) in
       let same : cell ≡ is.cell = (let both : Some (Some cell) ≡ Some (Some is.cell) = sym at ∙ is.there in cc) in
       ap (λ (c : CellView). c.time) same ∙ is.at
@@ -118,7 +118,7 @@ module _ (core bare : Core) (sides : Sides) (span : ℕ) (state : State) (nodes 
       → (cell : CellView) × (slice_get home w ≡ Some (Some cell)) × (cell.number ≡ w)
       × ((its : WireC) → slice_get core.wires w ≡ Some its → Holds core.types its cell (on_wire state w))
   wire_there w less =
-      let all = bare_wires core bare sides span state nodes home whole in
+      let all = bare_wires core bare paths span state nodes home whole in
       let is = home_at w (omega (arith, less, all)) in
       let right = whole.right.wires.each w is.cell is.there in
       let state_is : Holds core.types right.wire is.cell (on_wire state is.cell.number) =
@@ -141,8 +141,8 @@ module _ (core bare : Core) (sides : Sides) (span : ℕ) (state : State) (nodes 
       × (size_of core.types (type_at core n) ≡ (queue_view queue).width) × (span ≡ (queue_view queue).span)
   queue_there n is =
       let node = node_of_input core n is in
-      let cell = cell_at core bare sides span state nodes home whole n (slice_get_within core.nodes n (From node.0) node.1) in
-      let right = right_cell core bare sides span state nodes home whole n cell.0 cell.1 in
+      let cell = cell_at core bare paths span state nodes home whole n (slice_get_within core.nodes n (From node.0) node.1) in
+      let right = right_cell core bare paths span state nodes home whole n cell.0 cell.1 in
       let queue = has_queue (opening_at core state nodes) n 0 cell.0.kind is right in
       let seen = (seen_at nodes n cell.0 cell.1).2 ∙ ap queue_without queue.1 in
       let kept = whole.queues n is in (
@@ -163,8 +163,8 @@ module _ (core bare : Core) (sides : Sides) (span : ℕ) (state : State) (nodes 
       × ((log_view log).width ≡ size_of core.types (taken_type core n)) × ((log_view log).span ≡ span)
   log_there n is =
       let node = node_of_output core n is in
-      let cell = cell_at core bare sides span state nodes home whole n (slice_get_within core.nodes n (To node.0) node.1) in
-      let right = right_cell core bare sides span state nodes home whole n cell.0 cell.1 in
+      let cell = cell_at core bare paths span state nodes home whole n (slice_get_within core.nodes n (To node.0) node.1) in
+      let right = right_cell core bare paths span state nodes home whole n cell.0 cell.1 in
       let log = has_log (opening_at core state nodes) n 0 cell.0.kind is right in
       let seen = (seen_at nodes n cell.0 cell.1).3 ∙ ap log_without log.1 in
       let kept = whole.logs n node.0 node.1 in (

@@ -32,7 +32,7 @@ use Rattle.hume_streams.specs.Queues.{QueueView, IsQueueOf, queue_view, without_
 use Rattle.wire_cells.specs.Cells.{CellView}
 use Rattle.box_step.specs.declared.nodes.cell.BoxCell.{BoxCell}
 use Rattle.box_step.specs.nodes.Lends.{queue_in, with_queue}
-use Rattle.step_turns.specs.declared.sides.Sides.{Sides}
+use Rattle.phase_workers.specs.declared.paths.Paths.{Paths}
 use Rattle.phase_workers.specs.Engines.{EngineView, coming_at, queue_at}
 use Rattle.phase_workers.specs.NodeFills.{EndsFill, fed_at}
 use Rattle.phase_workers.specs.Runnable.{IsRunnable}
@@ -57,8 +57,8 @@ coming_typed core run state typed n is =
 few_gained : (want before after had gained : ℕ) → after ≤ max want before → after ≡ had + gained → before ≡ had → gained ≤ want - had
 few_gained want before after had gained bound all was = omega (arith, bound, all, was)
 
-module _ (core bare : Core) (sides : Sides) (span : ℕ) (state : State) (nodes : List BoxCell) (home : List (Option CellView))
-    (whole : IsWhole core bare sides span state nodes home) (node : ℕ) (is : IsInputStream core node) (cell new : BoxCell)
+module _ (core bare : Core) (paths : Paths) (span : ℕ) (state : State) (nodes : List BoxCell) (home : List (Option CellView))
+    (whole : IsWhole core bare paths span state nodes home) (node : ℕ) (is : IsInputStream core node) (cell new : BoxCell)
     (at : slice_get nodes node ≡ Some cell) (queue later : InQueue) (had : queue_in cell.kind ≡ Some queue)
     (new_is : new ≡ record cell { kind = with_queue cell.kind later }) where
   abbrev types : Types
@@ -94,7 +94,7 @@ module _ (core bare : Core) (sides : Sides) (span : ℕ) (state : State) (nodes 
     all_words : (queue_view later).values ≡ map (flat types ty) (coming ++ fill.gained)
     all_words =
         fill.words
-        ∙ ap (λ rows. rows ++ map (flat types ty) fill.gained) (queue_holds core bare sides span state nodes home whole node is cell new at queue later
+        ∙ ap (λ rows. rows ++ map (flat types ty) fill.gained) (queue_holds core bare paths span state nodes home whole node is cell new at queue later
         had new_is)
         ∙ sym (map-append (flat types ty) coming fill.gained)
 
@@ -106,7 +106,7 @@ module _ (core bare : Core) (sides : Sides) (span : ℕ) (state : State) (nodes 
     gained_few =
         let all : length (queue_view later).values ≡ length (coming ++ fill.gained) = ap length all_words ∙ length-map (coming ++ fill.gained) (flat types ty) in
         let had_all : length (queue_view queue).values ≡ length coming =
-        ap length (queue_holds core bare sides span state nodes home whole node is cell new at queue later had new_is) ∙ length-map coming (flat types ty) in
+        ap length (queue_holds core bare paths span state nodes home whole node is cell new at queue later had new_is) ∙ length-map coming (flat types ty) in
         few_gained want (length (queue_view queue).values) (length (queue_view later).values) (length coming) (length fill.gained)
         fill.gains.bound (all ∙ length-append coming fill.gained) had_all
 
@@ -143,9 +143,9 @@ module _ (core bare : Core) (sides : Sides) (span : ℕ) (state : State) (nodes 
       taken = whole.fits.taken;
     }
 
-    pub filled_whole : IsWhole core bare sides span next (slice_set nodes node new) home
+    pub filled_whole : IsWhole core bare paths span next (slice_set nodes node new) home
     filled_whole =
-        queue_whole core bare sides span state nodes home whole node is cell new at queue later had new_is next refl parts_kept
+        queue_whole core bare paths span state nodes home whole node is cell new at queue later had new_is next refl parts_kept
         (all_words ∙ ap (map (flat types ty)) (sym more ∙ sym next_coming)) fill.gains.width fill.gains.span typed fits
 
     -- the ends of a fill

@@ -1,10 +1,9 @@
 -- An engine before its first superstep.
-use Rattle.std.proofs.Common.{◌≡◌, ◌<◌, ◌+◌, ℕ, List, [], length, Option, Some, slice_get, slice_index_or, refl, ap, sym, ◌∙◌, subst, arith, inl, inr}
+use Rattle.std.proofs.Common.{◌≡◌, ◌<◌, ℕ, List, [], length, Option, Some, slice_get, slice_index_or, refl, ap, sym, ◌∙◌, subst, arith, inl, inr}
 use Rattle.std.specs.List.{list_all}
 use Rattle.std.specs.Option.{option_to_list, unwrap_or}
 use Rattle.std.proofs.lemmas.Bool.{cases_lt}
 use Rattle.std.proofs.lemmas.Option.{slice_get_within}
-use Rattle.hume_base.specs.declared.limits.TheConstants.{MAX_INPUTS, MAX_OUTPUTS}
 use Rattle.hume_base.specs.declared.types.Value.{Value}
 use Rattle.hume_base.specs.Sizes.{size_of}
 use Rattle.hume_base.specs.Values.{is_value}
@@ -39,11 +38,11 @@ use Rattle.box_step.specs.nodes.Openings.{IsOpeningOf}
 use Rattle.box_step.specs.nodes.Right.{IsRightNode, IsRightWire, heap_peak_of, stack_peak_of}
 use Rattle.box_step.specs.nodes.Beginnings.{first_queue, first_log}
 use Rattle.box_step.proofs.nodes_lemmas.Begun.{first_state}
-use Rattle.step_turns.specs.declared.sides.Sides.{Sides}
+use Rattle.phase_workers.specs.declared.paths.Paths.{Paths}
 use Rattle.step_turns.specs.Homes.{IsHome}
-use Rattle.step_turns.specs.Rounds.{AreSides}
 use Rattle.phase_workers.specs.Runnable.{IsRunnable}
 use Rattle.phase_workers.specs.StreamTypes.{type_at}
+use Rattle.phase_workers.specs.inner.Going.{ArePaths}
 use Rattle.phase_workers.specs.inner.Making.{AreFirstNodes, AreFirstWires, first_opening}
 use Rattle.phase_workers.specs.inner.Whole.{IsQueueFor, IsWhole, heaps_of, log_without, opening_at, queue_without, queues_of, stacks_of}
 use Rattle.phase_workers.proofs.AtRest.{at_rest, brought_is, zero_times}
@@ -87,9 +86,9 @@ module _ (core : Core) (span n : ℕ) where
   log_first (Queued queue) is right = absurd (subst IsOutput right.there is)
   log_first (Logged log) is right = right.rest
 
-module _ (core bare : Core) (sides : Sides) (span : ℕ) (nodes : List BoxCell) (home : List (Option CellView)) (run : IsRunnable core)
+module _ (core bare : Core) (paths : Paths) (span : ℕ) (nodes : List BoxCell) (home : List (Option CellView)) (run : IsRunnable core)
     (handles : BoxesHandleAll core) (is : bare ≡ bare_of core) (cells : AreFirstNodes core span (length core.nodes) nodes)
-    (wires : AreFirstWires core (length core.wires) home) (sides_are : AreSides bare (MAX_INPUTS + MAX_OUTPUTS) sides) where
+    (wires : AreFirstWires core (length core.wires) home) (paths_are : ArePaths bare paths) where
   abbrev first : State
   first = start core (no_values core)
 
@@ -149,7 +148,7 @@ module _ (core bare : Core) (sides : Sides) (span : ℕ) (nodes : List BoxCell) 
       (subst (Holds core.types wire.0 (first_cell core w wire.0)) (sym on) (first_holds core w wire.0 run.formed.frame wire.1)) in
       subst (IsRightWire (opening_at core first nodes)) same (record { wire = wire.0; there = wire.1; holds = holds })
 
-  pub first_whole : IsWhole core bare sides span first nodes home
+  pub first_whole : IsWhole core bare paths span first nodes home
   first_whole = record {
     runnable = run;
     opens = record {
@@ -171,7 +170,7 @@ module _ (core bare : Core) (sides : Sides) (span : ℕ) (nodes : List BoxCell) 
         (zero_times nodes first_time) first_home;
     wires = wires.long;
     begun = first_time;
-    sides_are = sides_are;
+    paths_are = paths_are;
     queues = queue_is_for;
     logs = λ n stream at.
         let output : IsOutputStream core n = subst IsOutput (sym at) tt in

@@ -18,7 +18,7 @@ use Rattle.box_step.specs.nodes.Lends.{queue_in}
 use Rattle.box_step.specs.nodes.Openings.{Opening}
 use Rattle.box_step.specs.nodes.Right.{IsRightNode}
 use Rattle.box_step.proofs.nodes_lemmas.Begun.{first_state}
-use Rattle.step_turns.specs.declared.sides.Sides.{Sides}
+use Rattle.phase_workers.specs.declared.paths.Paths.{Paths}
 use Rattle.step_turns.specs.Rounds.{AllRight, AreFrom, AreInPlace, AreUntil, HasSpan, node_time}
 use Rattle.phase_workers.specs.inner.Midst.{IsMidst}
 use Rattle.phase_workers.specs.inner.Whole.{IsWhole, queue_without, queues_of, opening_at}
@@ -35,15 +35,15 @@ pub next_state : (core : Core) (state : State) → lockstep core state 1 ≡ up 
 unfolding lockstep superstep
 next_state core state = refl
 
-module _ (core bare : Core) (sides : Sides) (span : ℕ) (state : State) (nodes : List BoxCell) (home : List (Option CellView))
-    (whole : IsWhole core bare sides span state nodes home) where
+module _ (core bare : Core) (paths : Paths) (span : ℕ) (state : State) (nodes : List BoxCell) (home : List (Option CellView))
+    (whole : IsWhole core bare paths span state nodes home) where
   abbrev opening : Opening
   opening = opening_at core state nodes
 
   -- each log has room for a value
   pub first_span : 1 ≤ span → ((n : ℕ) → IsOutputStream core n → (part_of state n).taken ≡ []) → HasSpan opening 0
   first_span few clear n stream at =
-      let wide = have_span core bare sides span state nodes home whole 1 few clear n stream at in
+      let wide = have_span core bare paths span state nodes home whole 1 few clear n stream at in
       let same = ap (λ p. length p.taken) (part_at_first core state n) in
       omega (arith, wide, same)
 
@@ -51,12 +51,12 @@ module _ (core bare : Core) (sides : Sides) (span : ℕ) (state : State) (nodes 
   from_first n less = omega arith
 
   pub until_first : AreUntil 1 nodes
-  until_first n less = (let none = none_begun core bare sides span state nodes home whole n less in omega (arith, none))
+  until_first n less = (let none = none_begun core bare paths span state nodes home whole n less in omega (arith, none))
 
   -- cells that are right for the same opening at later times
   module _ (later : List BoxCell) (laid : List (Option CellView)) (place : AreInPlace bare later laid) (right : AllRight opening later laid) where
     later_long : length later ≡ length core.nodes
-    later_long = place.count ∙ bare_count core bare sides span state nodes home whole
+    later_long = place.count ∙ bare_count core bare paths span state nodes home whole
 
     later_right : (n : ℕ) (cell : BoxCell) → slice_get later n ≡ Some cell → IsRightNode opening n cell.time cell.kind
     later_right n cell at = subst (λ m. IsRightNode opening m cell.time cell.kind) (place.numbers n cell at) (right.each n cell at)
@@ -65,21 +65,21 @@ module _ (core bare : Core) (sides : Sides) (span : ℕ) (state : State) (nodes 
     pub queue_later : (n : ℕ) → slice_index_or (queues_of later) n (first_view 0 0) ≡ slice_index_or (queues_of nodes) n (first_view 0 0)
     queue_later n = elim (cases_lt n (length core.nodes)) [
       | inl less ↦
-          let old = cell_at core bare sides span state nodes home whole n less in
+          let old = cell_at core bare paths span state nodes home whole n less in
           let long = later_long in
           let new = some_at later n (omega (arith, less, long)) in
           let before = seen_at nodes n old.0 old.1 in
           let after = seen_at later n new.0 new.1 in
           after.2 ∙ same_queue opening n 0 new.0.time old.0.kind new.0.kind before.2
-          (right_cell core bare sides span state nodes home whole n old.0 old.1) (later_right n new.0 new.1) ∙ sym before.2
+          (right_cell core bare paths span state nodes home whole n old.0 old.1) (later_right n new.0 new.1) ∙ sym before.2
       | inr past ↦
-          let long = cells_count core bare sides span state nodes home whole in
+          let long = cells_count core bare paths span state nodes home whole in
           let count = later_long in
           index_past (λ (c : BoxCell). queue_without (queue_in c.kind)) later n (first_view 0 0) (omega (arith, past, count))
           ∙ sym (index_past (λ (c : BoxCell). queue_without (queue_in c.kind)) nodes n (first_view 0 0) (omega (arith, past, long)))
     ]
 
-    pub midst_now : length laid ≡ length bare.wires → AreFrom 1 later → AreUntil 1 later → IsMidst core bare sides span state later laid
+    pub midst_now : length laid ≡ length bare.wires → AreFrom 1 later → AreUntil 1 later → IsMidst core bare paths span state later laid
     midst_now long from until = record {
       first_nodes = nodes;
       first_home = home;
@@ -91,8 +91,8 @@ module _ (core bare : Core) (sides : Sides) (span : ℕ) (state : State) (nodes 
       until = until;
     }
 
-module _ (core bare : Core) (sides : Sides) (span : ℕ) (before : State) (nodes : List BoxCell) (home : List (Option CellView))
-    (midst : IsMidst core bare sides span before nodes home) where
+module _ (core bare : Core) (paths : Paths) (span : ℕ) (before : State) (nodes : List BoxCell) (home : List (Option CellView))
+    (midst : IsMidst core bare paths span before nodes home) where
   abbrev first : Opening
   first = opening_at core before midst.first_nodes
 
@@ -104,7 +104,7 @@ module _ (core bare : Core) (sides : Sides) (span : ℕ) (before : State) (nodes
 
   wire_time_is : (w : ℕ) → w < length bare.wires → wire_time (plan_of bare) (node_time nodes) w ≡ 1
   wire_time_is w less =
-      let plan = plan_is core bare sides span before midst.first_nodes midst.first_home midst.whole in
+      let plan = plan_is core bare paths span before midst.first_nodes midst.first_home midst.whole in
       let counted = wires_counted bare in
       let inside : w < wires_of (plan_of bare) = omega (arith, less, counted) in
       let long = midst.place.count in
@@ -119,7 +119,7 @@ module _ (core bare : Core) (sides : Sides) (span : ℕ) (before : State) (nodes
       → (cell : CellView) × (slice_get home w ≡ Some (Some cell)) × (cell.number ≡ w)
       × ((its : WireC) → slice_get core.wires w ≡ Some its → Holds core.types its cell (on_wire (mid core before) w))
   wire_midst w less =
-      let all = bare_wires core bare sides span before midst.first_nodes midst.first_home midst.whole in
+      let all = bare_wires core bare paths span before midst.first_nodes midst.first_home midst.whole in
       let inside : w < length bare.wires = omega (arith, less, all) in
       let is = midst.place.wires w inside in
       let time : is.cell.time ≡ 1 = is.at ∙ wire_time_is w inside in

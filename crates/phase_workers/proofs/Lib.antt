@@ -6,6 +6,7 @@ mod Indexes
 mod MappedSoFar
 mod CellsSeen
 mod Rounding
+mod FewItems
 mod AtRest
 mod Halving
 mod OneCell

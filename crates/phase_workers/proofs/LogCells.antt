@@ -31,7 +31,7 @@ use Rattle.box_step.specs.nodes.Lends.{queue_in, log_in, with_log}
 use Rattle.box_step.specs.nodes.Openings.{Opening}
 use Rattle.box_step.specs.nodes.Right.{IsRightNode, heap_peak_of, stack_peak_of}
 use Rattle.box_step.specs.nodes.Sides.{taken_type}
-use Rattle.step_turns.specs.declared.sides.Sides.{Sides}
+use Rattle.phase_workers.specs.declared.paths.Paths.{Paths}
 use Rattle.phase_workers.specs.Runnable.{IsRunnable}
 use Rattle.phase_workers.specs.StreamTypes.{type_at}
 use Rattle.phase_workers.specs.inner.Whole.{IsWhole, queue_without, log_without, queues_of, heaps_of, stacks_of, opening_at}
@@ -79,8 +79,8 @@ right_log before opening n (Logged old) log later same had right values width re
       rest = rest;
     }
 
-module _ (core bare : Core) (sides : Sides) (span : ℕ) (state : State) (nodes : List BoxCell) (home : List (Option CellView))
-    (whole : IsWhole core bare sides span state nodes home) (node : ℕ) (is : IsOutputStream core node) (cell new : BoxCell)
+module _ (core bare : Core) (paths : Paths) (span : ℕ) (state : State) (nodes : List BoxCell) (home : List (Option CellView))
+    (whole : IsWhole core bare paths span state nodes home) (node : ℕ) (is : IsOutputStream core node) (cell new : BoxCell)
     (at : slice_get nodes node ≡ Some cell) (log later : OutLog) (had : log_in cell.kind ≡ Some log)
     (new_is : new ≡ record cell { kind = with_log cell.kind later }) where
   new_kind : new.kind ≡ with_log cell.kind later
@@ -100,7 +100,7 @@ module _ (core bare : Core) (sides : Sides) (span : ℕ) (state : State) (nodes 
   -- what the log holds
   pub log_holds : (log_view log).values ≡ map (flat core.types (type_at core node)) (part_of state node).taken
   log_holds =
-      let its = log_there core bare sides span state nodes home whole node is in
+      let its = log_there core bare paths span state nodes home whole node is in
       let cells : its.0 ≡ cell = (let both : Some its.0 ≡ Some cell = sym its.1 ∙ at in cc) in
       let logs : its.2 ≡ log = (let both : Some its.2 ≡ Some log = sym its.3 ∙ ap (λ (c : BoxCell). log_in c.kind) cells ∙ had in cc) in
       sym (ap (λ l. (log_view l).values) logs) ∙ its.4
@@ -120,7 +120,7 @@ module _ (core bare : Core) (sides : Sides) (span : ℕ) (state : State) (nodes 
 
     wide : (log_view log).span ≡ span
     wide =
-        let its = log_there core bare sides span state nodes home whole node is in
+        let its = log_there core bare paths span state nodes home whole node is in
         let cells : its.0 ≡ cell = (let both : Some its.0 ≡ Some cell = sym its.1 ∙ at in cc) in
         let logs : its.2 ≡ log = (let both : Some its.2 ≡ Some log = sym its.3 ∙ ap (λ (c : BoxCell). log_in c.kind) cells ∙ had in cc) in
         sym (ap (λ l. (log_view l).span) logs) ∙ its.6
@@ -131,15 +131,15 @@ module _ (core bare : Core) (sides : Sides) (span : ℕ) (state : State) (nodes 
         ∙ ap (λ (p : Part). map (flat core.types (taken_type core node)) p.taken) (sym (part_at_first core next node)) in
         subst (IsRightNode seen node 0) (sym new_kind)
         (right_log (opening_at core state nodes) seen node cell.kind log later refl had
-        (right_cell core bare sides span state nodes home whole node cell at) all width
+        (right_cell core bare paths span state nodes home whole node cell at) all width
         (sym ((seen_at (slice_set nodes node new) node new here).3 ∙ ap log_without log_is)))
 
     no_input : IsInputStream core node → ⊥
     no_input input = (let its = node_of_output core node is in subst IsInput its.1 input)
 
-    pub log_whole : IsWhole core bare sides span next (slice_set nodes node new) home
+    pub log_whole : IsWhole core bare paths span next (slice_set nodes node new) home
     log_whole =
-        one_whole core bare sides span state nodes home whole node cell new at (ap (λ (c : BoxCell). c.number) new_is)
+        one_whole core bare paths span state nodes home whole node cell new at (ap (λ (c : BoxCell). c.number) new_is)
         (ap (λ (c : BoxCell). c.time) new_is) next wires parts right typed fits (λ input. absurd (no_input input))
         (λ stream there. ap (λ o. (log_without o).span) log_is ∙ span_is ∙ wide)
 

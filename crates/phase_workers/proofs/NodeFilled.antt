@@ -16,7 +16,7 @@ use Rattle.hume_streams.proofs.places_lemmas.FillsInLists.{of_first-port}
 use Rattle.wire_cells.specs.Cells.{CellView}
 use Rattle.box_step.specs.declared.nodes.cell.BoxCell.{BoxCell}
 use Rattle.box_step.specs.nodes.Lends.{queue_in, with_queue}
-use Rattle.step_turns.specs.declared.sides.Sides.{Sides}
+use Rattle.phase_workers.specs.declared.paths.Paths.{Paths}
 use Rattle.phase_workers.specs.Engines.{EngineView, IsRight, core_of, queue_at}
 use Rattle.phase_workers.specs.NodeFills.{FillsNode}
 use Rattle.phase_workers.specs.RightQueues.{IsRightBehind}
@@ -30,13 +30,13 @@ not_failed (Ok _) none is = cc
 not_failed (Err (BadValue line)) none is = cc
 not_failed (Err Failed) none is = absurd none
 
-module _ (core bare : Core) (sides : Sides) (span : ℕ) (state : State) (nodes : List BoxCell) (home : List (Option CellView))
-    (whole : IsWhole core bare sides span state nodes home) (node : ℕ) (is : IsInputStream core node) (cell new : BoxCell)
+module _ (core bare : Core) (paths : Paths) (span : ℕ) (state : State) (nodes : List BoxCell) (home : List (Option CellView))
+    (whole : IsWhole core bare paths span state nodes home) (node : ℕ) (is : IsInputStream core node) (cell new : BoxCell)
     (at : slice_get nodes node ≡ Some cell) (queue later : InQueue) (had : queue_in cell.kind ≡ Some queue)
     (new_is : new ≡ record cell { kind = with_queue cell.kind later }) (want : ℕ) (name : List ℕ) (olds news : List PortView)
     (result : Result (Unit {0}) FillError)
     (from : FillsFrom core.types (type_at core node) want (queue_view queue) (queue_view later) name olds news result) (s : State)
-    (state_is : s ≡ next core bare sides span state nodes home whole node is cell new at queue later had new_is) where
+    (state_is : s ≡ next core bare paths span state nodes home whole node is cell new at queue later had new_is) where
   abbrev old_engine : EngineView
   old_engine = engine_view core span state nodes
 
@@ -44,10 +44,10 @@ module _ (core bare : Core) (sides : Sides) (span : ℕ) (state : State) (nodes 
   engine = engine_view core span s (slice_set nodes node new)
 
   was : queue_at old_engine node ≡ without_values (queue_view queue)
-  was = ap without_values (was_queue core bare sides span state nodes home whole node is cell new at queue later had new_is)
+  was = ap without_values (was_queue core bare paths span state nodes home whole node is cell new at queue later had new_is)
 
   now : queue_at engine node ≡ without_values (queue_view later)
-  now = ap without_values (is_queue core bare sides span state nodes home whole node is cell new at queue later had new_is)
+  now = ap without_values (is_queue core bare paths span state nodes home whole node is cell new at queue later had new_is)
 
   goes_on : (text : List ℕ) (read : List Value) (rest : List ℕ) → ((queue_at engine node).ended ≡ true → rest ≡ [])
       → IsQueueOf core.types (type_at core node) (queue_at old_engine node) text read (from.fills.bytes ++ rest)
@@ -62,13 +62,13 @@ module _ (core bare : Core) (sides : Sides) (span : ℕ) (state : State) (nodes 
     bytes = from.fills.bytes;
     values = from.fills.gained;
     reads = from.reads;
-    state = state_is ∙ next_is_fed core bare sides span state nodes home whole node is cell new at queue later had new_is want
+    state = state_is ∙ next_is_fed core bare paths span state nodes home whole node is cell new at queue later had new_is want
         from.before from.after result from.fills;
-    bound = gained_few core bare sides span state nodes home whole node is cell new at queue later had new_is want
+    bound = gained_few core bare paths span state nodes home whole node is cell new at queue later had new_is want
         from.before from.after result from.fills;
-    others = λ other apart. ap without_values (queues_elsewhere core bare sides span state nodes home whole node is cell new at queue later had
-        new_is (next core bare sides span state nodes home whole node is cell new at queue later had new_is) refl
-        (parts_kept core bare sides span state nodes home whole node is cell new at queue later had new_is) other apart);
+    others = λ other apart. ap without_values (queues_elsewhere core bare paths span state nodes home whole node is cell new at queue later had
+        new_is (next core bare paths span state nodes home whole node is cell new at queue later had new_is) refl
+        (parts_kept core bare paths span state nodes home whole node is cell new at queue later had new_is) other apart);
     stays = λ ended.
         let b = from.fills.end.before (sym (ap (λ (q : QueueView). q.ended) was) ∙ ended) in
         (b.0, ap (λ (q : QueueView). q.ended) now ∙ b.1);
@@ -76,7 +76,7 @@ module _ (core bare : Core) (sides : Sides) (span : ℕ) (state : State) (nodes 
         subst IsAtEnd (sym (of_first-port None (λ (port : PortView). port.left) name news from.after from.is_first))
         (from.fills.end.now (sym (ap (λ (q : QueueView). q.ended) was) ∙ before) (sym (ap (λ (q : QueueView). q.ended) now) ∙ after));
     goes_on = goes_on;
-    ends = ends_fill core bare sides span state nodes home whole node is cell new at queue later had new_is want
+    ends = ends_fill core bare paths span state nodes home whole node is cell new at queue later had new_is want
         from.before from.after result from.fills engine refl state_is now result from.fills.ends;
   }
 

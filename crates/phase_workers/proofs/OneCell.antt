@@ -26,7 +26,7 @@ use Rattle.box_step.specs.nodes.Openings.{Opening}
 use Rattle.box_step.specs.nodes.Right.{IsRightNode, IsRightWire}
 use Rattle.box_step.specs.nodes.Sides.{brought_type, taken_type}
 use Rattle.box_step.proofs.nodes_lemmas.Begun.{first_state}
-use Rattle.step_turns.specs.declared.sides.Sides.{Sides}
+use Rattle.phase_workers.specs.declared.paths.Paths.{Paths}
 use Rattle.phase_workers.specs.inner.Whole.{IsWhole, IsQueueFor, queue_without, log_without, queues_of, logs_of, opening_at}
 use Rattle.phase_workers.proofs.AtRest.{at_rest, home_at, part_at_first, wire_time_is, zero_times}
 use Rattle.phase_workers.proofs.CellsSeen.{seen_at, right_as_seen}
@@ -70,8 +70,8 @@ same_index f xs ys m d same =
     ∙ ap (λ o. unwrap_or o d) (slice_get-map f xs m ∙ ap (option_map f) same ∙ sym (slice_get-map f ys m))
     ∙ sym (index_found (map f ys) m d)
 
-module _ (core bare : Core) (sides : Sides) (span : ℕ) (state : State) (nodes : List BoxCell) (home : List (Option CellView))
-    (whole : IsWhole core bare sides span state nodes home) (node : ℕ) (cell new : BoxCell) (at : slice_get nodes node ≡ Some cell)
+module _ (core bare : Core) (paths : Paths) (span : ℕ) (state : State) (nodes : List BoxCell) (home : List (Option CellView))
+    (whole : IsWhole core bare paths span state nodes home) (node : ℕ) (cell new : BoxCell) (at : slice_get nodes node ≡ Some cell)
     (number : new.number ≡ cell.number) (time : new.time ≡ cell.time) (next : State) (wires : next.wires ≡ state.wires)
     (parts : (m : ℕ) → (m ≡ node → ⊥) → part_of next m ≡ part_of state m) where
   abbrev cells : List BoxCell
@@ -120,7 +120,7 @@ module _ (core bare : Core) (sides : Sides) (span : ℕ) (state : State) (nodes 
   next_wire : (w : ℕ) (c : CellView) → slice_get home w ≡ Some (Some c) → IsRightWire seen c
   next_wire w c there =
       let right = whole.right.wires.each w c there in
-      let zero = wire_time_is core bare sides span state nodes home whole w c there in
+      let zero = wire_time_is core bare paths span state nodes home whole w c there in
       let early = subst (λ s. Holds core.types right.wire c (on_wire s c.number)) (first_state core state)
       (subst (λ t. Holds core.types right.wire c (on_wire (at_time core state t) c.number)) zero right.holds) in
       let now : Holds core.types right.wire c (on_wire next c.number) =
@@ -142,7 +142,7 @@ module _ (core bare : Core) (sides : Sides) (span : ℕ) (state : State) (nodes 
       | inr apart ↦
           right_as_seen (record opening { state = next }) cells m c.kind (seen_at cells m c there)
           (right_part opening next m (parts m apart) c.kind
-          (right_cell core bare sides span state nodes home whole m c (elsewhere m apart c there)))
+          (right_cell core bare paths span state nodes home whole m c (elsewhere m apart c there)))
     ]
 
     next_queue : (m : ℕ) → IsInputStream core m → IsQueueFor core span m (slice_index_or (queues_of cells) m (first_view 0 0))
@@ -162,7 +162,7 @@ module _ (core bare : Core) (sides : Sides) (span : ℕ) (state : State) (nodes 
       | inr apart ↦ ap (λ (l : LogView). l.span) (log_elsewhere m apart) ∙ whole.logs m stream there
     ]
 
-    pub one_whole : IsWhole core bare sides span next cells home
+    pub one_whole : IsWhole core bare paths span next cells home
     one_whole = record {
       runnable = whole.runnable;
       opens = record {
@@ -179,10 +179,10 @@ module _ (core bare : Core) (sides : Sides) (span : ℕ) (state : State) (nodes 
         wires = record { each = next_wire };
       };
       place = at_rest bare cells home (length_set nodes node new ∙ whole.place.count) next_number (zero_times cells next_time)
-          (home_at core bare sides span state nodes home whole);
+          (home_at core bare paths span state nodes home whole);
       wires = whole.wires;
       begun = next_time;
-      sides_are = whole.sides_are;
+      paths_are = whole.paths_are;
       queues = next_queue;
       logs = next_log;
       fits = fits;

@@ -24,7 +24,7 @@ use Rattle.box_step.specs.nodes.Lends.{queue_in, with_queue}
 use Rattle.box_step.specs.nodes.Openings.{Opening}
 use Rattle.box_step.specs.nodes.Right.{IsRightNode, heap_peak_of, stack_peak_of}
 use Rattle.box_step.specs.nodes.Sides.{brought_type}
-use Rattle.step_turns.specs.declared.sides.Sides.{Sides}
+use Rattle.phase_workers.specs.declared.paths.Paths.{Paths}
 use Rattle.phase_workers.specs.StreamTypes.{type_at}
 use Rattle.phase_workers.specs.inner.Whole.{IsWhole, IsQueueFor, queue_without, queues_of, heaps_of, stacks_of, opening_at}
 use Rattle.phase_workers.proofs.AtRest.{brought_is, part_at_first, queue_there}
@@ -62,8 +62,8 @@ right_queue before opening n (Queued old) queue later same had right values rest
   rest = rest;
 }
 
-module _ (core bare : Core) (sides : Sides) (span : ℕ) (state : State) (nodes : List BoxCell) (home : List (Option CellView))
-    (whole : IsWhole core bare sides span state nodes home) (node : ℕ) (is : IsInputStream core node) (cell new : BoxCell)
+module _ (core bare : Core) (paths : Paths) (span : ℕ) (state : State) (nodes : List BoxCell) (home : List (Option CellView))
+    (whole : IsWhole core bare paths span state nodes home) (node : ℕ) (is : IsInputStream core node) (cell new : BoxCell)
     (at : slice_get nodes node ≡ Some cell) (queue later : InQueue) (had : queue_in cell.kind ≡ Some queue)
     (new_is : new ≡ record cell { kind = with_queue cell.kind later }) where
   abbrev types : Types
@@ -100,7 +100,7 @@ module _ (core bare : Core) (sides : Sides) (span : ℕ) (state : State) (nodes 
 
   pub queue_holds : (queue_view queue).values ≡ map (flat types ty) (part_of state node).coming
   queue_holds =
-      let its = queue_there core bare sides span state nodes home whole node is in
+      let its = queue_there core bare paths span state nodes home whole node is in
       let one : its.0 ≡ cell = (let both : Some its.0 ≡ Some cell = sym its.1 ∙ at in cc) in
       let same : its.2 ≡ queue = (let both : Some its.2 ≡ Some queue = sym its.3 ∙ ap (λ (c : BoxCell). queue_in c.kind) one ∙ had in cc) in
       sym (ap (λ q. (queue_view q).values) same) ∙ its.4
@@ -113,7 +113,7 @@ module _ (core bare : Core) (sides : Sides) (span : ℕ) (state : State) (nodes 
       → (other : ℕ) → (other ≡ node → ⊥)
       → slice_index_or (queues_of cells) other (first_view 0 0) ≡ slice_index_or (queues_of nodes) other (first_view 0 0)
   queues_elsewhere next wires parts =
-      queue_elsewhere core bare sides span state nodes home whole node cell new at (ap (λ (c : BoxCell). c.number) new_is)
+      queue_elsewhere core bare paths span state nodes home whole node cell new at (ap (λ (c : BoxCell). c.number) new_is)
       (ap (λ (c : BoxCell). c.time) new_is) next wires parts
 
   module _ (next : State) (wires : next.wires ≡ state.wires) (parts : (m : ℕ) → (m ≡ node → ⊥) → part_of next m ≡ part_of state m)
@@ -126,7 +126,7 @@ module _ (core bare : Core) (sides : Sides) (span : ℕ) (state : State) (nodes 
         ∙ ap (λ (p : Part). map (flat types (brought_type core node)) p.coming) (sym (part_at_first core next node)) in
         subst (IsRightNode (opening_at core next cells) node 0) (sym new_kind)
         (right_queue (opening_at core state nodes) (opening_at core next cells) node cell.kind queue later refl had
-        (right_cell core bare sides span state nodes home whole node cell at) all (sym is_queue))
+        (right_cell core bare paths span state nodes home whole node cell at) all (sym is_queue))
 
     next_queue : IsQueueFor core span node (queue_without (queue_in new.kind))
     next_queue = subst (λ o. IsQueueFor core span node (queue_without o)) (sym queue_is) (record {
@@ -137,14 +137,14 @@ module _ (core bare : Core) (sides : Sides) (span : ℕ) (state : State) (nodes 
     no_output : {stream : _} → slice_get core.nodes node ≡ Some (To stream) → ⊥
     no_output there = subst IsInput there is
 
-    pub queue_whole : IsWhole core bare sides span next cells home
+    pub queue_whole : IsWhole core bare paths span next cells home
     queue_whole =
-        one_whole core bare sides span state nodes home whole node cell new at (ap (λ (c : BoxCell). c.number) new_is)
+        one_whole core bare paths span state nodes home whole node cell new at (ap (λ (c : BoxCell). c.number) new_is)
         (ap (λ (c : BoxCell). c.time) new_is) next wires parts right typed fits (λ input. next_queue) (λ stream there. absurd (no_output there))
 
   -- a queue that goes on with another port
   module _ (changed : queue_view later ≡ rebound (queue_view queue)) where
-    pub rebound_whole : IsWhole core bare sides span state cells home
+    pub rebound_whole : IsWhole core bare paths span state cells home
     rebound_whole =
         queue_whole state refl (λ m apart. refl) (ap (λ (q : QueueView). q.values) changed ∙ queue_holds) (ap (λ (q : QueueView). q.width) changed)
         (ap (λ (q : QueueView). q.span) changed) whole.opens.typed whole.fits

@@ -1,5 +1,5 @@
 -- What a round does to an engine.
-use Rattle.std.proofs.Common.{◌≡◌, ◌≤◌, ◌<◌, ◌*◌, ◌/◌, ◌%◌, ◌^◌, ℕ, max, List, [], map, length, Option, None, Some, slice_get, slice_index_or, refl, ap, sym, ◌∙◌, subst, arith, inl, inr}
+use Rattle.std.proofs.Common.{◌+◌, ◌≡◌, ◌≤◌, ◌<◌, ◌*◌, ◌/◌, ◌%◌, ◌^◌, ℕ, max, List, [], map, length, Option, None, Some, slice_get, slice_index_or, refl, ap, sym, ◌∙◌, subst, arith, inl, inr}
 use Rattle.std.proofs.lemmas.List.{length-map}
 use Rattle.std.specs.Option.{option_map}
 use Rattle.std.proofs.lemmas.Bool.{cases_lt}
@@ -33,11 +33,12 @@ use Rattle.box_step.specs.nodes.Lends.{queue_in}
 use Rattle.box_step.specs.nodes.Openings.{Opening, opening_after}
 use Rattle.box_step.specs.nodes.Right.{IsRightNode, IsRightWire, heap_peak_of, stack_peak_of}
 use Rattle.box_step.proofs.nodes_lemmas.Begun.{begun_node, first_state}
-use Rattle.step_turns.specs.declared.sides.Sides.{Sides}
+use Rattle.phase_workers.specs.declared.paths.Paths.{Paths}
 use Rattle.step_turns.specs.Homes.{AreRightHome, IsHome}
 use Rattle.step_turns.specs.Rounds.{AllRight, AreFrom, AreInPlace, AreUntil, HaveSpan, node_time, time_there}
 use Rattle.turn_locker.specs.Held.{items_of}
 use Rattle.phase_workers.specs.inner.Begun.{begun_cell, begun_wire}
+use Rattle.phase_workers.specs.inner.Going.{ArePaths}
 use Rattle.phase_workers.specs.inner.Whole.{IsWhole, IsQueueFor, queue_without, log_without, queues_of, logs_of, heaps_of, stacks_of, opening_at}
 use Rattle.phase_workers.proofs.Indexes.{index_past, some_at}
 use Rattle.phase_workers.proofs.CellsSeen.{IsNoBox, seen_at, right_as_seen, same_queue, same_log, heap_after, stack_after, no_heap, no_peaks}
@@ -67,8 +68,8 @@ node_of_output core n is = by (slice_get core.nodes n) refl is
     by (Some (From stream)) e i = absurd i
     by (Some (To stream)) e i = (stream, e)
 
-module _ (core bare : Core) (sides : Sides) (span : ℕ) (state : State) (nodes : List BoxCell) (home : List (Option CellView))
-    (whole : IsWhole core bare sides span state nodes home) where
+module _ (core bare : Core) (paths : Paths) (span : ℕ) (state : State) (nodes : List BoxCell) (home : List (Option CellView))
+    (whole : IsWhole core bare paths span state nodes home) where
   abbrev opening : Opening
   opening = opening_at core state nodes
 
@@ -97,7 +98,7 @@ module _ (core bare : Core) (sides : Sides) (span : ℕ) (state : State) (nodes 
       let frame = bare_frame core whole.runnable.formed.frame in
       subst (λ (c : Core). IsPlan (plan_of c)) (sym whole.opens.core_is) (plan_joins (bare_of core) frame.wires)
 
-  pub few_items : items_of (plan_of bare) < 2 ^ 32
+  pub few_items : items_of (plan_of bare) + 2 ^ 18 < 2 ^ 32
   few_items =
       let limits = whole.runnable.formed.frame.limits in
       let nodes_few : length core.nodes ≤ MAX_NODES = limits.nodes in
@@ -106,6 +107,21 @@ module _ (core bare : Core) (sides : Sides) (span : ℕ) (state : State) (nodes 
       let wires_same = bare_wires in
       let counted = wires_counted bare in
       omega (arith, nodes_few, wires_few, nodes_same, wires_same, counted)
+
+  -- whatever way the half steps go
+  pub by_paths : (other : Paths) → ArePaths bare other → IsWhole core bare other span state nodes home
+  by_paths other are = record {
+    runnable = whole.runnable;
+    opens = whole.opens;
+    right = whole.right;
+    place = whole.place;
+    wires = whole.wires;
+    begun = whole.begun;
+    paths_are = are;
+    queues = whole.queues;
+    logs = whole.logs;
+    fits = whole.fits;
+  }
 
   pub none_begun : AreUntil 0 nodes
   none_begun n less =
@@ -326,7 +342,7 @@ module _ (core bare : Core) (sides : Sides) (span : ℕ) (state : State) (nodes 
     next_queue : (n : ℕ) → IsInputStream core n → IsQueueFor core span n (slice_index_or (queues_of cells) n (first_view 0 0))
     next_queue n is = subst (IsQueueFor core span n) (sym (queue_same n)) (whole.queues n is)
 
-    pub next_whole : IsWhole core bare sides span next cells wires
+    pub next_whole : IsWhole core bare paths span next cells wires
     next_whole = record {
       runnable = whole.runnable;
       opens = record {
@@ -340,15 +356,15 @@ module _ (core bare : Core) (sides : Sides) (span : ℕ) (state : State) (nodes 
       place = next_place;
       wires = length-map laid begun_wire ∙ laid_long ∙ bare_wires;
       begun = λ n cell at. (let was = was_there begun_cell later n cell at in sym (ap (λ (c : BoxCell). c.time) was.2));
-      sides_are = whole.sides_are;
+      paths_are = whole.paths_are;
       queues = next_queue;
       logs = λ n stream at. ap (λ (l : LogView). l.span) (log_same n (slice_get_within core.nodes n (To stream) at)) ∙ whole.logs n stream at;
       fits = lockstep_state core state whole.fits steps;
     }
 
     pub whole_after : (s : State) (ns : List BoxCell) (hs : List (Option CellView)) → s ≡ next → ns ≡ cells → hs ≡ wires
-        → IsWhole core bare sides span s ns hs
+        → IsWhole core bare paths span s ns hs
     whole_after s ns hs same_state same_nodes same_home =
-        subst (λ x. IsWhole core bare sides span x ns hs) (sym same_state)
-        (subst (λ x. IsWhole core bare sides span next x hs) (sym same_nodes)
-        (subst (λ x. IsWhole core bare sides span next cells x) (sym same_home) next_whole))
+        subst (λ x. IsWhole core bare paths span x ns hs) (sym same_state)
+        (subst (λ x. IsWhole core bare paths span next x hs) (sym same_nodes)
+        (subst (λ x. IsWhole core bare paths span next cells x) (sym same_home) next_whole))

@@ -50,7 +50,8 @@ EndsFill want engine node (Err Failed) = HasReadTooFew want engine node
 
 -- A fill read some bytes of the first port with that name, and the values of their lines come to the node. For every text for
 -- which the queue was right, with these bytes next, it is right again behind them, with these values behind those that it had read.
-pub record FillsNode (want : ℕ) (old new : EngineView) (node : ℕ) (name : List ℕ) (olds news : List PortView) (result : Result (Unit {0}) FillError) : Type 0 where
+pub record FillsNode (want : ℕ) (old new : EngineView) (node : ℕ) (name : List ℕ) (olds news : List PortView)
+    (result : Result (Unit {0}) FillError) : Type 0 where
   pub bytes : List ℕ
   pub values : List Value
   pub reads : ReadsBytes name bytes olds news result

@@ -27,6 +27,8 @@ ghost use Rattle.phase_workers.specs.StreamTypes.{type_at};
 
 use crate::begin::{begin_nodes, begin_wires};
 use crate::making::{make_home, make_nodes};
+use crate::paths::Paths;
+use crate::policy::Policy;
 use crate::seen::{Deed, Seen};
 use crate::stepping::step_all;
 use crate::streams::{clear_cell, drain_cell, fill_cell, rebind_cell};
@@ -41,17 +43,17 @@ use model_bare::bare;
 use std::alloc::{AllocError, Global};
 use std::marker::Model;
 use std::thread::Threads;
-use step_turns::Sides;
-use turn_workers::Gate;
+use step_turns::{Gate, Sides};
 use wire_cells::WireCell;
 use wiring_check::Wiring;
 
-/// The cells of a core's net, each at time 0, with the sides of its nodes. All memory that a run needs is taken when it is made.
+/// The cells of a core's net, each at time 0, with what their half steps go by. All memory that a run needs is taken when it is made, but
+/// for what several workers share.
 #[derive(Drop)]
 pub struct Engine {
     pub(crate) core: Core,
     pub(crate) bare: Core,
-    pub(crate) sides: Sides,
+    pub(crate) paths: Paths,
     pub(crate) nodes: Vec<BoxCell>,
     // at the number of each wire its cell
     pub(crate) home: Vec<Option<WireCell>>,
@@ -73,7 +75,7 @@ impl Model for Engine {
 
     ghost view = { λ a. engine_view a.core a.span a.seen.state a.nodes.items };
 
-    ghost invariant = { λ a. IsWhole a.core a.bare a.sides a.span a.seen.state a.nodes.items a.home.items };
+    ghost invariant = { λ a. IsWhole a.core a.bare a.paths a.span a.seen.state a.nodes.items a.home.items };
 }
 
 impl Engine {
@@ -105,13 +107,15 @@ impl Engine {
     {
         let bare = bare(alloc, &core)?;
         let sides = Sides::make(alloc, &core, wiring)?;
+        let policy = Policy::find(alloc, &core, &programs)?;
+        let paths = Paths::undivided(sides, policy);
         let nodes = make_nodes(alloc, &core, &bare, programs, span)?;
         let home = make_home(alloc, &core)?;
         let seen = Seen::new().then(&Deed::Opened(&core));
         Ok(Engine {
             core,
             bare,
-            sides,
+            paths,
             nodes,
             home,
             span,
@@ -168,8 +172,8 @@ impl Engine {
         rebind_cell(&mut self.nodes[node as usize]);
     }
 
-    /// Makes `steps` supersteps by at most `workers` threads, this one included. Several threads share a table, for which it asks for
-    /// memory. If there is none, or a thread leaves early, this one makes the half steps that are left.
+    /// Makes `steps` supersteps by at most `workers` threads, this one included. Several threads share a table and groups of nodes, for
+    /// which it asks for memory. If there is none, or a thread leaves early, this one makes the half steps that are left.
     pub fn round<R: Threads + Sync, G: Gate>(&mut self, rt: &R, steps: u32, workers: u32, gate: &G)
         requires workers { workers ≤ 2 ^ 16 }
         requires span { steps ≤ span_of self.old }
@@ -181,10 +185,12 @@ impl Engine {
         ensures heap { (n : ℕ) → heap_peak_at self.new n ≡ max (heap_peak_at self.old n) (peaks (core_of self.old) (state_of self.old) steps n).heap }
         ensures stack { (n : ℕ) → stack_peak_at self.new n ≡ max (stack_peak_at self.old n) (peaks (core_of self.old) (state_of self.old) steps n).stack }
     {
+        let alloc = *self.nodes.allocator();
+        let workers = self.paths.choose_workers(alloc, &self.bare, steps, workers);
         step_all(
             rt,
             &self.bare,
-            &self.sides,
+            &self.paths,
             steps,
             workers,
             gate,

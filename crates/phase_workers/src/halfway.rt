@@ -8,12 +8,12 @@ ghost use Rattle.wire_cells.specs.Cells.{Holds};
 
 use crate::begin::{begin_nodes, begin_wires};
 use crate::engine::Engine;
+use crate::paths::Paths;
 use crate::seen::{Deed, Seen};
 use crate::stepping::sweep_all;
 use box_step::nodes::BoxCell;
 use hume_model::Core;
 use std::marker::Model;
-use step_turns::Sides;
 use wire_cells::WireCell;
 
 /// The cells of an engine between the execute steps of a superstep and its super steps, each at time 1.
@@ -21,7 +21,7 @@ use wire_cells::WireCell;
 pub struct Halfway {
     core: Core,
     bare: Core,
-    sides: Sides,
+    paths: Paths,
     nodes: Vec<BoxCell>,
     // at the number of each wire its cell
     home: Vec<Option<WireCell>>,
@@ -42,7 +42,7 @@ impl Model for Halfway {
 
     ghost view = { λ a. midst_view a.core a.span a.seen.state a.nodes.items };
 
-    ghost invariant = { λ a. IsMidst a.core a.bare a.sides a.span a.seen.state a.nodes.items a.home.items };
+    ghost invariant = { λ a. IsMidst a.core a.bare a.paths a.span a.seen.state a.nodes.items a.home.items };
 }
 
 impl Engine {
@@ -61,17 +61,17 @@ impl Engine {
         let Engine {
             core,
             bare,
-            sides,
+            paths,
             mut nodes,
             mut home,
             span,
             seen,
         } = self;
-        sweep_all(&bare, &sides, 0, &mut nodes, &mut home);
+        sweep_all(&bare, &paths.sides, 0, &mut nodes, &mut home);
         Halfway {
             core,
             bare,
-            sides,
+            paths,
             nodes,
             home,
             span,
@@ -99,20 +99,20 @@ impl Halfway {
         let Halfway {
             core,
             bare,
-            sides,
+            paths,
             mut nodes,
             mut home,
             span,
             seen,
         } = self;
-        sweep_all(&bare, &sides, 1, &mut nodes, &mut home);
+        sweep_all(&bare, &paths.sides, 1, &mut nodes, &mut home);
         begin_nodes(&mut nodes);
         begin_wires(&mut home);
         let seen = seen.then(&Deed::Stepped(&core, 1));
         Engine {
             core,
             bare,
-            sides,
+            paths,
             nodes,
             home,
             span,

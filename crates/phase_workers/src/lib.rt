@@ -9,8 +9,10 @@
 //! values come to the node; for every text for which the queue was right it is right again after the bytes that were read
 //! (`FillsNode`). It ends well only where enough values come to the node, or its stream has no more. `Engine::round` makes exactly
 //! the supersteps of the meaning, with peaks of heap and stack that are exactly the most that the steps took. It shares the half
-//! steps among workers, and its clauses hold whatever their number and the interleaving of their steps. If there is no memory for
-//! their table, or a worker leaves early, the calling thread makes the half steps that are left, and no clause changes.
+//! steps among workers, and its clauses hold whatever their number, their shares of the net and the interleaving of their steps. If
+//! there is no memory for what they share, or a worker leaves early, the calling thread makes the half steps that are left, and no
+//! clause changes. The first round has all workers that it may have, but no more than nodes, and later ones as many as an estimate
+//! says that it pays: any number is right, so no clause speaks of it.
 //! `Engine::execute` makes all execute steps of a superstep, and gives a `Halfway` at the state `mid` of the meaning; `super_step`
 //! makes all super steps, and gives an engine at `up` of that state. `Engine::rebind` lets an input stream go on with another port: the
 //! values to come stay, and all else that was read of the old port is forgotten, so that the queue is right for every text of the new
@@ -29,6 +31,8 @@ mod engine;
 mod halfway;
 mod laws;
 mod making;
+mod paths;
+mod policy;
 mod seen;
 mod stepping;
 mod stream_types;

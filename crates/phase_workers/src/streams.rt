@@ -46,7 +46,8 @@ pub(crate) fn fill_cell(
     requires place { at < length ports.old }
     requires queue { (queue : AnyQueue) × (queue_in cell.old.kind ≡ Some queue)
         × (size_of core.now.types (type_at core.now node) ≡ (queue_view queue).width) × (want ≤ (queue_view queue).span) }
-    ensures filled { IsFilled core.now.types (type_at core.now node) want node at cell.old cell.new seen.old.state seen.new.state (map view ports.old) (map view ports.new) result }
+    ensures filled { IsFilled core.now.types (type_at core.now node) want node at cell.old cell.new seen.old.state seen.new.state
+        (map view ports.old) (map view ports.new) result }
     ensures roomy { Roomy (map view ports.old) [] → NoReadFails result }
     ensures same_names { names (map view ports.new) ≡ names (map view ports.old) }
     ensures untouched { ForNameAt at (map view ports.old) (λ name.

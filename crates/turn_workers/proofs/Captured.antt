@@ -8,7 +8,7 @@ use denote.Struct.Struct.{Struct}
 use denote.Struct.Declared.{fields, shape}
 use denote.Struct.Field.{u32-field, u64-field}
 use denote.Struct.Tuple.{TupleAt, type_at}
-use denote.Param.Send.{IsSend, IsSync, AllSend, recorded_send, struct_send, sendable}
+use denote.Param.Send.{IsSend, IsSync, AllSend, AllSync, recorded_send, recorded_sync, struct_send, struct_sync, sendable}
 use Rattle.std.specs.contracts.alloc.Global as global
 use Rattle.std.proofs.Crossing.{crosses}
 use Rattle.hume_base.specs.contracts.list.List as a_list
@@ -23,6 +23,11 @@ use Rattle.atomic_table.specs.contracts.shared.Seat as seat
 use Rattle.atomic_table.proofs.shared.Seat.TheSendSync as seats
 use Rattle.std.specs.contracts.option.Option as option
 use Rattle.turn_workers.specs.contracts.cells.NetCell as net_cell
+use Rattle.turn_workers.specs.contracts.cells.Group as group
+use Rattle.turn_workers.specs.contracts.ways.Ways as ways
+use Rattle.turn_workers.specs.contracts.division.Division as division
+use Rattle.hume_net.specs.contracts.plan.Plan as plan
+use Rattle.superstep_core.specs.contracts.grouping.Grouping as grouping
 use Rattle.turn_workers.specs.contracts.items.Item as item
 use Rattle.turn_workers.proofs.CellsCross.{cell_field_send, cell_field_sync}
 
@@ -30,11 +35,35 @@ pub sides_sync : IsSync sides.the_row
 sides_sync = let n : IsSync (a_list.the_row (UInt w32)) = list.the_sync (UInt w32) (search sendable) in
     let l : IsSync (a_list.the_row (a_list.the_row (UInt w32))) = list.the_sync (a_list.the_row (UInt w32)) n in search sendable depth 20
 
+plan_sync : IsSync (plan.the_field).row
+plan_sync = let n : IsSync (a_list.the_row (UInt w32)) = list.the_sync (UInt w32) (search sendable) in search sendable depth 20
+
+grouping_sync : IsSync (grouping.the_field).row
+grouping_sync = let n : IsSync (a_list.the_row (UInt w32)) = list.the_sync (UInt w32) (search sendable) in search sendable depth 20
+
+ways_sync : IsSync (ways.the_field).row
+ways_sync = let n : IsSync (a_list.the_row (UInt w32)) = list.the_sync (UInt w32) (search sendable) in
+    let l : IsSync (a_list.the_row (a_list.the_row (UInt w32))) = list.the_sync (a_list.the_row (UInt w32)) n in search sendable depth 20
+
+pub division_sync : IsSync division.the_row
+division_sync =
+    let n : IsSync (a_list.the_row (UInt w32)) = list.the_sync (UInt w32) (search sendable) in
+    let all : AllSync ((plan.the_field).row ∷ (grouping.the_field).row ∷ (ways.the_field).row ∷ a_list.the_row (UInt w32) ∷ []) =
+    (plan_sync, (grouping_sync, (ways_sync, (n, tt)))) in
+    let T = division.the_type in
+    recorded_sync (Struct (shape T)) T.D T.to T.to_one (struct_sync (shape T) all)
+
+pub group_send : IsSend (group.the_field).row
+group_send = let c = cell_field_send in let w = wires.the_send in search (sendable, crosses) depth 20
+
+pub group_sync : IsSync (group.the_field).row
+group_sync = let c = cell_field_sync in let w = wires.the_sync in search (sendable, crosses) depth 20
+
 pub net_cell_send : IsSend (net_cell.the_field).row
-net_cell_send = let c = cell_field_send in let w = wires.the_send in search sendable depth 20
+net_cell_send = let c = group_send in let w = wires.the_send in search sendable depth 20
 
 pub net_cell_sync : IsSync (net_cell.the_field).row
-net_cell_sync = let c = cell_field_sync in let w = wires.the_sync in search sendable depth 20
+net_cell_sync = let c = group_sync in let w = wires.the_sync in search sendable depth 20
 
 pub item_send : (O : RattleType) → IsSend O → IsSend (item.the_row O)
 item_send O s = let c = net_cell_send in search sendable depth 20

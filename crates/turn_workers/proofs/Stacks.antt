@@ -1,40 +1,20 @@
 -- What a seat holds on its way through a side, and what it may pass and put back there.
-use Rattle.std.proofs.Common.{◌≡◌, ◌≢◌, ℕ, zero, suc, true, false, ◌+◌, ◌-◌, ◌<◌, List, [], ◌∷◌, drop, length, get_or, Some, sym, refl, ap, ◌∙◌, subst, eq-eqb, ne_eqb, arith}
+use Rattle.std.proofs.Common.{◌≡◌, ◌≢◌, ℕ, zero, suc, Bool, true, false, if◌then◌else◌, ◌+◌, ◌-◌, ◌<◌, List, [], ◌∷◌, drop, length, get_or, sym, refl, ap, ◌∙◌, subst, eq-eqb, ne_eqb, arith}
 use mathlib.Core.Logic.{dite}
 use mathlib.Core.Option.{none, some, some-ne-none}
 use native.Mathlib.Decide.{ℕ_discrete, dec_le}
 use Rattle.std.specs.Prelude.{slice_index}
 use Rattle.std.proofs.lemmas.List.{get_or-drop, length-drop}
-use Rattle.std.proofs.lemmas.Option.{slice_get-get_or, slice_get_within, get_or_from_slice_get}
-use Rattle.std.proofs.Math.Seq.{drop-cons}
-use Rattle.hume_model.specs.declared.core_tree.Core.{Core}
+use Rattle.std.proofs.Math.Seq.{drop-cons, drop-length}
 use Rattle.hume_net.specs.declared.plan.Plan.{Plan}
-use Rattle.hume_net.specs.Plan.{plan_of}
-use Rattle.hume_net.specs.Times.{mover, IsOfSide}
-use Rattle.step_turns.specs.Rounds.{IsWholeSide}
-use Rattle.step_turns.proofs.OneTurn.{is_of_side}
-use Rattle.step_turns.proofs.Turning.{side_apart}
+use Rattle.hume_net.specs.Times.{mover}
 use Rattle.turn_locker.specs.declared.view.View.{View}
 use Rattle.turn_locker.specs.Asking.{MayPassNode, MayPassWire, MayPutBack}
 use Rattle.turn_locker.specs.Held.{held_at, without, has_pair, pairs_but}
 use Rattle.turn_locker.specs.Views.{passes, puts_back}
 use Rattle.turn_locker.proofs.Callers.{passed_node, passed_wire}
 use Rattle.turn_locker.proofs.Updates.{held_here, held_else, pair_here, or_right}
-use Rattle.turn_workers.specs.inner.Stacks.{stack, pairs_of}
-
--- the wires of the side of a node, each once
-pub record IsSide (plan : Plan) (time node : ℕ) (side : List ℕ) : Type 0 where
-  pub of_side : (k : ℕ) → k < length side → IsOfSide plan time node (slice_index side k)
-  pub all : (w : ℕ) → IsOfSide plan time node w → (k : ℕ) × (k < length side) × (slice_index side k ≡ w)
-  pub once : (j k : ℕ) → j < length side → k < length side → slice_index side j ≡ slice_index side k → j ≡ k
-
-pub plain_side : (core : Core) (n time room : ℕ) (side : List ℕ) → IsWholeSide core n time room side → IsSide (plan_of core) time n side
-plain_side core n time room side whole = record {
-  of_side = λ k near. is_of_side core n time side whole.is k (slice_index side k) (slice_get-get_or side k 0 near);
-  all = λ w is. let place = whole.all w is in (place.0, slice_get_within side place.0 w place.1, get_or_from_slice_get side place.0 w 0 place.1);
-  once = λ j k near far same. (side_apart core n time side whole.is).once j k (slice_index side k)
-      (slice_get-get_or side j 0 near ∙ ap (λ w. Some w) same) (slice_get-get_or side k 0 far);
-}
+use Rattle.turn_workers.specs.inner.Stacks.{IsSide, stack, pairs_of}
 
 pub without_absent : (i : ℕ) (hs : List (ℕ × ℕ)) → held_at i hs ≡ none → without i hs ≡ hs
 without_absent i [] gone = refl
@@ -180,3 +160,9 @@ module _ (plan : Plan) (node t : ℕ) (side : List ℕ) (lt : node < plan.nodes)
 
     pub no_pairs : (new : View) → new ≡ passes plan node (time - 1) v → new.passed ≡ []
     no_pairs new view = ap (λ (x : View). x.passed) view ∙ (passed_node plan node (time - 1) v.passed lt ∙ (ap (pairs_but node) passed ∙ but_all node side))
+
+-- where the half steps were made, the whole side was claimed, so no wire of it was passed yet
+pub none_passed : (number claimed : ℕ) (side : List ℕ) (made : Bool) (pairs : List (ℕ × ℕ)) → (made ≡ true → claimed ≡ length side) → pairs ≡ []
+    → pairs ≡ (if made then pairs_of number (drop claimed side) else [])
+none_passed number claimed side true pairs whole empty = empty ∙ sym (ap (λ k. pairs_of number (drop k side)) (whole refl) ∙ ap (pairs_of number) (drop-length side))
+none_passed number claimed side false pairs whole empty = empty

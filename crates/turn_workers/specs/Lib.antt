@@ -1,2 +1,5 @@
+pub mod Members
 pub mod Items
+pub mod Ways
+pub mod Divisions
 pub mod inner

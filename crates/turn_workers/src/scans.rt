@@ -1,148 +1,376 @@
-//! A worker: it goes over its share of the nodes again and again, and makes each half step that it can; where there is none, it helps
+//! A worker: it goes over its share of the groups again and again, and makes each half step that it can; where there is none, it helps
 //! with the others.
-ghost use Rattle.std.specs.Prelude.{◌≡◌, ◌+◌, ◌*◌, ◌<◌, ◌≤◌, ℕ, length, Some, slice_get, vec_len, vec_capacity};
-ghost use Rattle.hume_model.specs.declared.core_tree.Core.{Core as AnyCore};
-ghost use Rattle.step_turns.specs.Rounds.{AreSides, IsWholeSide};
+ghost use Rattle.std.specs.Prelude.{◌≡◌, ◌+◌, ◌*◌, ◌<◌, ◌≤◌, ℕ, IfSome, length, Some, slice_get};
+ghost use Rattle.hume_net.specs.declared.plan.Plan.{Plan as AnyPlan};
+ghost use Rattle.hume_net.specs.Plan.{wires_of};
+ghost use Rattle.step_turns.specs.Rounds.{AreSides};
 ghost use Rattle.turn_locker.specs.Seats.{view_of};
-ghost use Rattle.turn_workers.specs.inner.Rounds.{IsIdle, IsShared};
+ghost use Rattle.turn_workers.specs.Ways.{AreWays};
+ghost use Rattle.turn_workers.specs.inner.Rounds.{IsIdle, IsOfGroups, IsShared};
+ghost use Rattle.turn_workers.specs.inner.Stacks.{IsSide};
 
-use crate::gate::Gate;
+use crate::division::Division;
 use crate::items::{Item, Opens};
 use crate::turns::try_turn;
+use crate::ways::Ways;
 use hume_base::List;
 use hume_model::Core;
+use std::hint::spin_loop;
 use std::thread::yield_now;
-use step_turns::Sides;
+use step_turns::{Gate, Sides};
+use superstep_core::Grouping;
 use turn_locker::{Locker, Seat};
-use wire_cells::WireCell;
 
 // After so many scans in a row without a half step a worker leaves: some tens of milliseconds, where the longest half step of a box takes
 // less than ten.
 const IDLE_SCANS: u32 = 65_536;
 
-// What a scan found.
+// After so many scans in a row without a half step it only pauses, and then it lets other threads run.
+const PAUSES: u32 = 200;
+
+// One scan of so many without a half step looks at the groups of others.
+const LOOKS: u32 = 16;
+
+// The most half steps that a worker makes of one group before it looks at the others.
+const TURNS: u32 = 32;
+
+// What was found of some groups.
 #[derive(Clone, Copy)]
-struct Found {
-    // how many half steps it made
-    made: u32,
-    // some node was before the end
+enum Found {
+    // half steps were made
+    Made,
+    // none could be made, and some group is before the end
+    Waiting,
+    // all are at the end
+    AtEnd,
+}
+
+// The group that is furthest behind of those that were looked at and whose side is ready.
+#[derive(Clone, Copy)]
+struct Behind {
+    group: Option<u32>,
+    time: u64,
+    // some group is before the end
     before_end: bool,
 }
 
-/// Makes half steps of its own share of the nodes, from `first` to `last`, as long as there are any to make, and else one of another
-/// node. It leaves when a look at all nodes finds all at the end, or after too many in a row without a half step.
+/// The groups of a worker: those from `first` up to `last`.
+#[derive(Clone, Copy)]
+pub(crate) struct Share {
+    pub first: u32,
+    pub last: u32,
+}
+
+/// Makes half steps of its own share of the groups, as long as there are any to make. Where it has found none for some scans, it makes
+/// those of the group that is furthest behind. It leaves when all groups are at the end, or after too many scans without a half step.
 pub(crate) fn work<O: Opens, G: Gate>(
     core: &Core,
     sides: &Sides,
     gate: &G,
+    division: &Division,
     locker: &Locker<Item<O>>,
     mut seat: Seat<Item<O>>,
-    bench: &mut Vec<Option<WireCell>>,
-    nodes: u32,
     steps: u32,
-    first: u32,
-    last: u32,
+    share: Share,
 ) -> Seat<Item<O>>
-    requires shared { IsShared O.opened O.nodes O.steps core.now locker.now }
-    requires nodes { (nodes ≡ O.nodes) × (steps ≡ O.steps) × (first ≤ last) × (last ≤ nodes) }
-    requires sides { AreSides core.now (vec_capacity bench.old) sides.now }
-    requires bench { vec_len bench.old ≡ 0 }
+    requires shared { IsShared O.opened O.plan O.grouping O.steps core.now locker.now }
+    requires shape { (division.now.groups ≡ O.grouping) × (steps ≡ O.steps) }
+    requires sides { ((room : ℕ) × AreSides core.now room sides.now) × AreWays locker.now.plan division.now.ways }
+    requires share { (share.first ≤ share.last) × (share.last ≤ O.grouping.count) }
     requires idle { IsIdle locker.now seat }
     ensures idle { IsIdle locker.now result }
     ensures share { (view_of result).share ≡ (view_of seat).share }
 {
-    let mut idle = 0;
+    let mut idle = 0u32;
     for _ in 0..u64::MAX {
-        let own = scan(
-            core,
-            sides,
-            gate,
-            locker,
-            &mut seat,
-            bench,
-            nodes,
-            steps,
-            first,
-            last - first,
-            u32::MAX,
+        let found = scan(
+            core, sides, gate, division, locker, &mut seat, steps, share, idle,
         );
-        if own.made > 0 {
-            idle = 0;
-            continue;
-        }
-        let all = scan(
-            core, sides, gate, locker, &mut seat, bench, nodes, steps, last, nodes, 1,
-        );
-        if !all.before_end || idle >= IDLE_SCANS {
-            return seat;
-        }
-        if all.made > 0 {
-            idle = 0;
-        } else {
-            idle += 1;
-            yield_now();
+        match found {
+            Found::Made => idle = 0,
+            Found::AtEnd => return seat,
+            Found::Waiting => {
+                if idle >= IDLE_SCANS {
+                    return seat;
+                }
+                idle += 1;
+                pause(idle);
+            }
         }
     }
     seat
 }
 
-// Goes over so many nodes, from `first` on, until it has made `most` half steps.
+// Lets a moment pass.
+fn pause(idle: u32) {
+    if idle < PAUSES {
+        spin_loop();
+    } else {
+        yield_now();
+    }
+}
+
+// One scan of the worker's own groups and, now and then, a look at all groups where it makes none of its own.
 fn scan<O: Opens, G: Gate>(
     core: &Core,
     sides: &Sides,
     gate: &G,
+    division: &Division,
     locker: &Locker<Item<O>>,
     seat: &mut Seat<Item<O>>,
-    bench: &mut Vec<Option<WireCell>>,
-    nodes: u32,
     steps: u32,
-    first: u32,
-    count: u32,
-    most: u32,
+    share: Share,
+    idle: u32,
 ) -> Found
-    requires shared { IsShared O.opened O.nodes O.steps core.now locker.now }
-    requires nodes { (nodes ≡ O.nodes) × (steps ≡ O.steps) × (first ≤ nodes) × (count ≤ nodes) }
-    requires sides { AreSides core.now (vec_capacity bench.old) sides.now }
-    requires bench { vec_len bench.old ≡ 0 }
+    requires shared { IsShared O.opened O.plan O.grouping O.steps core.now locker.now }
+    requires shape { (division.now.groups ≡ O.grouping) × (steps ≡ O.steps) }
+    requires sides { ((room : ℕ) × AreSides core.now room sides.now) × AreWays locker.now.plan division.now.ways }
+    requires share { (share.first ≤ share.last) × (share.last ≤ O.grouping.count) }
     requires idle { IsIdle locker.now seat.old }
     ensures idle { IsIdle locker.now seat.new }
     ensures share { (view_of seat.new).share ≡ (view_of seat.old).share }
-    ensures bench { (vec_len bench.new ≡ 0) × (vec_capacity bench.new ≡ vec_capacity bench.old) }
 {
-    let mut found = Found {
-        made: 0,
+    let own = run_own(core, sides, gate, division, locker, seat, steps, share);
+    match own {
+        Found::Made => own,
+        Found::Waiting if idle % LOOKS != LOOKS - 1 => own,
+        _ => help(core, sides, gate, division, locker, seat, steps),
+    }
+}
+
+// Makes half steps of the group that is furthest behind.
+fn help<O: Opens, G: Gate>(
+    core: &Core,
+    sides: &Sides,
+    gate: &G,
+    division: &Division,
+    locker: &Locker<Item<O>>,
+    seat: &mut Seat<Item<O>>,
+    steps: u32,
+) -> Found
+    requires shared { IsShared O.opened O.plan O.grouping O.steps core.now locker.now }
+    requires shape { (division.now.groups ≡ O.grouping) × (steps ≡ O.steps) }
+    requires sides { ((room : ℕ) × AreSides core.now room sides.now) × AreWays locker.now.plan division.now.ways }
+    requires idle { IsIdle locker.now seat.old }
+    ensures idle { IsIdle locker.now seat.new }
+    ensures share { (view_of seat.new).share ≡ (view_of seat.old).share }
+{
+    let behind = furthest_behind(division, locker, seat, steps);
+    match behind.group {
+        Some(group) => run(core, sides, gate, division, locker, seat, steps, group),
+        None if behind.before_end => Found::Waiting,
+        None => Found::AtEnd,
+    }
+}
+
+fn furthest_behind<O: Opens>(
+    division: &Division,
+    locker: &Locker<Item<O>>,
+    seat: &mut Seat<Item<O>>,
+    steps: u32,
+) -> Behind
+    requires of { IsOfGroups O.plan O.grouping locker.now × (division.now.groups ≡ O.grouping) }
+    requires ways { AreWays locker.now.plan division.now.ways }
+    requires idle { IsIdle locker.now seat.old }
+    ensures group { IfSome result.group (λ group. group < O.grouping.count) }
+    ensures idle { IsIdle locker.now seat.new }
+    ensures share { (view_of seat.new).share ≡ (view_of seat.old).share }
+{
+    let mut behind = Behind {
+        group: None,
+        time: u64::MAX,
         before_end: false,
     };
-    for i in 0..count {
-        if found.made >= most {
-            return found;
-        }
-        let node = if i < nodes - first {
-            first + i
-        } else {
-            i - (nodes - first)
+    for group in 0..division.groups.count {
+        behind = look_behind(division, locker, seat, steps, group, behind);
+    }
+    behind
+}
+
+// What is behind once the group was looked at too.
+fn look_behind<O: Opens>(
+    division: &Division,
+    locker: &Locker<Item<O>>,
+    seat: &mut Seat<Item<O>>,
+    steps: u32,
+    group: u32,
+    behind: Behind,
+) -> Behind
+    requires of { IsOfGroups O.plan O.grouping locker.now × (division.now.groups ≡ O.grouping) }
+    requires ways { AreWays locker.now.plan division.now.ways }
+    requires group { group < O.grouping.count }
+    requires behind { IfSome behind.group (λ group. group < O.grouping.count) }
+    requires idle { IsIdle locker.now seat.old }
+    ensures group { IfSome result.group (λ group. group < O.grouping.count) }
+    ensures idle { IsIdle locker.now seat.new }
+    ensures share { (view_of seat.new).share ≡ (view_of seat.old).share }
+{
+    let time = look(&division.groups, locker, seat, group);
+    if time >= 2 * steps as u64 {
+        return behind;
+    }
+    let side = side_of(&division.ways, group as usize, time);
+    if time >= behind.time || !is_ready(&division.groups, locker, seat, side, time) {
+        return Behind {
+            before_end: true,
+            ..behind
         };
-        let time = locker.time_of(seat, node);
-        if time < 2 * steps as u64 {
-            found.before_end = true;
-            let side = side_of(sides, node as usize, time);
-            if try_turn(core, gate, locker, seat, bench, nodes, node, side, time) {
-                found.made = found.made.saturating_add(1);
-            }
-        }
+    }
+    Behind {
+        group: Some(group),
+        time,
+        before_end: true,
+    }
+}
+
+// Goes over a worker's own groups.
+fn run_own<O: Opens, G: Gate>(
+    core: &Core,
+    sides: &Sides,
+    gate: &G,
+    division: &Division,
+    locker: &Locker<Item<O>>,
+    seat: &mut Seat<Item<O>>,
+    steps: u32,
+    share: Share,
+) -> Found
+    requires shared { IsShared O.opened O.plan O.grouping O.steps core.now locker.now }
+    requires shape { (division.now.groups ≡ O.grouping) × (steps ≡ O.steps) }
+    requires sides { ((room : ℕ) × AreSides core.now room sides.now) × AreWays locker.now.plan division.now.ways }
+    requires share { (share.first ≤ share.last) × (share.last ≤ O.grouping.count) }
+    requires idle { IsIdle locker.now seat.old }
+    ensures idle { IsIdle locker.now seat.new }
+    ensures share { (view_of seat.new).share ≡ (view_of seat.old).share }
+{
+    let mut found = Found::AtEnd;
+    for group in share.first..share.last {
+        let one = run(core, sides, gate, division, locker, seat, steps, group);
+        found = found_of_both(found, one);
     }
     found
 }
 
-// The wires of a node's side at a time.
-fn side_of(sides: &Sides, n: usize, time: u64) -> &[u32]
-    requires { (core : AnyCore) × (room : ℕ) × AreSides core room sides.now × (n < length core.nodes) }
-    ensures { (core : AnyCore) (room : ℕ) → AreSides core room sides.now → n < length core.nodes → IsWholeSide core n time room result.now }
+fn found_of_both(some: Found, others: Found) -> Found {
+    match (some, others) {
+        (Found::Made, _) | (_, Found::Made) => Found::Made,
+        (Found::Waiting, _) | (_, Found::Waiting) => Found::Waiting,
+        (Found::AtEnd, Found::AtEnd) => Found::AtEnd,
+    }
+}
+
+// Makes half steps of one group as long as its side is ready.
+fn run<O: Opens, G: Gate>(
+    core: &Core,
+    sides: &Sides,
+    gate: &G,
+    division: &Division,
+    locker: &Locker<Item<O>>,
+    seat: &mut Seat<Item<O>>,
+    steps: u32,
+    number: u32,
+) -> Found
+    requires shared { IsShared O.opened O.plan O.grouping O.steps core.now locker.now }
+    requires shape { (division.now.groups ≡ O.grouping) × (steps ≡ O.steps) }
+    requires sides { ((room : ℕ) × AreSides core.now room sides.now) × AreWays locker.now.plan division.now.ways }
+    requires group { number < O.grouping.count }
+    requires idle { IsIdle locker.now seat.old }
+    ensures idle { IsIdle locker.now seat.new }
+    ensures share { (view_of seat.new).share ≡ (view_of seat.old).share }
+{
+    let mut found = Found::Waiting;
+    for _ in 0..TURNS {
+        let time = look(&division.groups, locker, seat, number);
+        if time >= 2 * steps as u64 {
+            return match found {
+                Found::Waiting => Found::AtEnd,
+                _ => found,
+            };
+        }
+        let side = side_of(&division.ways, number as usize, time);
+        if !is_ready(&division.groups, locker, seat, side, time) {
+            return found;
+        }
+        if !try_turn(
+            core,
+            sides,
+            gate,
+            &division.groups,
+            locker,
+            seat,
+            number,
+            side,
+            time,
+        ) {
+            return found;
+        }
+        found = Found::Made;
+    }
+    found
+}
+
+// The time of a group, by one load.
+fn look<O: Opens>(
+    shape: &Grouping,
+    locker: &Locker<Item<O>>,
+    seat: &mut Seat<Item<O>>,
+    number: u32,
+) -> u64
+    requires of { IsOfGroups O.plan O.grouping locker.now × (shape.now ≡ O.grouping) }
+    requires group { number < O.grouping.count }
+    requires idle { IsIdle locker.now seat.old }
+    ensures idle { IsIdle locker.now seat.new }
+    ensures share { (view_of seat.new).share ≡ (view_of seat.old).share }
+{
+    let _shape = shape;
+    locker.time_of(seat, number)
+}
+
+// Whether all wires of a side had the time, each when it was looked at.
+fn is_ready<O: Opens>(
+    shape: &Grouping,
+    locker: &Locker<Item<O>>,
+    seat: &mut Seat<Item<O>>,
+    side: &[u32],
+    time: u64,
+) -> bool
+    requires of { IsOfGroups O.plan O.grouping locker.now × (shape.now ≡ O.grouping) }
+    requires side { (k w : ℕ) → slice_get side.now k ≡ Some w → w < wires_of locker.now.plan }
+    requires idle { IsIdle locker.now seat.old }
+    ensures idle { IsIdle locker.now seat.new }
+    ensures share { (view_of seat.new).share ≡ (view_of seat.old).share }
+{
+    for k in 0..side.len() {
+        if look_at(shape, locker, seat, side[k]) != time {
+            return false;
+        }
+    }
+    true
+}
+
+fn look_at<O: Opens>(
+    shape: &Grouping,
+    locker: &Locker<Item<O>>,
+    seat: &mut Seat<Item<O>>,
+    wire: u32,
+) -> u64
+    requires of { IsOfGroups O.plan O.grouping locker.now × (shape.now ≡ O.grouping) }
+    requires wire { wire < wires_of locker.now.plan }
+    requires idle { IsIdle locker.now seat.old }
+    ensures idle { IsIdle locker.now seat.new }
+    ensures share { (view_of seat.new).share ≡ (view_of seat.old).share }
+{
+    locker.time_of(seat, shape.count + wire)
+}
+
+// The wires of a group's side at a time.
+fn side_of(ways: &Ways, n: usize, time: u64) -> &[u32]
+    requires { (plan : AnyPlan) × AreWays plan ways.now × (n < plan.nodes) }
+    ensures { (plan : AnyPlan) → AreWays plan ways.now → n < plan.nodes → IsSide plan time n result.now }
 {
     if time % 2 == 0 {
-        row_of(&sides.inputs, n)
+        row_of(&ways.inputs, n)
     } else {
-        row_of(&sides.outputs, n)
+        row_of(&ways.outputs, n)
     }
 }
 

@@ -1,232 +1,318 @@
-//! The half step of one node between cells that one worker has claimed.
-ghost use Rattle.std.specs.Prelude.{◌≡◌, ◌+◌, ◌-◌, ◌*◌, ◌<◌, ◌≤◌, ◌%◌, ◌^◌, [], ◌∷◌, ◌++◌, drop, length, if◌then◌else◌, IfSome, IfNone, Some, vec_len, vec_capacity};
+//! The half step of one group.
+ghost use Rattle.std.specs.Prelude.{◌≡◌, ◌+◌, ◌-◌, ◌*◌, ◌<◌, ◌≤◌, ◌^◌, ℕ, [], drop, length, if◌then◌else◌, IfSome, IfNone, IsTrue, IsFalse, None, Option, Some, slice_get, slice_index, slice_set, vec_len};
 ghost use Rattle.wire_cells.specs.Cells.{CellView};
-ghost use Rattle.box_step.specs.nodes.Openings.{Opening, IsOpeningOf};
-ghost use Rattle.box_step.specs.nodes.Right.{AreRight, HasRoom};
-ghost use Rattle.box_step.specs.nodes.Sides.{AreInputs, AreOutputs, AreTicked};
-ghost use Rattle.hume_net.specs.Plan.{wires_of};
-ghost use Rattle.step_turns.specs.Rounds.{HaveSpan, IsWholeSide};
+ghost use Rattle.step_turns.specs.Rounds.{AreSides};
 ghost use Rattle.turn_locker.specs.Asking.{MayPassNode, MayPassWire, MayPutBack};
-ghost use Rattle.turn_locker.specs.Held.{items_of};
 ghost use Rattle.turn_locker.specs.Seats.{IsSeatOf, view_of};
 ghost use Rattle.turn_locker.specs.Views.{claims, passes, puts_back};
-ghost use Rattle.turn_workers.specs.Items.{IsNodeRight, IsWireRight};
-ghost use Rattle.turn_workers.specs.inner.Rounds.{IsIdle, IsShared};
-ghost use Rattle.turn_workers.specs.inner.Benches.{AreHeld, ArePlaces, IsFull, cells_on};
-ghost use Rattle.turn_workers.specs.inner.Stacks.{AreAlike, pairs_of, stack};
+ghost use Rattle.turn_workers.specs.Items.{IsGroupRight, IsWireRight};
+ghost use Rattle.turn_workers.specs.inner.Rounds.{IsIdle, IsOfGroups, IsShared};
+ghost use Rattle.turn_workers.specs.inner.Halves.{IsHeld};
+ghost use Rattle.turn_workers.specs.inner.Stacks.{AreAlike, IsSide, pairs_of, stack};
 
-use crate::gate::Gate;
+use crate::cells::Group;
+use crate::halves::step_group;
 use crate::items::{Item, Opens};
-use box_step::nodes::BoxCell;
 use hume_model::Core;
+use step_turns::{Gate, Sides};
+use superstep_core::Grouping;
 use turn_locker::{Locker, Seat};
 use wire_cells::WireCell;
 
-// The numbers of all places that a bench may have: no node has more inputs, or more outputs.
-const PLACES: [u32; 16] = [0, 1, 2, 3, 4, 5, 6, 7, 8, 9, 10, 11, 12, 13, 14, 15];
-
-/// Makes the half step of a node at a time, if the node and the wires of its side are at home at that time. The bench is empty before
-/// and afterwards.
+/// Makes the half step of a group at a time, if the group and the wires of its side are at home at that time.
 pub(crate) fn try_turn<O: Opens, G: Gate>(
     core: &Core,
+    sides: &Sides,
     gate: &G,
+    shape: &Grouping,
     locker: &Locker<Item<O>>,
     seat: &mut Seat<Item<O>>,
-    bench: &mut Vec<Option<WireCell>>,
-    nodes: u32,
-    node: u32,
+    number: u32,
     side: &[u32],
     time: u64,
 ) -> bool
-    requires shared { IsShared O.opened O.nodes O.steps core.now locker.now }
-    requires nodes { nodes ≡ O.nodes }
+    requires shared { IsShared O.opened O.plan O.grouping O.steps core.now locker.now }
+    requires shape { shape.now ≡ O.grouping }
+    requires sides { (room : ℕ) × AreSides core.now room sides.now }
     requires idle { IsIdle locker.now seat.old }
-    requires bench { vec_len bench.old ≡ 0 }
-    requires node { node < O.nodes }
-    requires side { IsWholeSide core.now node time (vec_capacity bench.old) side.now }
+    requires number { number < O.grouping.count }
+    requires side { IsSide locker.now.plan time number side.now }
     requires time { time < 2 * O.steps }
     ensures idle { IsIdle locker.now seat.new }
     ensures share { (view_of seat.new).share ≡ (view_of seat.old).share }
-    ensures bench { (vec_len bench.new ≡ 0) × (vec_capacity bench.new ≡ vec_capacity bench.old) }
 {
-    let Some(mut cell) = claim_node(locker, seat, node, time) else {
+    let Some(mut group) = claim_group(locker, seat, number, time) else {
         return false;
     };
-    let made = turn_wires(core, gate, locker, seat, bench, nodes, &mut cell, side);
+    let made = turn_wires(core, sides, gate, shape, locker, seat, &mut group, side);
     if made {
-        pass_node(locker, seat, cell);
+        pass_group(locker, seat, group);
     } else {
-        put_node_back(locker, seat, cell);
+        put_group_back(locker, seat, group);
     }
     made
 }
 
-// Claims the wires of the side from the place on that the bench has reached. Where it gets them all it makes the half step, and passes
-// them; else it puts back what it has claimed.
+// Claims the wires of the side. Where it gets them all it makes the half steps of the members and passes the wires; else it puts back
+// what it has claimed.
 fn turn_wires<O: Opens, G: Gate>(
     core: &Core,
+    sides: &Sides,
     gate: &G,
+    shape: &Grouping,
     locker: &Locker<Item<O>>,
     seat: &mut Seat<Item<O>>,
-    bench: &mut Vec<Option<WireCell>>,
-    nodes: u32,
-    node: &mut BoxCell,
+    group: &mut Group,
     side: &[u32],
 ) -> bool
-    requires shared { IsShared O.opened O.nodes O.steps core.now locker.now }
-    requires nodes { nodes ≡ O.nodes }
+    requires shared { IsShared O.opened O.plan O.grouping O.steps core.now locker.now }
+    requires shape { shape.now ≡ O.grouping }
+    requires sides { (room : ℕ) × AreSides core.now room sides.now }
     requires own { IsSeatOf locker.now seat.old }
-    requires held { (view_of seat.old).held ≡ stack O.nodes node.old.number node.old.time side.now (vec_len bench.old) }
+    requires held { (view_of seat.old).held ≡ stack O.grouping.count group.old.number group.old.time side.now 0 }
     requires passed { (view_of seat.old).passed ≡ [] }
-    requires side { IsWholeSide core.now node.old.number node.old.time (vec_capacity bench.old) side.now }
-    requires bench { AreHeld O.opened side.now node.old.time bench.old.items × (vec_len bench.old ≤ length side.now) }
-    requires node { IsNodeRight O.opened O.nodes O.steps node.old }
-    requires time { node.old.time < 2 * O.steps }
+    requires side { IsSide locker.now.plan group.old.time group.old.number side.now }
+    requires group { IsHeld O.opened O.plan O.grouping O.steps side.now 0 group.old.number group.old.time group.old.members.items group.old.home.items }
+    requires time { group.old.time < 2 * O.steps }
     ensures own { IsSeatOf locker.now seat.new }
     ensures held { (view_of seat.new).held ≡ (view_of seat.old).held }
-    ensures passed { (view_of seat.new).passed ≡ (if result then pairs_of node.old.number (drop (vec_len bench.old) side.now) else []) }
+    ensures passed { (view_of seat.new).passed ≡ (if result then pairs_of group.old.number side.now else []) }
     ensures share { (view_of seat.new).share ≡ (view_of seat.old).share }
-    ensures bench { AreHeld O.opened side.now node.new.time bench.new.items × (vec_len bench.new ≡ vec_len bench.old)
-        × (vec_capacity bench.new ≡ vec_capacity bench.old) }
-    ensures node { IsNodeRight O.opened O.nodes O.steps node.new × (node.new.number ≡ node.old.number) }
-    ensures time { node.new.time ≡ (if result then node.old.time + 1 else node.old.time) }
+    ensures group { IsHeld O.opened O.plan O.grouping O.steps side.now 0 group.new.number group.new.time group.new.members.items group.new.home.items }
+    ensures number { group.new.number ≡ group.old.number }
+    ensures time { group.new.time ≡ (if result then group.old.time + 1 else group.old.time) }
 {
-    let place = bench.len();
-    if place == side.len() {
-        step_held::<O, G>(core, gate, node, bench, side);
-        return true;
-    }
-    let Some(cell) = claim_wire(locker, seat, nodes, side[place], node.time()) else {
-        return false;
-    };
-    bench.push_reserved(Some(cell));
-    let made = turn_wires(core, gate, locker, seat, bench, nodes, node, side);
-    let cell = take_top(bench);
-    if made {
-        pass_wire(locker, seat, nodes, cell);
-    } else {
-        put_wire_back(locker, seat, nodes, cell);
-    }
+    let time = group.time;
+    let claimed = claim_side(locker, seat, shape, group, side);
+    let made = step_if_held::<O, G>(core, sides, gate, locker, group, side, claimed);
+    let_go_side(locker, seat, shape, group, side, claimed, time, made);
     made
 }
 
-// The cell on top of a bench on which there is a cell in each place.
-fn take_top(bench: &mut Vec<Option<WireCell>>) -> WireCell
-    requires full { IsFull bench.old.items }
-    requires some { 0 < vec_len bench.old }
-    ensures top { bench.old.items ≡ bench.new.items ++ Some result ∷ [] }
-    ensures long { vec_len bench.old ≡ vec_len bench.new + 1 }
-    ensures capacity { vec_capacity bench.new ≡ vec_capacity bench.old }
+// Claims the wires of a side in order, as many as are at home at the group's time, and tells how many.
+fn claim_side<O: Opens>(
+    locker: &Locker<Item<O>>,
+    seat: &mut Seat<Item<O>>,
+    shape: &Grouping,
+    group: &mut Group,
+    side: &[u32],
+) -> usize
+    requires of { IsOfGroups O.plan O.grouping locker.now }
+    requires shape { shape.now ≡ O.grouping }
+    requires own { IsSeatOf locker.now seat.old }
+    requires held { (view_of seat.old).held ≡ stack O.grouping.count group.old.number group.old.time side.now 0 }
+    requires side { IsSide locker.now.plan group.old.time group.old.number side.now }
+    requires group { IsHeld O.opened O.plan O.grouping O.steps side.now 0 group.old.number group.old.time group.old.members.items group.old.home.items }
+    ensures few { result ≤ length side.now }
+    ensures own { IsSeatOf locker.now seat.new }
+    ensures held { (view_of seat.new).held ≡ stack O.grouping.count group.old.number group.old.time side.now result }
+    ensures passed { (view_of seat.new).passed ≡ (view_of seat.old).passed }
+    ensures share { (view_of seat.new).share ≡ (view_of seat.old).share }
+    ensures group { IsHeld O.opened O.plan O.grouping O.steps side.now result group.new.number group.new.time group.new.members.items
+        group.new.home.items }
+    ensures same { (group.new.number ≡ group.old.number) × (group.new.time ≡ group.old.time) }
 {
-    match bench.pop() {
-        Some(top) => into_cell(top),
-        None => unreachable!(),
+    for place in 0..side.len() {
+        if !claim_into(locker, seat, shape, group, side, place) {
+            return place;
+        }
+    }
+    side.len()
+}
+
+// Makes the half steps of the members of a group if its whole side is at home, and tells whether it is.
+fn step_if_held<O: Opens, G: Gate>(
+    core: &Core,
+    sides: &Sides,
+    gate: &G,
+    locker: &Locker<Item<O>>,
+    group: &mut Group,
+    side: &[u32],
+    held: usize,
+) -> bool
+    requires shared { IsShared O.opened O.plan O.grouping O.steps core.now locker.now }
+    requires sides { (room : ℕ) × AreSides core.now room sides.now }
+    requires side { IsSide locker.now.plan group.old.time group.old.number side.now }
+    requires few { held ≤ length side.now }
+    requires group { IsHeld O.opened O.plan O.grouping O.steps side.now held group.old.number group.old.time group.old.members.items group.old.home.items }
+    requires time { group.old.time < 2 * O.steps }
+    ensures whole { IsTrue result → held ≡ length side.now }
+    ensures group { IsHeld O.opened O.plan O.grouping O.steps side.now held group.new.number group.new.time group.new.members.items group.new.home.items }
+    ensures number { group.new.number ≡ group.old.number }
+    ensures time { group.new.time ≡ (if result then group.old.time + 1 else group.old.time) }
+{
+    let _locker = locker;
+    if held < side.len() {
+        return false;
+    }
+    step_group::<O, G>(core, sides, gate, group);
+    true
+}
+
+// Takes the cells of the first `held` wires of the side from the group's home. They are passed where the half steps were made, and else
+// put back.
+fn let_go_side<O: Opens>(
+    locker: &Locker<Item<O>>,
+    seat: &mut Seat<Item<O>>,
+    shape: &Grouping,
+    group: &mut Group,
+    side: &[u32],
+    held: usize,
+    time: u64,
+    made: bool,
+)
+    requires of { IsOfGroups O.plan O.grouping locker.now }
+    requires shape { shape.now ≡ O.grouping }
+    requires short { O.steps < 2 ^ 32 }
+    requires own { IsSeatOf locker.now seat.old }
+    requires side { IsSide locker.now.plan time group.old.number side.now }
+    requires few { held ≤ length side.now }
+    requires time { group.old.time ≡ (if made then time + 1 else time) }
+    requires held { (view_of seat.old).held ≡ stack O.grouping.count group.old.number time side.now held }
+    requires passed { (view_of seat.old).passed ≡ (if made then pairs_of group.old.number (drop held side.now) else []) }
+    requires group { IsHeld O.opened O.plan O.grouping O.steps side.now held group.old.number group.old.time group.old.members.items group.old.home.items }
+    ensures own { IsSeatOf locker.now seat.new }
+    ensures held { (view_of seat.new).held ≡ stack O.grouping.count group.old.number time side.now 0 }
+    ensures passed { (view_of seat.new).passed ≡ (if made then pairs_of group.old.number side.now else []) }
+    ensures share { (view_of seat.new).share ≡ (view_of seat.old).share }
+    ensures group { IsHeld O.opened O.plan O.grouping O.steps side.now 0 group.new.number group.new.time group.new.members.items group.new.home.items }
+    ensures same { (group.new.number ≡ group.old.number) × (group.new.time ≡ group.old.time) }
+{
+    let mut left = held;
+    'letting: while left > 0 {
+        left -= 1;
+        let_go(locker, seat, shape, group, side, left, time, made);
     }
 }
 
-fn into_cell(place: Option<WireCell>) -> WireCell
-    requires { (cell : CellView) × (place ≡ Some cell) }
-    ensures { place ≡ Some result }
+// Claims the wire of a place of the side, and lays its cell into the group's home.
+fn claim_into<O: Opens>(
+    locker: &Locker<Item<O>>,
+    seat: &mut Seat<Item<O>>,
+    shape: &Grouping,
+    group: &mut Group,
+    side: &[u32],
+    place: usize,
+) -> bool
+    requires of { IsOfGroups O.plan O.grouping locker.now }
+    requires shape { shape.now ≡ O.grouping }
+    requires own { IsSeatOf locker.now seat.old }
+    requires side { IsSide locker.now.plan group.old.time group.old.number side.now }
+    requires place { place < length side.now }
+    requires group { IsHeld O.opened O.plan O.grouping O.steps side.now place group.old.number group.old.time group.old.members.items group.old.home.items }
+    ensures own { IsSeatOf locker.now seat.new }
+    ensures more { IsTrue result → IsHeld O.opened O.plan O.grouping O.steps side.now (place + 1) group.new.number group.new.time group.new.members.items
+        group.new.home.items }
+    ensures claimed { IsTrue result → view_of seat.new ≡ claims (O.grouping.count + slice_index side.now place) group.old.time (view_of seat.old) }
+    ensures none { IsFalse result → AreAlike (view_of seat.old) (view_of seat.new) × (group.new ≡ group.old) }
+    ensures same { (group.new.number ≡ group.old.number) × (group.new.time ≡ group.old.time) }
 {
-    match place {
+    match claim_wire(locker, seat, shape.count, side[place], group.time) {
+        None => false,
+        Some(cell) => {
+            lay(group, cell);
+            true
+        }
+    }
+}
+
+fn lay(group: &mut Group, cell: WireCell)
+    requires { cell.number < vec_len group.old.home }
+    ensures home { group.new.home.items ≡ slice_set group.old.home.items cell.number (Some cell) }
+    ensures rest { (group.new.number ≡ group.old.number) × (group.new.time ≡ group.old.time) × (group.new.members ≡ group.old.members) }
+{
+    let n = cell.number() as usize;
+    group.home[n] = Some(cell);
+}
+
+// Takes the cell of the wire at a place of the side from the group's home. It is passed where the half steps were made, and else put back.
+fn let_go<O: Opens>(
+    locker: &Locker<Item<O>>,
+    seat: &mut Seat<Item<O>>,
+    shape: &Grouping,
+    group: &mut Group,
+    side: &[u32],
+    place: usize,
+    time: u64,
+    made: bool,
+)
+    requires of { IsOfGroups O.plan O.grouping locker.now }
+    requires shape { shape.now ≡ O.grouping }
+    requires short { O.steps < 2 ^ 32 }
+    requires own { IsSeatOf locker.now seat.old }
+    requires side { IsSide locker.now.plan time group.old.number side.now }
+    requires place { place < length side.now }
+    requires time { group.old.time ≡ (if made then time + 1 else time) }
+    requires held { (view_of seat.old).held ≡ stack O.grouping.count group.old.number time side.now (place + 1) }
+    requires passed { (view_of seat.old).passed ≡ (if made then pairs_of group.old.number (drop (place + 1) side.now) else []) }
+    requires group { IsHeld O.opened O.plan O.grouping O.steps side.now (place + 1) group.old.number group.old.time group.old.members.items
+        group.old.home.items }
+    ensures own { IsSeatOf locker.now seat.new }
+    ensures held { (view_of seat.new).held ≡ stack O.grouping.count group.old.number time side.now place }
+    ensures passed { (view_of seat.new).passed ≡ (if made then pairs_of group.old.number (drop place side.now) else []) }
+    ensures share { (view_of seat.new).share ≡ (view_of seat.old).share }
+    ensures group { IsHeld O.opened O.plan O.grouping O.steps side.now place group.new.number group.new.time group.new.members.items group.new.home.items }
+    ensures same { (group.new.number ≡ group.old.number) × (group.new.time ≡ group.old.time) }
+{
+    let wire = side[place];
+    let number = shape.crossing[wire as usize];
+    let cell = lift(group, number as usize);
+    if made {
+        pass_wire(locker, seat, shape.count, wire, cell);
+    } else {
+        put_wire_back(locker, seat, shape.count, wire, cell);
+    }
+}
+
+fn lift(group: &mut Group, number: usize) -> WireCell
+    requires { (cell : CellView) × (slice_get group.old.home.items number ≡ Some (Some cell)) }
+    ensures cell { slice_get group.old.home.items number ≡ Some (Some result) }
+    ensures home { group.new.home.items ≡ slice_set group.old.home.items number None }
+    ensures rest { (group.new.number ≡ group.old.number) × (group.new.time ≡ group.old.time) × (group.new.members ≡ group.old.members) }
+{
+    match group.home[number].take() {
         Some(cell) => cell,
         None => unreachable!(),
     }
 }
 
-// Makes the half step of a node whose whole side is on the bench.
-fn step_held<O: Opens, G: Gate>(
-    core: &Core,
-    gate: &G,
-    node: &mut BoxCell,
-    bench: &mut Vec<Option<WireCell>>,
-    side: &[u32],
-)
-    requires opens { (opening : Opening) → O.opened opening → IsOpeningOf core.now opening }
-    requires some { (opening : Opening) × O.opened opening × HaveSpan opening O.steps }
-    requires side { IsWholeSide core.now node.old.number node.old.time (vec_capacity bench.old) side.now }
-    requires bench { AreHeld O.opened side.now node.old.time bench.old.items × (vec_len bench.old ≡ length side.now) }
-    requires node { IsNodeRight O.opened O.nodes O.steps node.old }
-    requires time { (node.old.time < 2 * O.steps) × (O.steps < 2 ^ 32) }
-    ensures bench { AreHeld O.opened side.now node.new.time bench.new.items × (vec_len bench.new ≡ vec_len bench.old)
-        × (vec_capacity bench.new ≡ vec_capacity bench.old) }
-    ensures node { IsNodeRight O.opened O.nodes O.steps node.new × (node.new.number ≡ node.old.number) }
-    ensures time { node.new.time ≡ node.old.time + 1 }
-{
-    let _side = side;
-    half_step(core, gate, node, bench.as_mut_slice());
-}
-
-// Makes the execute step of a node at an even time, behind the gate, and its super step at an odd one. The cells on the bench are at
-// home there by the numbers of their places.
-fn half_step<G: Gate>(core: &Core, gate: &G, node: &mut BoxCell, bench: &mut [Option<WireCell>])
-    requires time { node.old.time < 2 ^ 40 }
-    requires room { node.old.time % 2 ≡ 0 → HasRoom node.old.kind }
-    requires full { IsFull bench.old }
-    requires even { node.old.time % 2 ≡ 0 → AreInputs core.now node.old.number node.old.time (cells_on bench.old) }
-    requires odd { node.old.time % 2 ≡ 1 → AreOutputs core.now node.old.number node.old.time (cells_on bench.old) }
-    requires right { (opening : Opening) × IsOpeningOf core.now opening × AreRight opening node.old (cells_on bench.old) }
-    ensures number { node.new.number ≡ node.old.number }
-    ensures time { node.new.time ≡ node.old.time + 1 }
-    ensures full { IsFull bench.new }
-    ensures rest { AreTicked (cells_on bench.old) (cells_on bench.new) }
-    ensures long { length bench.new ≡ length bench.old }
-    ensures right { (opening : Opening) → IsOpeningOf core.now opening → AreRight opening node.old (cells_on bench.old)
-        → AreRight opening node.new (cells_on bench.new) }
-{
-    let side = places(bench.len());
-    if node.time() % 2 == 0 {
-        gate.pass(node.number());
-        node.execute(core, side, bench);
-    } else {
-        node.super_step(core, side, bench);
-    }
-}
-
-// The numbers of so many places, from 0 on.
-fn places(count: usize) -> &'static [u32]
-    requires { count ≤ 16 }
-    ensures long { length result.now ≡ count }
-    ensures places { ArePlaces result.now }
-{
-    &PLACES[..count]
-}
-
-fn claim_node<O: Opens>(
+fn claim_group<O: Opens>(
     locker: &Locker<Item<O>>,
     seat: &mut Seat<Item<O>>,
-    node: u32,
+    number: u32,
     time: u64,
-) -> Option<BoxCell>
+) -> Option<Group>
+    requires of { IsOfGroups O.plan O.grouping locker.now }
     requires own { IsSeatOf locker.now seat.old }
-    requires node { (node < O.nodes) × (O.nodes ≡ locker.now.plan.nodes) }
+    requires number { number < O.grouping.count }
     ensures own { IsSeatOf locker.now seat.new }
-    ensures some { IfSome result (λ cell. (cell.number ≡ node) × (cell.time ≡ time) × IsNodeRight O.opened O.nodes O.steps cell) }
-    ensures claimed { IfSome result (λ _. view_of seat.new ≡ claims node time (view_of seat.old)) }
+    ensures some { IfSome result (λ group. (group.number ≡ number) × (group.time ≡ time) × IsGroupRight O.opened O.plan O.grouping O.steps group) }
+    ensures claimed { IfSome result (λ _. view_of seat.new ≡ claims number time (view_of seat.old)) }
     ensures none { IfNone result (AreAlike (view_of seat.old) (view_of seat.new)) }
 {
-    match locker.try_claim(seat, node, time) {
+    match locker.try_claim(seat, number, time) {
         None => None,
-        Some(item) => Some(item.into_node()),
+        Some(item) => Some(item.into_group()),
     }
 }
 
 fn claim_wire<O: Opens>(
     locker: &Locker<Item<O>>,
     seat: &mut Seat<Item<O>>,
-    nodes: u32,
+    groups: u32,
     wire: u32,
     time: u64,
 ) -> Option<WireCell>
+    requires of { IsOfGroups O.plan O.grouping locker.now }
+    requires groups { groups ≡ O.grouping.count }
+    requires wire { wire < length O.grouping.crossing }
     requires own { IsSeatOf locker.now seat.old }
-    requires wire { wire < wires_of locker.now.plan }
-    requires nodes { (nodes ≡ O.nodes) × (O.nodes ≡ locker.now.plan.nodes) × (items_of locker.now.plan < 2 ^ 32) }
     ensures own { IsSeatOf locker.now seat.new }
-    ensures some { IfSome result (λ cell. (cell.number ≡ wire) × (cell.time ≡ time) × IsWireRight O.opened O.steps cell) }
-    ensures claimed { IfSome result (λ _. view_of seat.new ≡ claims (O.nodes + wire) time (view_of seat.old)) }
+    ensures some { IfSome result (λ cell. (cell.time ≡ time) × IsWireRight O.opened O.plan O.grouping O.steps cell (O.grouping.count + wire)) }
+    ensures claimed { IfSome result (λ _. view_of seat.new ≡ claims (O.grouping.count + wire) time (view_of seat.old)) }
     ensures none { IfNone result (AreAlike (view_of seat.old) (view_of seat.new)) }
 {
-    match locker.try_claim(seat, nodes + wire, time) {
+    match locker.try_claim(seat, groups + wire, time) {
         None => None,
         Some(item) => Some(item.into_wire()),
     }
@@ -235,61 +321,65 @@ fn claim_wire<O: Opens>(
 fn pass_wire<O: Opens>(
     locker: &Locker<Item<O>>,
     seat: &mut Seat<Item<O>>,
-    nodes: u32,
+    groups: u32,
+    wire: u32,
     cell: WireCell,
 )
+    requires of { IsOfGroups O.plan O.grouping locker.now }
+    requires groups { groups ≡ O.grouping.count }
+    requires wire { wire < length O.grouping.crossing }
     requires own { IsSeatOf locker.now seat.old }
-    requires wire { cell.number < wires_of locker.now.plan }
-    requires nodes { (nodes ≡ O.nodes) × (O.nodes ≡ locker.now.plan.nodes) × (items_of locker.now.plan < 2 ^ 32) }
-    requires right { IsWireRight O.opened O.steps cell }
+    requires right { IsWireRight O.opened O.plan O.grouping O.steps cell (O.grouping.count + wire) }
     requires time { (0 < cell.time) × (O.steps < 2 ^ 32) }
-    requires may { MayPassWire locker.now.plan cell.number (cell.time - 1) (view_of seat.old) }
+    requires may { MayPassWire locker.now.plan wire (cell.time - 1) (view_of seat.old) }
     ensures own { IsSeatOf locker.now seat.new }
-    ensures view { view_of seat.new ≡ passes locker.now.plan (O.nodes + cell.number) (cell.time - 1) (view_of seat.old) }
+    ensures view { view_of seat.new ≡ passes locker.now.plan (O.grouping.count + wire) (cell.time - 1) (view_of seat.old) }
 {
-    let item = nodes + cell.number();
+    let item = groups + wire;
     locker.pass(seat, item, Item::wire(cell, item));
 }
 
 fn put_wire_back<O: Opens>(
     locker: &Locker<Item<O>>,
     seat: &mut Seat<Item<O>>,
-    nodes: u32,
+    groups: u32,
+    wire: u32,
     cell: WireCell,
 )
+    requires of { IsOfGroups O.plan O.grouping locker.now }
+    requires groups { groups ≡ O.grouping.count }
+    requires wire { wire < length O.grouping.crossing }
     requires own { IsSeatOf locker.now seat.old }
-    requires wire { cell.number < wires_of locker.now.plan }
-    requires nodes { (nodes ≡ O.nodes) × (O.nodes ≡ locker.now.plan.nodes) × (items_of locker.now.plan < 2 ^ 32) }
-    requires right { IsWireRight O.opened O.steps cell }
-    requires may { MayPutBack locker.now.plan (O.nodes + cell.number) cell.time (view_of seat.old) }
+    requires right { IsWireRight O.opened O.plan O.grouping O.steps cell (O.grouping.count + wire) }
+    requires may { MayPutBack locker.now.plan (O.grouping.count + wire) cell.time (view_of seat.old) }
     ensures own { IsSeatOf locker.now seat.new }
-    ensures view { view_of seat.new ≡ puts_back (O.nodes + cell.number) (view_of seat.old) }
+    ensures view { view_of seat.new ≡ puts_back (O.grouping.count + wire) (view_of seat.old) }
 {
-    let item = nodes + cell.number();
+    let item = groups + wire;
     locker.put_back(seat, item, Item::wire(cell, item));
 }
 
-fn pass_node<O: Opens>(locker: &Locker<Item<O>>, seat: &mut Seat<Item<O>>, cell: BoxCell)
+fn pass_group<O: Opens>(locker: &Locker<Item<O>>, seat: &mut Seat<Item<O>>, group: Group)
+    requires of { IsOfGroups O.plan O.grouping locker.now }
     requires own { IsSeatOf locker.now seat.old }
-    requires nodes { O.nodes ≡ locker.now.plan.nodes }
-    requires right { IsNodeRight O.opened O.nodes O.steps cell }
-    requires time { (0 < cell.time) × (O.steps < 2 ^ 32) }
-    requires may { MayPassNode locker.now.plan cell.number (cell.time - 1) (view_of seat.old) }
+    requires right { IsGroupRight O.opened O.plan O.grouping O.steps group }
+    requires time { (0 < group.time) × (O.steps < 2 ^ 32) }
+    requires may { MayPassNode locker.now.plan group.number (group.time - 1) (view_of seat.old) }
     ensures own { IsSeatOf locker.now seat.new }
-    ensures view { view_of seat.new ≡ passes locker.now.plan cell.number (cell.time - 1) (view_of seat.old) }
+    ensures view { view_of seat.new ≡ passes locker.now.plan group.number (group.time - 1) (view_of seat.old) }
 {
-    let item = cell.number();
-    locker.pass(seat, item, Item::node(cell));
+    let item = group.number;
+    locker.pass(seat, item, Item::group(group));
 }
 
-fn put_node_back<O: Opens>(locker: &Locker<Item<O>>, seat: &mut Seat<Item<O>>, cell: BoxCell)
+fn put_group_back<O: Opens>(locker: &Locker<Item<O>>, seat: &mut Seat<Item<O>>, group: Group)
+    requires of { IsOfGroups O.plan O.grouping locker.now }
     requires own { IsSeatOf locker.now seat.old }
-    requires nodes { O.nodes ≡ locker.now.plan.nodes }
-    requires right { IsNodeRight O.opened O.nodes O.steps cell }
-    requires may { MayPutBack locker.now.plan cell.number cell.time (view_of seat.old) }
+    requires right { IsGroupRight O.opened O.plan O.grouping O.steps group }
+    requires may { MayPutBack locker.now.plan group.number group.time (view_of seat.old) }
     ensures own { IsSeatOf locker.now seat.new }
-    ensures view { view_of seat.new ≡ puts_back cell.number (view_of seat.old) }
+    ensures view { view_of seat.new ≡ puts_back group.number (view_of seat.old) }
 {
-    let item = cell.number();
-    locker.put_back(seat, item, Item::node(cell));
+    let item = group.number;
+    locker.put_back(seat, item, Item::group(group));
 }

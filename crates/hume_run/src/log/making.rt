@@ -36,7 +36,7 @@ pub fn open_log(alloc: Global, ready: Ready) -> Result<LoggedRun, AllocError>
 
 /// Makes the supersteps and writes the log. It takes no memory.
 pub fn record_log(
-    mut logged: LoggedRun,
+    logged: &mut LoggedRun,
     ports: &mut [Box<dyn Port>],
     steps: u32,
     places: &[usize],
@@ -44,16 +44,16 @@ pub fn record_log(
     out: usize,
 ) -> Status
     requires steps { steps ≤ MAX_SUPERSTEPS }
-    requires runnable { IsRunnable (core_in logged) }
-    requires fresh { IsFresh (core_in logged) (run_in logged) }
-    requires places { ArePlacesOf (core_in logged) (names (map view ports.old)) places.now }
-    requires apart { ArePortsApart (core_in logged) }
+    requires runnable { IsRunnable (core_in logged.old) }
+    requires fresh { IsFresh (core_in logged.old) (run_in logged.old) }
+    requires places { ArePlacesOf (core_in logged.old) (names (map view ports.old)) places.now }
+    requires apart { ArePortsApart (core_in logged.old) }
     requires log { (port : List ℕ) × IsPlaceOf port (names (map view ports.old)) log }
     requires out { IsPlaceOf std_out (names (map view ports.old)) out }
     ensures { (port : List ℕ) → IsPlaceOf port (names (map view ports.old)) log
-        → Records port steps (core_in logged) (map view ports.old) (map view ports.new) result }
+        → Records port steps (core_in logged.old) (map view ports.old) (map view ports.new) result }
 {
-    match make_record(&mut logged, ports, steps, places, log, out) {
+    match make_record(logged, ports, steps, places, log, out) {
         Ok(true) => Status::BadValue,
         Ok(false) => Status::Done,
         Err(Failed) => Status::Fault,
@@ -91,7 +91,7 @@ fn make_record(
 
 /// Makes the supersteps and compares the log with them. It takes no memory.
 pub fn verify_log(
-    mut logged: LoggedRun,
+    logged: &mut LoggedRun,
     ports: &mut [Box<dyn Port>],
     steps: u32,
     places: &[usize],
@@ -99,16 +99,16 @@ pub fn verify_log(
     out: usize,
 ) -> Status
     requires steps { steps ≤ MAX_SUPERSTEPS }
-    requires runnable { IsRunnable (core_in logged) }
-    requires fresh { IsFresh (core_in logged) (run_in logged) }
-    requires places { ArePlacesOf (core_in logged) (names (map view ports.old)) places.now }
-    requires apart { ArePortsApart (core_in logged) }
-    requires log { (port : List ℕ) × IsPlaceOf port (names (map view ports.old)) log × IsApart (core_in logged) port }
+    requires runnable { IsRunnable (core_in logged.old) }
+    requires fresh { IsFresh (core_in logged.old) (run_in logged.old) }
+    requires places { ArePlacesOf (core_in logged.old) (names (map view ports.old)) places.now }
+    requires apart { ArePortsApart (core_in logged.old) }
+    requires log { (port : List ℕ) × IsPlaceOf port (names (map view ports.old)) log × IsApart (core_in logged.old) port }
     requires out { IsPlaceOf std_out (names (map view ports.old)) out }
     ensures { (port : List ℕ) → IsPlaceOf port (names (map view ports.old)) log
-        → Verifies port steps (core_in logged) (map view ports.old) (map view ports.new) result }
+        → Verifies port steps (core_in logged.old) (map view ports.old) (map view ports.new) result }
 {
-    match make_verify(&mut logged, ports, steps, places, log, out) {
+    match make_verify(logged, ports, steps, places, log, out) {
         Ok(verdict) => status_of(verdict),
         Err(Failed) => Status::Fault,
     }

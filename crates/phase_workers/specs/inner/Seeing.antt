@@ -13,5 +13,6 @@ use Rattle.phase_workers.specs.declared.seen.Deed.TheVariants.{Opened, Stepped, 
 abbrev pub state_after : State → Deed → State
 state_after state (Opened core) = start core.now (no_values core.now)
 state_after state (Stepped core steps) = lockstep core.now state steps
-state_after state (Filled node types ty queue) = record state { coming = slice_set state.coming node (map (value_from types.now ty.now) (queue_view queue.now).values) }
+state_after state (Filled node types ty queue) =
+    record state { coming = slice_set state.coming node (map (value_from types.now ty.now) (queue_view queue.now).values) }
 state_after state (Cleared node) = record state { taken = slice_set state.taken node [] }

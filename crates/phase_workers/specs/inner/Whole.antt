@@ -1,6 +1,5 @@
 -- What an engine keeps between two calls.
-use Rattle.std.specs.Prelude.{◌≡◌, ◌+◌, ℕ, List, [], map, length, Option, None, Some, slice_get, slice_index_or}
-use Rattle.hume_base.specs.declared.limits.TheConstants.{MAX_INPUTS, MAX_OUTPUTS}
+use Rattle.std.specs.Prelude.{◌≡◌, ℕ, List, [], map, length, Option, None, Some, slice_get, slice_index_or}
 use Rattle.hume_base.specs.Sizes.{size_of}
 use Rattle.hume_model.specs.declared.core_tree.StreamC.{StreamC}
 use Rattle.hume_model.specs.declared.core_tree.NodeC.TheVariants.{To}
@@ -17,11 +16,12 @@ use Rattle.box_step.specs.declared.nodes.cell.BoxCell.{BoxCell}
 use Rattle.box_step.specs.nodes.Lends.{queue_in, log_in}
 use Rattle.box_step.specs.nodes.Openings.{Opening, IsOpeningOf}
 use Rattle.box_step.specs.nodes.Right.{heap_peak_of, stack_peak_of}
-use Rattle.step_turns.specs.declared.sides.Sides.{Sides}
-use Rattle.step_turns.specs.Rounds.{AllRight, AreInPlace, AreSides}
+use Rattle.phase_workers.specs.declared.paths.Paths.{Paths}
+use Rattle.step_turns.specs.Rounds.{AllRight, AreInPlace}
 use Rattle.phase_workers.specs.Engines.{EngineView}
 use Rattle.phase_workers.specs.Runnable.{IsRunnable}
 use Rattle.phase_workers.specs.StreamTypes.{type_at}
+use Rattle.phase_workers.specs.inner.Going.{ArePaths}
 
 -- a queue that may be missing, without its values
 abbrev pub queue_without : Option InQueue → QueueView
@@ -74,7 +74,7 @@ pub record IsQueueFor (core : Core) (span n : ℕ) (queue : QueueView) : Type 0 
 
 -- The cells are those of the core's net at the state, each at time 0 and at its place, with room for so many values in each queue
 -- and log.
-pub record IsWhole (core bare : Core) (sides : Sides) (span : ℕ) (state : State) (nodes : List BoxCell) (home : List (Option CellView))
+pub record IsWhole (core bare : Core) (paths : Paths) (span : ℕ) (state : State) (nodes : List BoxCell) (home : List (Option CellView))
     : Type 0 where
   pub runnable : IsRunnable core
   pub opens : IsOpeningOf bare (opening_at core state nodes)
@@ -82,7 +82,7 @@ pub record IsWhole (core bare : Core) (sides : Sides) (span : ℕ) (state : Stat
   pub place : AreInPlace bare nodes home
   pub wires : length home ≡ length core.wires
   pub begun : (n : ℕ) (cell : BoxCell) → slice_get nodes n ≡ Some cell → cell.time ≡ 0
-  pub sides_are : AreSides bare (MAX_INPUTS + MAX_OUTPUTS) sides
+  pub paths_are : ArePaths bare paths
   pub queues : (n : ℕ) → IsInputStream core n → IsQueueFor core span n (slice_index_or (queues_of nodes) n (first_view 0 0))
   pub logs : (n : ℕ) (stream : StreamC) → slice_get core.nodes n ≡ Some (To stream) → (slice_index_or (logs_of nodes) n (log_without None)).span ≡ span
   pub fits : IsStateOf core state

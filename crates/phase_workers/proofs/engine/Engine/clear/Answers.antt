@@ -35,7 +35,7 @@ invariant_of-self c =
     let node = node_of_output inside.core n is in
     let within = slice_get_within inside.core.nodes n _ node.1 in
     let none = cleared_here inside.core n inside.seen.state within whole.fits in
-    subst (λ s. IsWhole inside.core inside.bare inside.sides inside.span s (slice_set inside.nodes.items n c.clear_cell.new.cell) inside.home.items) (sym c.then-self-inside.ensures)
+    subst (λ s. IsWhole inside.core inside.bare inside.paths inside.span s (slice_set inside.nodes.items n c.clear_cell.new.cell) inside.home.items) (sym c.then-self-inside.ensures)
     (log_whole _ _ _ _ _ _ _ whole n is its.0 c.clear_cell.new.cell its.1 done.log done.later done.had done.cell (cleared n inside.seen.state) refl
     (cleared_other inside.core n inside.seen.state within whole.fits)
     (ap (λ (l : LogView). l.values) done.changed ∙ sym (ap (map (flat inside.core.types (type_at inside.core n))) none))

@@ -26,7 +26,7 @@ invariant_of-result c =
     let whole = c.self.invariant in
     let done = c.sweep_all.ensures in
     let right = done.right (opening_at inside.core inside.seen.state inside.nodes.items) whole.opens whole.right in
-    midst_now inside.core inside.bare inside.sides inside.span inside.seen.state inside.nodes.items inside.home.items whole c.sweep_all.new.nodes.items c.sweep_all.new.home.items done.place right done.wires done.from
+    midst_now inside.core inside.bare inside.paths inside.span inside.seen.state inside.nodes.items inside.home.items whole c.sweep_all.new.nodes.items c.sweep_all.new.home.items done.place right done.wires done.from
     (done.until 1 (omega arith) (until_first _ _ _ _ _ _ _ whole))
 
 pub returns-clause-queues : goal.returns-clause-queues
@@ -35,7 +35,7 @@ returns-clause-queues c = λ n.
     let whole = c.self.invariant in
     let done = c.sweep_all.ensures in
     let right = done.right (opening_at inside.core inside.seen.state inside.nodes.items) whole.opens whole.right in
-    ap without_values (queue_later inside.core inside.bare inside.sides inside.span inside.seen.state inside.nodes.items inside.home.items whole c.sweep_all.new.nodes.items c.sweep_all.new.home.items done.place right n)
+    ap without_values (queue_later inside.core inside.bare inside.paths inside.span inside.seen.state inside.nodes.items inside.home.items whole c.sweep_all.new.nodes.items c.sweep_all.new.home.items done.place right n)
     ∙ ap (λ (v : EngineView). queue_at v n) c.self.view_is
 
 pub returns-clause-state : goal.returns-clause-state

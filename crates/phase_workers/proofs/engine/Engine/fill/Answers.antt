@@ -34,7 +34,7 @@ invariant_of-self g c =
     let had = sym (ap (λ (k : BoxCell). queue_in k.kind) cell) ∙ done.had in
     let new_is = done.cell ∙ ap (λ (k : BoxCell). record k { kind = with_queue k.kind done.later }) cell in
     let ends = ends_of _ _ _ _ done.step in
-    subst (λ s. IsWhole inside.core inside.bare inside.sides inside.span s (slice_set inside.nodes.items n c.fill_cell.new.cell) inside.home.items) (sym done.state)
+    subst (λ s. IsWhole inside.core inside.bare inside.paths inside.span s (slice_set inside.nodes.items n c.fill_cell.new.cell) inside.home.items) (sym done.state)
     (filled_whole _ _ _ _ _ _ _ whole n is its.0 c.fill_cell.new.cell its.1 done.queue done.later had new_is c.args.want ends.before ends.after
     c.fill_cell.result ends.steps)
 

@@ -25,7 +25,7 @@ begin_nodes-requires c = λ n cell at.
     let done = c.sweep_all.ensures in
     let until = done.until 2 (omega arith) (until_second _ _ _ _ _ _ _ midst) in
     let right = done.right (opening_at inside.core inside.seen.state midst.first_nodes) midst.whole.opens midst.right in
-    even_times inside.core inside.bare inside.sides inside.span inside.seen.state midst.first_nodes midst.first_home midst.whole 1 c.sweep_all.new.nodes.items c.sweep_all.new.home.items done.place until done.from right done.wires n cell
+    even_times inside.core inside.bare inside.paths inside.span inside.seen.state midst.first_nodes midst.first_home midst.whole 1 c.sweep_all.new.nodes.items c.sweep_all.new.home.items done.place until done.from right done.wires n cell
     (sym (ap (λ ns. slice_get ns n) c.deref_mut.ensures.value) ∙ at)
 
 pub invariant_of-result : goal.invariant_of-result
@@ -39,7 +39,7 @@ invariant_of-result c =
     (c.begin_nodes.auto.nodes ∙ ap length c.deref_mut.ensures.value) ∙ c.begin_nodes.ensures ∙ ap (map begun_cell) c.deref_mut.ensures.value in
     let wires = all_items c.sweep_all.new.home.len c.begin_wires.new.home c.sweep_all.new.home.items c.sweep_all.new.home.ok.0
     (c.begin_wires.auto.home ∙ ap length c.deref_mut-2.ensures.value) ∙ c.begin_wires.ensures ∙ ap (map begun_wire) c.deref_mut-2.ensures.value in
-    whole_after inside.core inside.bare inside.sides inside.span inside.seen.state midst.first_nodes midst.first_home midst.whole 1 c.sweep_all.new.nodes.items c.sweep_all.new.home.items done.place until done.from right done.wires _ _ _
+    whole_after inside.core inside.bare inside.paths inside.span inside.seen.state midst.first_nodes midst.first_home midst.whole 1 c.sweep_all.new.nodes.items c.sweep_all.new.home.items done.place until done.from right done.wires _ _ _
     c.then-seen.ensures cells wires
 
 pub returns-clause-queues : goal.returns-clause-queues
@@ -52,8 +52,8 @@ returns-clause-queues c = λ n.
     let cells = all_items c.sweep_all.new.nodes.len c.begin_nodes.new.nodes c.sweep_all.new.nodes.items c.sweep_all.new.nodes.ok.0
     (c.begin_nodes.auto.nodes ∙ ap length c.deref_mut.ensures.value) ∙ c.begin_nodes.ensures ∙ ap (map begun_cell) c.deref_mut.ensures.value in
     ap (λ ns. without_values (slice_index_or (queues_of ns) n (first_view 0 0))) cells
-    ∙ ap without_values (queue_same inside.core inside.bare inside.sides inside.span inside.seen.state midst.first_nodes midst.first_home midst.whole 1 c.sweep_all.new.nodes.items c.sweep_all.new.home.items done.place until done.from right done.wires n)
-    ∙ sym (ap without_values (queue_later inside.core inside.bare inside.sides inside.span inside.seen.state midst.first_nodes midst.first_home midst.whole inside.nodes.items inside.home.items midst.place midst.right n))
+    ∙ ap without_values (queue_same inside.core inside.bare inside.paths inside.span inside.seen.state midst.first_nodes midst.first_home midst.whole 1 c.sweep_all.new.nodes.items c.sweep_all.new.home.items done.place until done.from right done.wires n)
+    ∙ sym (ap without_values (queue_later inside.core inside.bare inside.paths inside.span inside.seen.state midst.first_nodes midst.first_home midst.whole inside.nodes.items inside.home.items midst.place midst.right n))
     ∙ ap (λ (v : EngineView). queue_at v n) c.self.view_is
 
 pub returns-clause-state : goal.returns-clause-state

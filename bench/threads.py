@@ -1,0 +1,232 @@
+#!/usr/bin/env python3
+"""Times a superstep of nets of several shapes by 1, 2, 4 and 8 workers, and beside it a C program with a barrier.
+
+usage: bench/threads.py [--tool TOOL] [--calls N] [--halves A,B,..] [NET ..]
+       bench/threads.py [--tool TOOL] [--calls N] unions
+
+The nets are named in `NETS` and `OTHERS`; without a name all are timed. Those of `NETS` have boxes whose half step takes about 0.05, 0.2, 1,
+10 and 100 microseconds: HALVES picks among them, by their places from 0. Those of `OTHERS` are the demo and the controllers of examples/,
+whose inputs are repeated. TOOL is the program of dist/ by default.
+
+Each time is the least of N calls (3), which are made in turn, and the time of a twentieth of the supersteps is taken off. `gain` is how many
+times faster so many workers are than one. Beside the nets of `NETS` stands the C program `threads.c` (pthreads, gcc -O2), with as many boxes
+in rings, a half step that takes as long, and a barrier behind each half superstep; `ahead` is how many times longer it takes.
+
+`unions` times a superstep of a union of eight nets of 24 boxes beside one of a net alone.
+"""
+import os
+import random
+import subprocess
+import sys
+import tempfile
+import time
+
+TOP = os.path.dirname(os.path.dirname(os.path.abspath(__file__)))
+WORKERS = 1, 2, 4, 8
+DOUBLINGS = 1, 3, 5, 9, 12
+SECONDS = 0.25
+
+
+def functions(doublings):
+    """2^doublings times `x * 3 + 1`."""
+    lines = ["f0 :: int 64 -> int 64 ; f0 x = x * 3 + 1 ;"]
+    for i in range(1, doublings + 1):
+        lines.append(f"f{i} :: int 64 -> int 64 ; f{i} x = f{i - 1} (f{i - 1} x) ;")
+    return lines
+
+
+def net(doublings, links, first_outputs=None):
+    """Boxes that compute with their first input, and pass the others on. A link is (box, output, box, input)."""
+    inputs, outputs = {}, {}
+    for at, output, to, given in links:
+        outputs.setdefault(at, set()).add(output)
+        inputs.setdefault(to, set()).add(given)
+    lines = functions(doublings)
+    for number in sorted(inputs):
+        taken = [f"x{i}" for i in sorted(inputs[number])]
+        put = [f"y{i}" for i in sorted(outputs[number])]
+        values = [f"f{doublings} {taken[0]}"] + [taken[i % len(taken)] for i in range(1, len(put))]
+        lines.append(f"box b{number} in ({', '.join(f'{name} :: int 64' for name in taken)}) "
+                     f"out ({', '.join(f'{name} :: int 64' for name in put)}) "
+                     f"match ({', '.join(taken)}) -> ({', '.join(values)}) ;")
+    for at, output, to, given in links:
+        lines.append(f"wire b{at}.y{output} to b{to}.x{given} initial {to} ;")
+    return "\n".join(lines) + "\n"
+
+
+def rings(count, size):
+    return [(i, 0, i - size + 1 if i % size == size - 1 or i == count - 1 and count <= size else i + 1, 0) for i in range(count)]
+
+
+def alone(count):
+    return [(i, 0, i, 0) for i in range(count)]
+
+
+def chain(count):
+    """The first box feeds itself too, and the last one keeps what it has."""
+    ends = [(0, 0, 0, 0), (count - 1, 0, count - 1, 1)]
+    return ends + [(i, 1 if i == 0 else 0, i + 1, 0) for i in range(count - 1)]
+
+
+def star(leaves):
+    return [link for i in range(1, leaves + 1) for link in ((0, i - 1, i, 0), (i, 0, 0, i - 1))]
+
+
+def grid(size):
+    links = []
+    for row in range(size):
+        for column in range(size):
+            at = row * size + column
+            links.append((at, 0, row * size + (column + 1) % size, 0))
+            links.append((at, 1, (row + 1) % size * size + column, 1))
+    return links
+
+
+def at_random(count):
+    chance, links = random.Random(7), []
+    for place in (0, 1):
+        to = list(range(count))
+        chance.shuffle(to)
+        links += [(i, place, to[i], place) for i in range(count)]
+    return links
+
+
+NETS = {
+    "one box": alone(1),
+    "200 boxes alone": alone(200),
+    "ring of 8": rings(8, 8),
+    "rings of 8, 200 boxes": rings(200, 8),
+    "ring of 200": rings(200, 200),
+    "chain of 200": chain(200),
+    "star of 9": star(8),
+    "grid of 14 by 14": grid(14),
+    "200 at random": at_random(200),
+}
+CONTROLLERS = "traffic_lights", "lift", "debouncer", "crc8", "back_pressure", "vending_machine"
+OTHERS = ("demo", *CONTROLLERS)
+
+
+class Timer:
+    """Calls that are timed in a folder of their own."""
+
+    def __init__(self, tool, calls, room):
+        self.tool, self.calls, self.room = tool, calls, room
+
+    def seconds(self, words):
+        begun = time.perf_counter()
+        done = subprocess.run(words, cwd=self.room, stdout=subprocess.DEVNULL, stdin=subprocess.DEVNULL, check=False)
+        took = time.perf_counter() - begun
+        if done.returncode not in (0, 3):
+            sys.exit(f"{words} ended with {done.returncode}")
+        return took
+
+    def least(self, calls, steps):
+        """For each call, a function of the supersteps, the least seconds a superstep."""
+        few = max(steps // 20, 1)
+        shorts, longs = [[] for _ in calls], [[] for _ in calls]
+        for _ in range(self.calls):
+            for call, short, long in zip(calls, shorts, longs):
+                short.append(self.seconds(call(few)))
+                long.append(self.seconds(call(few + steps)))
+        return [max(min(long) - min(short), 1e-12) / steps for short, long in zip(shorts, longs)]
+
+    def steps_for(self, call, most):
+        """So many supersteps that one worker takes about a quarter of a second."""
+        steps = 20
+        while steps < most and self.seconds(call(steps)) < SECONDS:
+            steps = min(steps * 4, most)
+        return steps
+
+
+def native_rounds(timer, boxes, half):
+    """How many rounds a half step of the C program has for so many seconds."""
+    rounds = 20_000
+    took = timer.least([lambda steps: ["./native", str(boxes), str(rounds), str(steps), "1"]], 200)[0]
+    return max(int(rounds * half * boxes / took), 1)
+
+
+def row(timer, name, half, calls, natives, steps):
+    times = timer.least(calls, steps)
+    beside = timer.least(natives, steps) if natives else [None] * len(times)
+    for workers, took, native in zip(WORKERS, times, beside):
+        last = f" {native * 1e6:.2f} | {native / took:.2f} |" if native else "  |  |"
+        print(f"| {name} | {half} | {workers} | {took * 1e6:.2f} | {times[0] / took:.2f} |{last}", flush=True)
+
+
+def net_rows(timer, name, halves):
+    links = NETS[name]
+    boxes = 1 + max(link[0] for link in links)
+    for place in halves:
+        with open(os.path.join(timer.room, "p"), "w", encoding="ascii") as file:
+            file.write(net(DOUBLINGS[place], links))
+        calls = [lambda steps, workers=workers: [timer.tool, "run", str(steps), str(workers), "p"] for workers in WORKERS]
+        steps = timer.steps_for(calls[0], 900_000)
+        half = timer.least(calls[:1], steps)[0] / boxes
+        rounds = native_rounds(timer, boxes, half)
+        natives = [lambda steps, workers=workers: ["./native", str(boxes), str(rounds), str(steps), str(workers)] for workers in WORKERS]
+        row(timer, name, f"{half * 1e6:.2f} us", calls, natives, steps)
+
+
+def other_row(timer, name):
+    if name == "demo":
+        calls = [lambda steps, workers=workers: [timer.tool, "demo", "7", str(steps), str(workers)] for workers in WORKERS]
+    else:
+        words = copied(timer.room, name)
+        calls = [lambda steps, workers=workers: [timer.tool, "run", str(steps), str(workers), *words] for workers in WORKERS]
+    row(timer, name, "", calls, [], timer.steps_for(calls[0], 400_000))
+
+
+def copied(room, name):
+    """The source and the ports of a controller, with inputs that are long enough."""
+    folder = os.path.join(TOP, "examples", "controllers", name)
+    with open(os.path.join(folder, "words"), encoding="ascii") as file:
+        words = file.read().split()[3:]
+    for word in words:
+        if os.path.isfile(os.path.join(folder, word)):
+            with open(os.path.join(folder, word), encoding="ascii") as file:
+                text = file.read()
+            with open(os.path.join(room, word), "w", encoding="ascii") as file:
+                file.write(text if word.endswith(".hume") else text * (450_000 // max(text.count("\n"), 1) + 1))
+    return words
+
+
+def unions(timer):
+    print("| half step | one net, one worker | union of eight | by eight nets alone | one net, four workers | union of eight | by four nets in turn |")
+    print("|---|---|---|---|---|---|---|")
+    names = [f"q{i}" for i in range(8)]
+    for doublings in (2, 5, 9):
+        for name in ("p", *names):
+            with open(os.path.join(timer.room, name), "w", encoding="ascii") as file:
+                file.write(net(doublings, rings(24, 8)))
+        run = [lambda steps, workers=workers: [timer.tool, "run", str(steps), str(workers), "p"] for workers in (1, 4)]
+        union = [lambda steps, workers=workers: [timer.tool, "union", str(steps), str(workers), "8", *names] for workers in (1, 4)]
+        steps = timer.steps_for(union[0], 900_000)
+        one, four, eight, four_eight = timer.least([*run, *union], steps)
+        print(f"| {one / 24 * 1e6:.2f} us | {one * 1e6:.2f} us | {eight * 1e6:.2f} us | {eight / one / 8:.2f} | {four * 1e6:.2f} us "
+              f"| {four_eight * 1e6:.2f} us | {four_eight / four / 4:.2f} |", flush=True)
+
+
+def main(words):
+    options = {"--tool": os.path.join(TOP, "dist", "hume-x86_64-linux"), "--calls": "3", "--halves": "0,1,2,3,4"}
+    while len(words) > 1 and words[0] in options:
+        options[words[0]] = words[1]
+        words = words[2:]
+    names = words or [*NETS, *OTHERS]
+    if not all(name in NETS or name in OTHERS or name == "unions" for name in names):
+        sys.exit(__doc__)
+    with tempfile.TemporaryDirectory() as room:
+        timer = Timer(os.path.abspath(options["--tool"]), int(options["--calls"]), room)
+        subprocess.run(["gcc", "-O2", "-pthread", "-o", os.path.join(room, "native"), os.path.join(TOP, "bench", "threads.c")], check=True)
+        if names == ["unions"]:
+            return unions(timer)
+        print(f"{len(os.sched_getaffinity(0))} processors.\n\n| net | half step | workers | us a superstep | gain | barrier, us | ahead |")
+        print("|---|---|---|---|---|---|---|")
+        for name in names:
+            if name in NETS:
+                net_rows(timer, name, [int(place) for place in options["--halves"].split(",")])
+            else:
+                other_row(timer, name)
+
+
+if __name__ == "__main__":
+    main(sys.argv[1:])

@@ -1,0 +1,24 @@
+use Rattle.std.proofs.Common.{◌+◌, ◌<◌, sym, subst}
+use Rattle.hume_net.specs.declared.plan.Plan.{Plan}
+use Rattle.hume_net.specs.Plan.{IsPlan, plan_of, wires_of}
+use Rattle.turn_locker.specs.Held.{items_of}
+use Rattle.phase_workers.proofs.FewItems.{few_groups, few_nodes, few_wires}
+use Rattle.phase_workers.proofs.paths.try_division.Goals as goal
+
+pub find_plan-requires : goal.find_plan-requires
+find_plan-requires c = few_nodes c.args.core.now c.requires.plan.1
+
+pub partition-requires-clause-plan : goal.partition-requires-clause-plan
+partition-requires-clause-plan c =
+    subst (λ (p : Plan). IsPlan p × (wires_of p < 4294967296)) (sym c.in_ok-plan.ensures)
+    (c.requires.plan.0, few_wires (plan_of c.args.core.now) c.requires.plan.1)
+
+pub make-requires-clause-plan : goal.make-requires-clause-plan
+make-requires-clause-plan c =
+    subst (λ (p : Plan). IsPlan p × (wires_of p < 4294967296)) (sym c.in_ok-plan.ensures)
+    (c.requires.plan.0, few_wires (plan_of c.args.core.now) c.requires.plan.1)
+
+pub make-requires-clause-groups : goal.make-requires-clause-groups
+make-requires-clause-groups c =
+    let few = subst (λ (p : Plan). items_of p + 262144 < 4294967296) (sym c.in_ok-plan.ensures) c.requires.plan.1 in
+    (c.in_ok-made.ensures.groups, few_groups c.in_ok-plan.plan c.args.workers c.in_ok-made.made.groups.count c.requires.workers.1 few c.in_ok-made.ensures.few)

@@ -1,0 +1,118 @@
+//! What the half steps of a net go by.
+ghost use Rattle.std.specs.Prelude.{◌+◌, ◌<◌, ◌≤◌, ◌^◌, IfOk, IfSome};
+ghost use Rattle.hume_base.specs.declared.limits.TheConstants.{MAX_INPUTS, MAX_OUTPUTS};
+ghost use Rattle.hume_model.specs.declared.core_tree.Core.{Core as AnyCore};
+ghost use Rattle.hume_net.specs.Plan.{IsPlan, plan_of};
+ghost use Rattle.step_turns.specs.Rounds.{AreSides};
+ghost use Rattle.turn_locker.specs.Held.{items_of};
+ghost use Rattle.turn_workers.specs.Divisions.{IsDivision};
+
+use crate::policy::Policy;
+use hume_model::Core;
+use hume_net::find_plan;
+use net_groups::partition;
+use std::alloc::{AllocError, Global};
+use step_turns::Sides;
+use turn_workers::Division;
+
+/// The sides of a net's nodes; and for several workers how the net is divided among them.
+#[derive(Drop)]
+pub(crate) struct Paths {
+    pub sides: Sides,
+    pub division: Option<Division>,
+    pub policy: Policy,
+}
+
+impl Paths {
+    ghost use Rattle.phase_workers.specs.inner.Going.{ArePaths};
+
+    /// Those of a net that isn't divided.
+    pub(crate) fn undivided(sides: Sides, policy: Policy) -> Paths
+        ensures { (core : AnyCore) → AreSides core (MAX_INPUTS + MAX_OUTPUTS) sides → ArePaths core result }
+    {
+        Paths {
+            sides,
+            division: None,
+            policy,
+        }
+    }
+
+    /// Divides the net for some workers, and gives their number. It takes memory; if there is none, the net isn't divided.
+    pub(crate) fn choose_workers(
+        &mut self,
+        alloc: Global,
+        core: &Core,
+        steps: u32,
+        most: u32,
+    ) -> u32
+        requires plan { IsPlan (plan_of core.now) × (items_of (plan_of core.now) + 2 ^ 18 < 2 ^ 32) }
+        requires workers { most ≤ 2 ^ 16 }
+        requires paths { ArePaths core.now self.old }
+        ensures paths { ArePaths core.now self.new }
+        ensures workers { result ≤ 2 ^ 16 }
+    {
+        let workers = self.policy.choose(alloc, core, steps, most);
+        self.divide(alloc, core, workers);
+        workers
+    }
+
+    // Divides the net for so many workers, unless it is divided for so many.
+    fn divide(&mut self, alloc: Global, core: &Core, workers: u32)
+        requires plan { IsPlan (plan_of core.now) × (items_of (plan_of core.now) + 2 ^ 18 < 2 ^ 32) }
+        requires workers { workers ≤ 2 ^ 16 }
+        requires paths { ArePaths core.now self.old }
+        ensures { ArePaths core.now self.new }
+    {
+        if workers <= 1 {
+            return;
+        }
+        if is_divided(&self.division, workers) {
+            return;
+        }
+        self.divide_anew(alloc, core, workers);
+    }
+
+    fn divide_anew(&mut self, alloc: Global, core: &Core, workers: u32)
+        requires plan { IsPlan (plan_of core.now) × (items_of (plan_of core.now) + 2 ^ 18 < 2 ^ 32) }
+        requires workers { (0 < workers) × (workers ≤ 2 ^ 16) }
+        requires paths { ArePaths core.now self.old }
+        ensures { ArePaths core.now self.new }
+    {
+        self.division = find_division(alloc, core, &self.policy, workers);
+    }
+}
+
+fn is_divided(division: &Option<Division>, workers: u32) -> bool {
+    match division {
+        Some(division) => division.first.len() == workers as usize,
+        None => false,
+    }
+}
+
+// The net divided for so many workers; none if there is no memory.
+fn find_division(alloc: Global, core: &Core, policy: &Policy, workers: u32) -> Option<Division>
+    requires plan { IsPlan (plan_of core.now) × (items_of (plan_of core.now) + 2 ^ 18 < 2 ^ 32) }
+    requires workers { (0 < workers) × (workers ≤ 2 ^ 16) }
+    ensures { IfSome result (λ division. IsDivision (plan_of core.now) division) }
+{
+    match try_division(alloc, core, policy.work.as_slice(), workers) {
+        Ok(division) => Some(division),
+        Err(_) => None,
+    }
+}
+
+fn try_division(
+    alloc: Global,
+    core: &Core,
+    work: &[u64],
+    workers: u32,
+) -> Result<Division, AllocError>
+    requires plan { IsPlan (plan_of core.now) × (items_of (plan_of core.now) + 2 ^ 18 < 2 ^ 32) }
+    requires workers { (0 < workers) × (workers ≤ 2 ^ 16) }
+    ensures { IfOk result (λ division. IsDivision (plan_of core.now) division) }
+{
+    let plan = find_plan(alloc, core)?;
+    let made = partition(alloc, &plan, work, workers)?;
+    let division = Division::make(alloc, plan, made.groups, made.first)?;
+    Ok(division)
+}
