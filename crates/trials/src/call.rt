@@ -13,7 +13,7 @@ use turn_workers::OpenGate;
 
 /// A call, and the ports that it is made over. A port has the bytes of the file of its name, if there is one.
 #[derive(Clone, Copy)]
-pub struct Call<'a> {
+pub(crate) struct Call<'a> {
     /// How many bytes a read gives at most.
     pub piece: u32,
     /// How many bytes a port takes.
@@ -33,7 +33,7 @@ pub struct Call<'a> {
 
 /// Makes the call. The standard output has a line for each call of a port, then the number of the call's status, then what each
 /// port was given.
-pub fn make_call<R: Threads + Sync>(
+pub(crate) fn make_call<R: Threads + Sync>(
     rt: &HostRuntime,
     threads: &R,
     alloc: Global,

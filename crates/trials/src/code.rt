@@ -10,7 +10,7 @@ use std::alloc::Global;
 use std::io;
 
 /// Tells the code of the box of that name, where its rules and handlers begin, and the room that it needs.
-pub fn tell_code(
+pub(crate) fn tell_code(
     rt: &HostRuntime,
     alloc: Global,
     accepted: &Accepted,

@@ -5,7 +5,7 @@ use thiserror::Error;
 /// Why there is no trial.
 #[derive(Debug, Drop, Error)]
 pub enum TrialError {
-    #[error("call PIECE ROOM FAILING NUMBER TAKEN PORT.. -- WORD.. | code SOURCE BOX | net SOURCE STEPS")]
+    #[error("call .. | code SOURCE BOX | net SOURCE STEPS | held FIRST SECOND SOURCE WORD.. | round FIRST SECOND SOURCE STEPS WORKERS | claims | text")]
     Usage,
     #[error("the source can't be read")]
     NoSource,

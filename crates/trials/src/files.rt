@@ -3,7 +3,7 @@ use hume_ports::{FilePort, Port, fill_at};
 use std::alloc::{AllocError, Global};
 
 /// The bytes of the file of that name, as many as a source may have and some more; none where it can't be read.
-pub fn read_file(
+pub(crate) fn read_file(
     rt: &HostRuntime,
     alloc: Global,
     name: &str,

@@ -1,33 +1,105 @@
 use crate::call::Call;
+use crate::held_gate::Hold;
 
 /// What the words of the program ask for.
 #[derive(Clone, Copy)]
-pub enum Form<'a> {
+pub(crate) enum Form<'a> {
     /// `call PIECE ROOM FAILING NUMBER TAKEN PORT.. -- WORD..`: a call of the tool over ports in memory that tell each call.
     Call(Call<'a>),
     /// `code SOURCE BOX`: the code of a box.
-    Code { source: &'a str, name: &'a str },
+    Code {
+        source: &'a str,
+        name: &'a str,
+    },
     /// `net SOURCE STEPS`: supersteps of the plain net.
-    Net { source: &'a str, steps: u32 },
+    Net {
+        source: &'a str,
+        steps: u32,
+    },
+    /// `held FIRST SECOND SOURCE WORD..`: a call of the tool over its source and `std_out`, whose gate holds boxes.
+    HeldCall {
+        hold: Hold,
+        source: &'a str,
+        words: &'a [String],
+    },
+    /// `round FIRST SECOND SOURCE STEPS WORKERS`: a round of an engine by itself, whose gate holds boxes.
+    HeldRound {
+        hold: Hold,
+        source: &'a str,
+        steps: u32,
+        workers: u32,
+    },
+    /// `claims`: claims of a node and its wire.
+    Claims,
+    /// `text`: a small C file.
+    Text,
 }
 
 /// The form that the words have, if they have one.
-pub fn read_form(words: &[String]) -> Option<Form<'_>> {
+pub(crate) fn read_form(words: &[String]) -> Option<Form<'_>> {
     let [form, more @ ..] = words else {
         return None;
     };
-    match more {
-        [source, name] if form.as_str() == "code" => Some(Form::Code {
-            source: source.as_str(),
-            name: name.as_str(),
-        }),
-        [source, steps] if form.as_str() == "net" => Some(Form::Net {
-            source: source.as_str(),
-            steps: number(steps)?,
-        }),
-        _ if form.as_str() == "call" => Some(Form::Call(read_call(more)?)),
+    match form.as_str() {
+        "call" => Some(Form::Call(read_call(more)?)),
+        "code" => read_code(more),
+        "net" => read_net(more),
+        "held" => read_held_call(more),
+        "round" => read_held_round(more),
+        "claims" if more.is_empty() => Some(Form::Claims),
+        "text" if more.is_empty() => Some(Form::Text),
         _ => None,
     }
+}
+
+fn read_code(words: &[String]) -> Option<Form<'_>> {
+    let [source, name] = words else {
+        return None;
+    };
+    Some(Form::Code {
+        source: source.as_str(),
+        name: name.as_str(),
+    })
+}
+
+fn read_net(words: &[String]) -> Option<Form<'_>> {
+    let [source, steps] = words else {
+        return None;
+    };
+    Some(Form::Net {
+        source: source.as_str(),
+        steps: number(steps)?,
+    })
+}
+
+fn read_held_call(words: &[String]) -> Option<Form<'_>> {
+    let [first, second, source, words @ ..] = words else {
+        return None;
+    };
+    Some(Form::HeldCall {
+        hold: read_hold(first, second)?,
+        source: source.as_str(),
+        words,
+    })
+}
+
+fn read_held_round(words: &[String]) -> Option<Form<'_>> {
+    let [first, second, source, steps, workers] = words else {
+        return None;
+    };
+    Some(Form::HeldRound {
+        hold: read_hold(first, second)?,
+        source: source.as_str(),
+        steps: number(steps)?,
+        workers: number(workers)?,
+    })
+}
+
+fn read_hold(first: &str, second: &str) -> Option<Hold> {
+    Some(Hold {
+        first: number(first)?,
+        second: number(second)?,
+    })
 }
 
 fn read_call(words: &[String]) -> Option<Call<'_>> {

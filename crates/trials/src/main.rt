@@ -1,27 +1,38 @@
-//! A program for work on this repository: a call of the tool over ports in memory, the code of a box, and the plain net.
+//! A program for work on this repository: a call of the tool over ports in memory, the code of a box, the plain net, threads at a gate, and a C
+//! file.
 //!
 //! It is called by `trials FORM ..`; `Form` (`src/form.rt`) lists the forms and their words. `call` is used by `.ci/failing_ports.py`,
-//! `code` and `net` by the scripts of `bench/`. Status 2 says that there is no trial; the standard error says why.
+//! `code` and `net` by the scripts of `bench/`, all but `call` by `.ci/trials`. Status 2 says that there is no trial; the standard error
+//! says why.
 //!
 //! Proved: it is safe, and a port that tells its calls keeps the contract of the port inside. What it prints has no contract.
 //!
-//! It knows ports in memory, files that it reads before a call, the call, accepted sources, the compiler and the plain net. It
-//! doesn't know what a call owes: `.ci/failing_ports.py` does.
+//! It knows ports in memory, files that it reads before a call, the call, accepted sources, the compiler, the engine, the locker, the
+//! plain net and trees of C. It doesn't know what a call owes: `.ci/failing_ports.py` does.
 #![tactic(auto)]
 
+mod c_text;
 mod call;
+mod claims;
 mod code;
 mod error;
 mod files;
 mod form;
+mod held_call;
+mod held_gate;
+mod held_round;
 mod net;
 mod source;
 mod telling_port;
 
+use crate::c_text::tell_text;
 use crate::call::make_call;
+use crate::claims::tell_claims;
 use crate::code::tell_code;
 use crate::error::TrialError;
 use crate::form::{Form, read_form};
+use crate::held_call::hold_call;
+use crate::held_round::hold_round;
 use crate::net::step_net;
 use crate::source::accepted_source;
 use std::alloc::{AllocError, Global};
@@ -56,6 +67,26 @@ fn run<R: Threads + Sync>(rt: &HostRuntime, threads: &R) -> Result<(), TrialErro
             let accepted = accepted_source(rt, alloc, source)?;
             step_net(rt, alloc, &accepted, steps)
         }
+        Some(
+            Form::HeldCall {
+                hold,
+                source,
+                words,
+            },
+        ) => hold_call(rt, threads, alloc, hold, source, words),
+        Some(
+            Form::HeldRound {
+                hold,
+                source,
+                steps,
+                workers,
+            },
+        ) => {
+            let accepted = accepted_source(rt, alloc, source)?;
+            hold_round(rt, threads, alloc, hold, accepted, steps, workers)
+        }
+        Some(Form::Claims) => tell_claims(rt, alloc),
+        Some(Form::Text) => tell_text(rt, alloc),
         None => Err(TrialError::Usage),
     }
 }

@@ -11,7 +11,7 @@ use std::alloc::{AllocError, Global};
 use std::io;
 
 /// Makes so many supersteps of the plain net, and tells how many values each output stream has taken.
-pub fn step_net(
+pub(crate) fn step_net(
     rt: &HostRuntime,
     alloc: Global,
     accepted: &Accepted,

@@ -8,7 +8,11 @@ use hume_front::{Accepted, FrontError, accept};
 use std::alloc::Global;
 
 /// What the source in the file of that name stands for.
-pub fn accepted_source(rt: &HostRuntime, alloc: Global, name: &str) -> Result<Accepted, TrialError>
+pub(crate) fn accepted_source(
+    rt: &HostRuntime,
+    alloc: Global,
+    name: &str,
+) -> Result<Accepted, TrialError>
     ensures { IfOk result IsOfSource }
 {
     let Some(text) = read_file(rt, alloc, name)? else {

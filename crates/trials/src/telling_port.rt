@@ -7,14 +7,14 @@ use std::alloc::{AllocError, Global};
 /// A port in memory that tells each call on the standard output: `NAME read COUNT`, `NAME write COUNT`, `NAME finish`, or the name and
 /// the call with `fails` behind it.
 #[derive(Drop)]
-pub struct TellingPort<R: Print + Clone + Drop> {
+pub(crate) struct TellingPort<R: Print + Clone + Drop> {
     rt: R,
     inner: MemPort,
 }
 
 impl<R: Print + Clone + Drop> TellingPort<R> {
     /// A port with these bytes to read, in the pieces and with the room of the call, which says too whether one of its calls fails.
-    pub fn make(
+    pub(crate) fn make(
         rt: &R,
         alloc: Global,
         name: &str,
