@@ -1,0 +1,4 @@
+pub mod Steps
+pub mod ExpressionForms
+pub mod StatementForms
+pub mod Measures
