@@ -4,6 +4,8 @@ pub mod DepthSteps
 pub mod Digits
 pub mod KeptByLines
 pub mod OnRules
+pub mod PartForms
 pub mod ScriptLines
 pub mod Short
 pub mod ShortTypes
+pub mod Unfolded

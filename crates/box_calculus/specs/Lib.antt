@@ -1,3 +1,4 @@
+pub mod inner
 pub mod Lines
 pub mod Scripts
 pub mod Kept

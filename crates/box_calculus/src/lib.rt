@@ -23,6 +23,7 @@ mod names;
 mod naming;
 mod numbers;
 mod output;
+mod parts;
 mod rewriting;
 mod scripts;
 mod swap;

@@ -2,21 +2,19 @@
 ghost use Rattle.std.specs.Prelude.{◌≡◌, ◌⊎◌, ◌<◌, IfOk, IfErr, IfSome, OnOk, None, Some, length, slice_get, slice_set};
 ghost use Rattle.calculus_laws.specs.declared.step.CalcError.TheVariants.{NoMemory};
 ghost use Rattle.calculus_laws.specs.Boxes.{box_at, with_box};
-ghost use Rattle.calculus_laws.specs.Naming.{calling_box, named_function, named_output, output_at, output_refusal};
+ghost use Rattle.calculus_laws.specs.Naming.{calling_box, named_function, named_output, output_at, output_refusal, variables};
 ghost use Rattle.calculus_laws.specs.Swapping.{swap_refusal, swapped_box};
 ghost use Rattle.calculus_laws.specs.Steps.{IsOnRule, refusal, rewritten};
-ghost use Rattle.calculus_laws.specs.Unfolding.{unfolded_at, with_rule};
 
 use crate::naming::name_output;
-use crate::output::exchange_result;
 use crate::swap::swap_rules;
-use crate::unfold::unfold_rule;
+use crate::unfold::{unfold_rule, variable_count};
 use calculus_laws::{CalcError, Step};
 use hume_base::{List, Text};
-use hume_model::{Core, NodeC, Res};
-use std::alloc::Global;
+use hume_model::{Core, NodeC};
+use std::alloc::{AllocError, Global};
 
-/// The core after the step, which moves its trees. Of what stays, only the result is copied in which a call is unfolded.
+/// The core after the step, which moves its trees and copies nothing of what stays.
 pub fn rewrite(alloc: Global, core: Core, step: &Step) -> Result<Core, CalcError>
     requires { IsOnRule core step.now }
     ensures new { IfOk result (λ new. new ≡ rewritten core step.now) }
@@ -30,6 +28,7 @@ pub fn rewrite(alloc: Global, core: Core, step: &Step) -> Result<Core, CalcError
     }
 }
 
+#[tactic(auto, using(crate::proofs::Unfolded::unfold_steps))]
 fn unfold_in(alloc: Global, core: Core, node: u32, rule: u32) -> Result<Core, CalcError>
     requires { IsOnRule core (Step.Unfold node rule) }
     ensures new { IfOk result (λ new. new ≡ rewritten core (Step.Unfold node rule)) }
@@ -37,7 +36,7 @@ fn unfold_in(alloc: Global, core: Core, node: u32, rule: u32) -> Result<Core, Ca
     ensures refused { IfErr result (λ error.
         (error ≡ NoMemory) ⊎ (refusal core (Step.Unfold node rule) ≡ Some error)) }
 {
-    let new = unfolded_result(alloc, &core, node, rule)?;
+    let scope = rule_scope(alloc, &core, node, rule)?;
     let Core {
         types,
         exns,
@@ -47,9 +46,7 @@ fn unfold_in(alloc: Global, core: Core, node: u32, rule: u32) -> Result<Core, Ca
     } = core;
     let mut nodes = nodes.into_vec();
     match &mut nodes[node as usize] {
-        NodeC::Rules(b) => {
-            exchange_result(alloc, b, rule, new);
-        }
+        NodeC::Rules(b) => unfold_rule(alloc, funs.as_slice(), b, rule, scope)?,
         _ => unreachable!(),
     }
     Ok(Core {
@@ -61,16 +58,14 @@ fn unfold_in(alloc: Global, core: Core, node: u32, rule: u32) -> Result<Core, Ca
     })
 }
 
-fn unfolded_result(alloc: Global, core: &Core, node: u32, rule: u32) -> Result<Res, CalcError>
+// How many variables the rule has.
+fn rule_scope(alloc: Global, core: &Core, node: u32, rule: u32) -> Result<u32, AllocError>
     requires { IsOnRule core.now (Step.Unfold node rule) }
-    ensures new { IfOk result (λ new. IfSome (box_at core.now node) (λ b. IfSome (slice_get b.rules rule)
-        (λ old. unfolded_at core.now b rule ≡ Some (record old { result = new })))) }
-    ensures allowed { OnOk result (refusal core.now (Step.Unfold node rule) ≡ None) }
-    ensures refused { IfErr result (λ error.
-        (error ≡ NoMemory) ⊎ (refusal core.now (Step.Unfold node rule) ≡ Some error)) }
+    ensures { IfOk result (λ scope. IfSome (box_at core.now node) (λ b. IfSome (slice_get b.rules rule)
+        (λ old. scope ≡ length (variables core.now.types b old)))) }
 {
     match core.nodes.get(node as usize) {
-        Some(NodeC::Rules(b)) => unfold_rule(alloc, core, b, rule),
+        Some(NodeC::Rules(b)) => variable_count(alloc, &core.types, b, rule),
         _ => unreachable!(),
     }
 }

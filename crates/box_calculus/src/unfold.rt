@@ -1,48 +1,83 @@
 //! Rules in which a call is unfolded.
-ghost use Rattle.std.specs.Prelude.{◌≡◌, ◌⊎◌, ◌<◌, IfOk, IfErr, IfSome, OnOk, None, Some, length, slice_get};
+ghost use Rattle.std.specs.Prelude.{◌≡◌, ◌⊎◌, ◌<◌, IfOk, IfErr, IfSome, OnOk, Some, None, length, slice_get, slice_set};
 ghost use Rattle.calculus_laws.specs.declared.step.CalcError.TheVariants.{NoMemory as OutOfMemory};
 ghost use Rattle.calculus_laws.specs.Naming.{variables};
-ghost use Rattle.calculus_laws.specs.Unfolding.{result_unfolded, unfold_refusal, unfolded_at};
+ghost use Rattle.calculus_laws.specs.Unfolding.{has_room, unfold_refusal};
+ghost use Rattle.calculus_unfolding.specs.inner.Changes.{alone, result_changed};
+ghost use Rattle.box_calculus.specs.inner.Unfolded.{result_refusal, rule_changed};
 
 use crate::depths::result_is_within;
+use crate::parts::count_result_parts;
 use crate::variables::rule_variables;
-use calculus_laws::{CalcError, MAX_RESULT_DEPTH};
+use calculus_laws::{CalcError, MAX_RESULT_DEPTH, MAX_RESULT_PARTS};
 use calculus_unfolding::{count, unfold_result};
-use hume_model::{BoxC, Core, Res, RuleC};
+use hume_base::{List, Types};
+use hume_model::{BoxC, FunC, Res};
 use std::alloc::{AllocError, Global};
+use std::mem;
 
-/// The result of a rule with the first call unfolded that can be.
-pub(crate) fn unfold_rule(alloc: Global, core: &Core, b: &BoxC, rule: u32) -> Result<Res, CalcError>
-    requires { rule < length b.now.rules }
-    ensures new { IfOk result (λ new. IfSome (slice_get b.now.rules rule) (λ old. unfolded_at core.now b.now rule ≡ Some (record old { result = new }))) }
-    ensures allowed { OnOk result (unfold_refusal (unfolded_at core.now b.now rule) ≡ None) }
-    ensures refused { IfErr result (λ error.
-        (error ≡ OutOfMemory) ⊎ (unfold_refusal (unfolded_at core.now b.now rule) ≡ Some error)) }
+/// Unfolds the first call that can be unfolded in the result of a rule with `scope` variables. A refusal may leave the rule changed.
+#[tactic(auto, using(crate::proofs::Unfolded::refusal_steps))]
+pub(crate) fn unfold_rule(
+    alloc: Global,
+    funs: &[FunC],
+    b: &mut BoxC,
+    rule: u32,
+    scope: u32,
+) -> Result<(), CalcError>
+    requires { rule < length b.old.rules }
+    ensures new { OnOk result (IfSome (slice_get b.old.rules rule) (λ old. IfSome (rule_changed (alone funs.now) scope old) (λ new.
+        b.new ≡ record b.old { rules = slice_set b.old.rules rule new }))) }
+    ensures allowed { OnOk result (IfSome (slice_get b.old.rules rule) (λ old. unfold_refusal (rule_changed (alone funs.now) scope old) ≡ None)) }
+    ensures refused { IfErr result (λ error. (error ≡ OutOfMemory)
+        ⊎ IfSome (slice_get b.old.rules rule) (λ old. unfold_refusal (rule_changed (alone funs.now) scope old) ≡ Some error)) }
 {
-    let old = &b.rules.as_slice()[rule as usize];
-    match unfold_in_rule(alloc, core, b, old)? {
-        None => Err(CalcError::CannotUnfold),
-        Some(new) => {
-            if result_is_within(&new, MAX_RESULT_DEPTH) {
-                Ok(new)
-            } else {
-                Err(CalcError::CannotUnfold)
-            }
-        }
+    let mut rules = mem::replace(&mut b.rules, List::new(alloc)).into_vec();
+    unfold_allowed(alloc, funs, &mut rules[rule as usize].result, scope)?;
+    b.rules = List::from_vec(rules);
+    Ok(())
+}
+
+// Unfolds the first call of the result that can be unfolded.
+fn unfold_allowed(
+    alloc: Global,
+    funs: &[FunC],
+    given: &mut Res,
+    scope: u32,
+) -> Result<(), CalcError>
+    ensures new { OnOk result (result_changed (alone funs.now) scope given.old ≡ Some given.new) }
+    ensures allowed { OnOk result (result_refusal (result_changed (alone funs.now) scope given.old) ≡ None) }
+    ensures refused { IfErr result (λ error.
+        (error ≡ OutOfMemory) ⊎ (result_refusal (result_changed (alone funs.now) scope given.old) ≡ Some error)) }
+{
+    if unfold_result(alloc, funs, given, scope)? && has_room(given)? {
+        Ok(())
+    } else {
+        Err(CalcError::CannotUnfold)
     }
 }
 
-// The result of the rule with a call unfolded, if there is one.
-fn unfold_in_rule(
-    alloc: Global,
-    core: &Core,
-    b: &BoxC,
-    rule: &RuleC,
-) -> Result<Option<Res>, AllocError>
-    ensures { IfOk result (λ new. new ≡ result_unfolded core.now
-        (length (variables core.now.types b.now rule.now)) rule.now.result) }
+// Whether the result is no deeper than is allowed, and has no more parts. Depth first: a count goes through all of its levels.
+fn has_room(given: &Res) -> Result<bool, AllocError>
+    ensures { IfOk result (λ room. room ≡ has_room given.now) }
 {
-    let variables = rule_variables(alloc, &core.types, rule.pats.as_slice(), b.ins.as_slice())?;
-    let scope = count(variables.len())?;
-    unfold_result(alloc, core, &rule.result, scope)
+    if !result_is_within(given, MAX_RESULT_DEPTH) {
+        return Ok(false);
+    }
+    Ok(count_result_parts(given)? <= MAX_RESULT_PARTS)
+}
+
+/// How many variables a rule has.
+pub(crate) fn variable_count(
+    alloc: Global,
+    types: &Types,
+    b: &BoxC,
+    rule: u32,
+) -> Result<u32, AllocError>
+    requires { rule < length b.now.rules }
+    ensures { IfOk result (λ count. IfSome (slice_get b.now.rules rule) (λ old. count ≡ length (variables types.now b.now old))) }
+{
+    let pats = &b.rules.as_slice()[rule as usize].pats;
+    let variables = rule_variables(alloc, types, pats.as_slice(), b.ins.as_slice())?;
+    count(variables.len())
 }

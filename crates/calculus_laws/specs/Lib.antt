@@ -1,6 +1,7 @@
 pub mod Apart
 pub mod Boxes
 pub mod Depth
+pub mod Parts
 pub mod NamedAgain
 pub mod Names
 pub mod Naming

@@ -16,12 +16,13 @@ use Rattle.hume_model.specs.declared.core_tree.FunC.{FunC}
 use Rattle.hume_model.specs.declared.core_tree.RuleC.{RuleC}
 use Rattle.hume_model.specs.declared.core_tree.BoxC.{BoxC}
 use Rattle.hume_model.specs.declared.core_tree.Core.{Core}
-use Rattle.calculus_laws.specs.declared.step.TheConstants.{MAX_RESULT_DEPTH}
+use Rattle.calculus_laws.specs.declared.step.TheConstants.{MAX_RESULT_DEPTH, MAX_RESULT_PARTS}
 use Rattle.calculus_laws.specs.declared.step.CalcError.{CalcError}
 use Rattle.calculus_laws.specs.declared.step.CalcError.TheVariants.{CannotUnfold}
 use Rattle.calculus_laws.specs.Boxes.{with_box}
 use Rattle.calculus_laws.specs.Depth.{result_depth}
 use Rattle.calculus_laws.specs.Naming.{variables}
+use Rattle.calculus_laws.specs.Parts.{result_parts}
 
 -- one level of an expression whose variables get other numbers
 abbrev pub renumber_layer : (ℕ → ℕ) → Expr-F Expr → Expr-F Expr
@@ -206,7 +207,11 @@ abbrev pub unfolded_core : Core → ℕ → ℕ → BoxC → Option RuleC → Co
 unfolded_core core node number b None = core
 unfolded_core core node number b (Some new) = with_box core node (with_rule number new b)
 
--- a rule may not be unfolded where there is no such call in it, or where its result would be too deep
+-- the result is no deeper than is allowed, and has no more parts
+abbrev pub has_room : Res → Bool
+has_room result = nat_le (result_depth result) MAX_RESULT_DEPTH && nat_le (result_parts result) MAX_RESULT_PARTS
+
+-- a rule may not be unfolded where there is no such call in it, or where its result would be too deep or have too many parts
 abbrev pub unfold_refusal : Option RuleC → Option CalcError
 unfold_refusal None = Some CannotUnfold
-unfold_refusal (Some new) = if nat_le (result_depth new.result) MAX_RESULT_DEPTH then None else Some CannotUnfold
+unfold_refusal (Some new) = if has_room new.result then None else Some CannotUnfold

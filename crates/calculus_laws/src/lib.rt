@@ -2,7 +2,8 @@
 //!
 //! `Steps.antt` says what a step makes of a core and why it is refused. There are three kinds: the swap of two rules
 //! (`Swapping.antt`, and `Apart.antt` says when no inputs fit two rules), the naming of an output (`Naming.antt`, and `Names.antt`
-//! says which names are free), and the unfolding of a call (`Unfolding.antt`, and `Depth.antt` says how deep a result is).
+//! says which names are free), and the unfolding of a call (`Unfolding.antt`; `Depth.antt` and `Parts.antt` say how
+//! deep a result is and how many parts it has).
 //! `Orders.antt` says of which states the runs are kept, and `UnfoldedBounds.antt` what becomes of a bound.
 //!
 //! Proved: a step that isn't refused changes no run, state by state (`rewrites_keep_runs`); the new core is well formed
@@ -25,4 +26,4 @@ pub use laws::{
     rewrites_keep_cores_well_formed, rewrites_keep_runs, rewrites_keep_types, rewrites_keep_wiring,
     unfair_boxes_keep_the_written_order, unfolds_raise_no_heap_or_stack,
 };
-pub use step::{CalcError, MAX_RESULT_DEPTH, Step};
+pub use step::{CalcError, MAX_RESULT_DEPTH, MAX_RESULT_PARTS, Step};

@@ -5,6 +5,9 @@ use std::alloc::AllocError;
 /// The greatest depth of a result that a step may make.
 pub const MAX_RESULT_DEPTH: u32 = 1_024;
 
+/// The most parts of a result that a step may make.
+pub const MAX_RESULT_PARTS: u32 = 1_048_576;
+
 /// A step that rewrites one rule of a box. Nodes and rules are counted from 0.
 #[derive(Drop)]
 pub enum Step {
@@ -19,7 +22,7 @@ pub enum Step {
 /// Why a step isn't made. The causes have the codes 91 to 94.
 #[derive(Clone, Copy)]
 pub enum CalcError {
-    /// 91: the rule's result has no call that can be unfolded, or it would be too deep.
+    /// 91: the rule's result has no call that can be unfolded, or it would be too deep or have too many parts.
     CannotUnfold,
     /// 92: the box has other than one output, the rule doesn't give it a value at once, or there may be no such function.
     CannotName,

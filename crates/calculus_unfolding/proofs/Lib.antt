@@ -1,8 +1,7 @@
-pub mod KeptNumbers
+pub mod Alone
+pub mod Changes
 pub mod Measures
 pub mod NumberForms
-pub mod Parts
 pub mod ResultForms
-pub mod ResultParts
 pub mod Sums
 pub mod UnfoldForms

@@ -1,16 +1,22 @@
 -- What becomes of a result, form by form.
-use Rattle.std.proofs.Common.{◌≡◌, ℕ, ◌+◌, List, Option, Some, map, ap, sym, ◌∙◌}
+use Rattle.std.proofs.Common.{◌≡◌, ℕ, ◌+◌, Bool, List, Option, Some, None, map, ap, sym, ◌∙◌}
 use Rattle.std.specs.Option.{option_map, option_or}
+use Rattle.std.proofs.lemmas.Grind.{common_steps}
 use Rattle.hume_base.specs.declared.types.Ty.{Ty}
 use Rattle.hume_model.specs.declared.core_tree.PatC.{PatC}
 use Rattle.hume_model.specs.declared.core_tree.Expr.{Expr}
-use Rattle.hume_model.specs.declared.core_tree.Res.{Res, roll-Res, map-Res, fold-roll-Res}
+use Rattle.hume_model.specs.declared.core_tree.Res.{Res, out-Res, out-roll-Res, roll-Res, map-Res, fold-roll-Res}
 use Rattle.hume_model.specs.declared.core_tree.Res.TheOpen.{Res-F}
 use Rattle.hume_model.specs.declared.core_tree.Res.TheVariants as res
 use Rattle.hume_model.specs.declared.core_tree.Core.{Core}
-use Rattle.calculus_laws.specs.Unfolding.{Looked, arms_unfolded, look_result_step, looked, looked_result, outs_unfolded, unfold_result_step}
+use Rattle.calculus_laws.specs.Unfolding.{Looked, look_result_step, looked, looked_result, unfold_result_step}
 use Rattle.calculus_laws.proofs.UnfoldedResults.{looked_result_tree}
-use Rattle.calculus_unfolding.proofs.ResultParts.{looked_ways, unfold_steps}
+use Rattle.calculus_unfolding.specs.inner.Changes.{arm_changed, expression_changed, first_changed, if_found, part_changed, result_changed, two_changed}
+use Rattle.calculus_unfolding.proofs.Changes.{arm_trees, arms_are, map_if_found, map_twice, outs_are, three_mapped, two_mapped}
+
+-- one level of a result of the form in which not all fields are lent
+pub case_layer : (e : Expr) (ty : Ty) (arms : List (PatC × Res)) → out-Res (res.Case e ty arms) ≡ Res-F.Case e ty arms
+case_layer e ty arms = ap out-Res (sym (res.rolls-Case e ty arms)) ∙ out-roll-Res (Res-F.Case e ty arms)
 
 module _ (core : Core) where
   form : (r : Res) (x : Res-F Res) (scope : ℕ) → roll-Res x ≡ r
@@ -20,38 +26,67 @@ module _ (core : Core) where
       ∙ ap (λ (l : Looked Res). l.unfolded scope) (fold-roll-Res (Looked Res) (look_result_step (looked core)) x)
 
   pub outs_become : (outs : List (Option Expr)) (scope : ℕ)
-      → (looked_result core (res.Outs outs)).unfolded scope ≡ option_map res.Outs (outs_unfolded (looked core) outs scope)
-  outs_become outs scope = form _ (Res-F.Outs outs) scope (res.rolls-Outs outs)
+      → result_changed core scope (res.Outs outs) ≡ option_map res.Outs (first_changed (part_changed core scope) outs)
+  outs_become outs scope = form _ (Res-F.Outs outs) scope (res.rolls-Outs outs) ∙ ap (option_map res.Outs) (outs_are core outs scope)
 
-  pub raise_becomes : (exn : ℕ) (e : Expr) (scope : ℕ)
-      → (looked_result core (res.Raise exn (Some e))).unfolded scope ≡ option_map (λ d. res.Raise exn (Some d)) ((looked core e).unfolded scope)
-  raise_becomes exn e scope = form _ (Res-F.Raise exn (Some e)) scope (res.rolls-Raise exn (Some e))
+  pub raise_becomes : (exn : ℕ) (part : Option Expr) (scope : ℕ)
+      → result_changed core scope (res.Raise exn part) ≡ option_map (res.Raise exn) (part_changed core scope part)
+  raise_becomes exn None scope = form _ (Res-F.Raise exn None) scope (res.rolls-Raise exn None)
+  raise_becomes exn (Some e) scope =
+      form _ (Res-F.Raise exn (Some e)) scope (res.rolls-Raise exn (Some e)) ∙ sym (map_twice Some (res.Raise exn) (expression_changed core scope e))
 
   pub case_becomes : (e : Expr) (ty : Ty) (arms : List (PatC × Res)) (scope : ℕ)
-      → (looked_result core (res.Case e ty arms)).unfolded scope
-      ≡ option_or (option_map (λ d. res.Case d ty arms) ((looked core e).unfolded scope))
-      (option_map (res.Case e ty) (arms_unfolded (map (λ (arm : PatC × Res). (arm.0, looked_result core arm.1)) arms) scope))
+      → result_changed core scope (res.Case e ty arms)
+      ≡ option_map (λ parts. res.Case parts.0 ty parts.1)
+      (two_changed (expression_changed core scope) (first_changed (arm_changed (result_changed core) scope)) (e, arms))
   case_becomes e ty arms scope =
       form _ (Res-F.Case e ty arms) scope (res.rolls-Case e ty arms)
-      ∙ (λ i. option_or (option_map (λ d. res.Case d ty (looked_ways core arms i)) ((looked core e).unfolded scope))
-      (option_map (res.Case e ty) (arms_unfolded (map (λ (arm : PatC × Res). (arm.0, looked_result core arm.1)) arms) scope)))
+      ∙ (λ i. option_or (option_map (λ d. res.Case d ty (arm_trees (looked_result core) (looked_result_tree core) arms i)) (expression_changed core scope e))
+      (option_map (res.Case e ty) (arms_are (looked_result core) (looked_result_tree core) arms scope i)))
+      ∙ sym (two_mapped (expression_changed core scope) (first_changed (arm_changed (result_changed core) scope))
+      (λ parts. res.Case parts.0 ty parts.1) e arms)
 
   pub let_becomes : (e : Expr) (body : Res) (scope : ℕ)
-      → (looked_result core (res.Let e body)).unfolded scope
-      ≡ option_or (option_map (λ d. res.Let d body) ((looked core e).unfolded scope)) (option_map (res.Let e) ((looked_result core body).unfolded (scope + 1)))
+      → result_changed core scope (res.Let e body)
+      ≡ option_map (λ parts. res.Let parts.0 parts.1) (two_changed (expression_changed core scope) (result_changed core (scope + 1)) (e, body))
   let_becomes e body scope =
       form _ (Res-F.Let e body) scope (res.rolls-Let e body)
-      ∙ ap (λ r. option_or (option_map (λ d. res.Let d r) ((looked core e).unfolded scope))
-      (option_map (res.Let e) ((looked_result core body).unfolded (scope + 1)))) (looked_result_tree core body)
+      ∙ ap (λ r. option_or (option_map (λ d. res.Let d r) (expression_changed core scope e))
+      (option_map (res.Let e) (result_changed core (scope + 1) body))) (looked_result_tree core body)
+      ∙ sym (two_mapped (expression_changed core scope) (result_changed core (scope + 1)) (λ parts. res.Let parts.0 parts.1) e body)
 
   pub if_becomes : (t : Expr) (a b : Res) (scope : ℕ)
-      → (looked_result core (res.If t a b)).unfolded scope
-      ≡ option_or (option_map (λ d. res.If d a b) ((looked core t).unfolded scope))
-      (option_or (option_map (λ r. res.If t r b) ((looked_result core a).unfolded scope)) (option_map (res.If t a) ((looked_result core b).unfolded scope)))
+      → result_changed core scope (res.If t a b)
+      ≡ option_map (λ parts. res.If parts.0 parts.1.0 parts.1.1)
+      (two_changed (expression_changed core scope) (two_changed (result_changed core scope) (result_changed core scope)) (t, (a, b)))
   if_becomes t a b scope =
       form _ (Res-F.If t a b) scope (res.rolls-If t a b)
-      ∙ (λ i. option_or (option_map (λ d. res.If d (looked_result_tree core a i) (looked_result_tree core b i)) ((looked core t).unfolded scope))
-      (option_or (option_map (λ r. res.If t r (looked_result_tree core b i)) ((looked_result core a).unfolded scope))
-      (option_map (res.If t (looked_result_tree core a i)) ((looked_result core b).unfolded scope))))
+      ∙ (λ i. option_or (option_map (λ d. res.If d (looked_result_tree core a i) (looked_result_tree core b i)) (expression_changed core scope t))
+      (option_or (option_map (λ r. res.If t r (looked_result_tree core b i)) (result_changed core scope a))
+      (option_map (res.If t (looked_result_tree core a i)) (result_changed core scope b))))
+      ∙ sym (three_mapped (expression_changed core scope) (result_changed core scope) (result_changed core scope)
+      (λ parts. res.If parts.0 parts.1.0 parts.1.1) t a b)
 
-pub ruleset form_steps = (unfold_steps, outs_become, raise_becomes, case_becomes, let_becomes, if_becomes)
+  -- so the result becomes what its parts do
+  pub case_found : (e d : Expr) (ty : Ty) (arms new : List (PatC × Res)) (scope : ℕ) (found : Bool)
+      → two_changed (expression_changed core scope) (first_changed (arm_changed (result_changed core) scope)) (e, arms) ≡ if_found found (d, new)
+      → result_changed core scope (res.Case e ty arms) ≡ if_found found (res.Case d ty new)
+  case_found e d ty arms new scope found is =
+      case_becomes e ty arms scope ∙ ap (option_map (λ parts. res.Case parts.0 ty parts.1)) is
+      ∙ map_if_found (λ parts. res.Case parts.0 ty parts.1) found (d, new)
+
+  pub let_found : (e d : Expr) (body new : Res) (scope : ℕ) (found : Bool)
+      → two_changed (expression_changed core scope) (result_changed core (scope + 1)) (e, body) ≡ if_found found (d, new)
+      → result_changed core scope (res.Let e body) ≡ if_found found (res.Let d new)
+  let_found e d body new scope found is =
+      let_becomes e body scope ∙ ap (option_map (λ parts. res.Let parts.0 parts.1)) is ∙ map_if_found (λ parts. res.Let parts.0 parts.1) found (d, new)
+
+  pub choice_found : (t u : Expr) (a b d e : Res) (scope : ℕ) (found : Bool)
+      → two_changed (expression_changed core scope) (two_changed (result_changed core scope) (result_changed core scope)) (t, (a, b))
+      ≡ if_found found (u, (d, e))
+      → result_changed core scope (res.If t a b) ≡ if_found found (res.If u d e)
+  choice_found t u a b d e scope found is =
+      if_becomes t a b scope ∙ ap (option_map (λ parts. res.If parts.0 parts.1.0 parts.1.1)) is
+      ∙ map_if_found (λ parts. res.If parts.0 parts.1.0 parts.1.1) found (u, (d, e))
+
+pub ruleset form_steps = (common_steps, map_if_found, outs_become, raise_becomes, case_found, let_found, choice_found)

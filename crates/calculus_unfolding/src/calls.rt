@@ -3,25 +3,26 @@ ghost use Rattle.std.specs.Prelude.{◌≡◌, IfOk};
 ghost use Rattle.std.specs.List.{list_all};
 ghost use Rattle.hume_model.specs.declared.core_tree.PatC.{out-PatC};
 ghost use Rattle.calculus_laws.specs.Unfolding.{call_unfolded, equation_unfolded, lets_around, only_equation, pattern_numbers, takes_all, takes_any};
+ghost use Rattle.calculus_unfolding.specs.inner.Changes.{alone};
 
 use crate::counts::{count, plus};
 use crate::renumbering::{Numbers, renumber, renumber_part};
 use hume_base::{Box, List};
-use hume_model::{Core, EqC, Expr, PatC};
+use hume_model::{EqC, Expr, FunC, PatC};
 use std::alloc::{AllocError, Global};
 
 /// The call of a function on the arguments, unfolded where `scope` variables are in scope; none if it can't be.
 #[inline(never)]
 pub fn unfold_call(
     alloc: Global,
-    core: &Core,
+    funs: &[FunC],
     function: u32,
     args: &[Expr],
     scope: u32,
 ) -> Result<Option<Expr>, AllocError>
-    ensures { IfOk result (λ new. new ≡ call_unfolded core.now function args.now scope) }
+    ensures { IfOk result (λ new. new ≡ call_unfolded (alone funs.now) function args.now scope) }
 {
-    match core.funs.get(function as usize) {
+    match funs.get(function as usize) {
         None => Ok(None),
         Some(function) => unfold_only(alloc, function.equations.as_slice(), args, scope),
     }

@@ -8,10 +8,10 @@ ghost use Rattle.hume_model.specs.declared.core_tree.Expr.TheVariants.{Index as 
 ghost use Rattle.hume_model.specs.declared.core_tree.Expr.TheVariants.{Tuple as TupleExpr, Update as UpdateExpr, Vect as VectExpr};
 ghost use Rattle.hume_model.specs.declared.core_tree.PatC.{PatC as Pattern};
 ghost use Rattle.calculus_laws.specs.Unfolding.{renumbered};
-ghost use Rattle.calculus_unfolding.specs.inner.Numbers.{kept, new_number};
+ghost use Rattle.calculus_unfolding.specs.inner.Numbers.{new_number};
 
-use crate::copies::copy_pattern;
 use crate::counts::plus;
+use crate::patterns::copy_pattern;
 use hume_base::{Box, List, Ty, copy_ty};
 use hume_model::{Expr, Op, PatC};
 use std::alloc::{AllocError, Global};
@@ -26,13 +26,6 @@ pub enum Numbers {
 }
 
 impl Numbers {
-    /// Each variable keeps its number.
-    pub fn kept() -> Numbers
-        ensures { result ≡ kept }
-    {
-        Numbers::Moved { scope: 0, count: 0 }
-    }
-
     fn of(&self, number: u32) -> Result<u32, AllocError>
         ensures { IfOk result (λ new. new ≡ new_number self.now number) }
     {

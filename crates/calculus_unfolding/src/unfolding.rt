@@ -1,421 +1,250 @@
-//! Expressions in which the first call that can be unfolded is. Each form has a function of its own, which is never inlined: so a level of
-//! depth takes little of the stack.
-ghost use Rattle.std.specs.Prelude.{◌≡◌, ◌<◌, ◌+◌, ◌++◌, ◌∷◌, IfOk, length, map, get_or, take, drop};
-ghost use Rattle.std.specs.Option.{option_and_then};
+//! Expressions in which the first call that can be unfolded is, in its place: nothing else of an expression is moved or copied. What has
+//! several parts has a function that is never inlined, so a level of depth takes little of the stack.
+ghost use Rattle.std.specs.Prelude.{◌≡◌, IfOk, IsFalse, ℕ, List};
 ghost use Rattle.hume_model.specs.declared.core_tree.Expr.{Expr as Expression};
-ghost use Rattle.hume_model.specs.declared.core_tree.Expr.TheVariants.{Call as CallExpr, Case as CaseExpr, Con as ConExpr, If as IfExpr};
-ghost use Rattle.hume_model.specs.declared.core_tree.Expr.TheVariants.{Index as IndexExpr, Let as LetExpr, Prim as PrimExpr, Raise as RaiseExpr};
-ghost use Rattle.hume_model.specs.declared.core_tree.Expr.TheVariants.{Tuple as TupleExpr, Update as UpdateExpr, Vect as VectExpr};
-ghost use Rattle.hume_model.specs.declared.core_tree.PatC.{PatC as Pattern};
-ghost use Rattle.hume_model.specs.declared.core_tree.PatC.TheVariants.{Any as AnyPattern};
-ghost use Rattle.calculus_laws.specs.Unfolding.{arms_unfolded, looked, parts_unfolded};
-ghost use Rattle.calculus_unfolding.specs.inner.Parts.{first_branch, first_part};
+ghost use Rattle.hume_model.specs.declared.core_tree.Expr.TheVariants.{Call as CallExpr};
+ghost use Rattle.calculus_unfolding.specs.inner.Changes.{alone, arm_changed, expression_changed, first_changed, if_found, part_changed, two_changed};
 
 use crate::calls::unfold_call;
-use crate::copies::{copy_arms, copy_part, copy_parts, copy_pattern};
 use crate::counts::{count_variables, plus};
-use hume_base::{Box, List, Ty, copy_ty};
-use hume_model::{Core, Expr, Op, PatC};
+use hume_base::{Box, List};
+use hume_model::{Expr, FunC, PatC};
 use std::alloc::{AllocError, Global};
+use std::mem;
 
-/// The expression with the first call unfolded that can be, where `scope` variables are in scope; none if there is no such call.
+/// Unfolds the first call of an expression that can be unfolded, where `scope` variables are in scope. Answers whether there is one.
 #[cycle(unfold)]
 #[tactic(auto, using(crate::proofs::UnfoldForms::form_steps))]
-pub fn unfold(alloc: Global, core: &Core, e: &Expr, scope: u32) -> Result<Option<Expr>, AllocError>
-    ensures { IfOk result (λ new. new ≡ (looked core.now e.now).unfolded scope) }
+pub fn unfold(alloc: Global, funs: &[FunC], e: &mut Expr, scope: u32) -> Result<bool, AllocError>
+    ensures found { IfOk result (λ found. expression_changed (alone funs.now) scope e.old ≡ if_found found e.new) }
+    ensures kept { IfOk result (λ found. IsFalse found → e.new ≡ e.old) }
 {
     match e {
-        Expr::Word(_) | Expr::Var(_) => Ok(None),
-        Expr::Con(place, parts) => unfold_object(alloc, core, *place, parts.as_slice(), scope),
-        Expr::Tuple(parts) => unfold_tuple(alloc, core, parts.as_slice(), scope),
-        Expr::Vect(parts) => unfold_vector(alloc, core, parts.as_slice(), scope),
-        Expr::Prim(op, ty, parts) => {
-            unfold_operation(alloc, core, *op, ty, parts.as_slice(), scope)
+        Expr::Word(_) | Expr::Var(_) => Ok(false),
+        Expr::Con(_, parts) => unfold_parts(alloc, funs, parts, scope),
+        Expr::Tuple(parts) => unfold_parts(alloc, funs, parts, scope),
+        Expr::Vect(parts) => unfold_parts(alloc, funs, parts, scope),
+        Expr::Prim(_, _, parts) => unfold_parts(alloc, funs, parts, scope),
+        Expr::Index(_, vector, place) => {
+            unfold_two(alloc, funs, vector.as_mut(), place.as_mut(), scope, scope)
         }
-        Expr::Index(count, vector, place) => {
-            unfold_index(alloc, core, *count, vector, place, scope)
-        }
-        Expr::Update(count, vector, place, item) => {
-            unfold_update(alloc, core, *count, vector, place, item, scope)
+        Expr::Update(_, vector, place, item) => {
+            unfold_three(
+                alloc,
+                funs,
+                vector.as_mut(),
+                place.as_mut(),
+                item.as_mut(),
+                scope,
+            )
         }
         Expr::If(test, when_true, when_false) => {
-            unfold_choice(alloc, core, test, when_true, when_false, scope)
+            unfold_three(
+                alloc,
+                funs,
+                test.as_mut(),
+                when_true.as_mut(),
+                when_false.as_mut(),
+                scope,
+            )
         }
-        Expr::Case(part, ty, arms) => { unfold_case(alloc, core, part, ty, arms.as_slice(), scope) }
-        Expr::Let(part, body) => unfold_binding(alloc, core, part, body, scope),
-        Expr::Call(function, parts) => {
-            unfold_in_call(alloc, core, *function, parts.as_slice(), scope)
+        Expr::Case(part, _, arms) => unfold_case(alloc, funs, part.as_mut(), arms, scope),
+        Expr::Let(part, body) => {
+            unfold_two(
+                alloc,
+                funs,
+                part.as_mut(),
+                body.as_mut(),
+                scope,
+                plus(scope, 1)?,
+            )
         }
-        Expr::Raise(exn, part) => unfold_raise(alloc, core, *exn, part, scope),
+        Expr::Call(_, _) => unfold_in_call(alloc, funs, e, scope),
+        Expr::Raise(_, part) => unfold_boxed(alloc, funs, part, scope),
     }
+}
+
+// Two parts, each with so many variables in scope.
+#[cycle(unfold)]
+#[inline(never)]
+#[tactic(auto, using(crate::proofs::Changes::two_steps))]
+fn unfold_two(
+    alloc: Global,
+    funs: &[FunC],
+    first: &mut Expr,
+    second: &mut Expr,
+    scope: u32,
+    inside: u32,
+) -> Result<bool, AllocError>
+    ensures found { IfOk result (λ found. two_changed (expression_changed (alone funs.now) scope) (expression_changed (alone funs.now) inside) (first.old, second.old) ≡ if_found found (first.new, second.new)) }
+    ensures kept { IfOk result (λ found. IsFalse found → (first.new ≡ first.old) × (second.new ≡ second.old)) }
+{
+    if unfold(alloc, funs, first, scope)? {
+        return Ok(true);
+    }
+    unfold(alloc, funs, second, inside)
 }
 
 #[cycle(unfold)]
 #[inline(never)]
-#[tactic(auto, using(crate::proofs::UnfoldForms::form_steps))]
-fn unfold_object(
+#[tactic(auto, using(crate::proofs::Changes::two_steps))]
+fn unfold_three(
     alloc: Global,
-    core: &Core,
-    place: u32,
-    parts: &[Expr],
+    funs: &[FunC],
+    first: &mut Expr,
+    second: &mut Expr,
+    third: &mut Expr,
     scope: u32,
-) -> Result<Option<Expr>, AllocError>
-    ensures { IfOk result (λ new. new ≡ (looked core.now (ConExpr place parts.now)).unfolded scope) }
+) -> Result<bool, AllocError>
+    ensures found { IfOk result (λ found. two_changed (expression_changed (alone funs.now) scope) (two_changed (expression_changed (alone funs.now) scope) (expression_changed (alone funs.now) scope)) (first.old, (second.old, third.old)) ≡ if_found found (first.new, (second.new, third.new))) }
+    ensures kept { IfOk result (λ found. IsFalse found → (first.new ≡ first.old) × (second.new ≡ second.old) × (third.new ≡ third.old)) }
 {
-    match unfold_parts(alloc, core, parts, scope)? {
-        None => Ok(None),
-        Some(parts) => Ok(Some(Expr::Con(place, parts))),
+    if unfold(alloc, funs, first, scope)? {
+        return Ok(true);
     }
+    unfold_two(alloc, funs, second, third, scope, scope)
 }
 
 #[cycle(unfold)]
 #[inline(never)]
-#[tactic(auto, using(crate::proofs::UnfoldForms::form_steps))]
-fn unfold_tuple(
+#[tactic(auto, using(crate::proofs::Changes::two_steps))]
+fn unfold_case(
     alloc: Global,
-    core: &Core,
-    parts: &[Expr],
+    funs: &[FunC],
+    part: &mut Expr,
+    arms: &mut List<(PatC, Expr)>,
     scope: u32,
-) -> Result<Option<Expr>, AllocError>
-    ensures { IfOk result (λ new. new ≡ (looked core.now (TupleExpr parts.now)).unfolded scope) }
+) -> Result<bool, AllocError>
+    ensures found { IfOk result (λ found. two_changed (expression_changed (alone funs.now) scope) (first_changed (arm_changed (expression_changed (alone funs.now)) scope)) (part.old, arms.old) ≡ if_found found (part.new, arms.new)) }
+    ensures kept { IfOk result (λ found. IsFalse found → (part.new ≡ part.old) × (arms.new ≡ arms.old)) }
 {
-    match unfold_parts(alloc, core, parts, scope)? {
-        None => Ok(None),
-        Some(parts) => Ok(Some(Expr::Tuple(parts))),
+    if unfold(alloc, funs, part, scope)? {
+        return Ok(true);
     }
+    unfold_arms(alloc, funs, arms, scope)
 }
 
-#[cycle(unfold)]
-#[inline(never)]
-#[tactic(auto, using(crate::proofs::UnfoldForms::form_steps))]
-fn unfold_vector(
-    alloc: Global,
-    core: &Core,
-    parts: &[Expr],
-    scope: u32,
-) -> Result<Option<Expr>, AllocError>
-    ensures { IfOk result (λ new. new ≡ (looked core.now (VectExpr parts.now)).unfolded scope) }
-{
-    match unfold_parts(alloc, core, parts, scope)? {
-        None => Ok(None),
-        Some(parts) => Ok(Some(Expr::Vect(parts))),
-    }
-}
-
-#[cycle(unfold)]
-#[inline(never)]
-#[tactic(auto, using(crate::proofs::UnfoldForms::form_steps))]
-fn unfold_operation(
-    alloc: Global,
-    core: &Core,
-    op: Op,
-    ty: &Ty,
-    parts: &[Expr],
-    scope: u32,
-) -> Result<Option<Expr>, AllocError>
-    ensures { IfOk result (λ new. new ≡ (looked core.now (PrimExpr op ty.now parts.now)).unfolded scope) }
-{
-    match unfold_parts(alloc, core, parts, scope)? {
-        None => Ok(None),
-        Some(parts) => Ok(Some(Expr::Prim(op, copy_ty(alloc, ty)?, parts))),
-    }
-}
-
-#[cycle(unfold)]
-#[inline(never)]
-#[tactic(auto, using(crate::proofs::UnfoldForms::form_steps))]
-fn unfold_raise(
-    alloc: Global,
-    core: &Core,
-    exn: u32,
-    part: &Option<Box<Expr>>,
-    scope: u32,
-) -> Result<Option<Expr>, AllocError>
-    ensures { IfOk result (λ new. new ≡ (looked core.now (RaiseExpr exn part.now)).unfolded scope) }
-{
-    match unfold_if_there(alloc, core, part, scope)? {
-        None => Ok(None),
-        Some(part) => Ok(Some(Expr::Raise(exn, Some(part)))),
-    }
-}
-
-#[cycle(unfold)]
-fn unfold_part(
-    alloc: Global,
-    core: &Core,
-    e: &Expr,
-    scope: u32,
-) -> Result<Option<Box<Expr>>, AllocError>
-    ensures { IfOk result (λ new. new ≡ (looked core.now e.now).unfolded scope) }
-{
-    match unfold(alloc, core, e, scope)? {
-        None => Ok(None),
-        Some(new) => Ok(Some(Box::new(alloc, new)?)),
-    }
-}
-
-#[cycle(unfold)]
-fn unfold_if_there(
-    alloc: Global,
-    core: &Core,
-    part: &Option<Box<Expr>>,
-    scope: u32,
-) -> Result<Option<Box<Expr>>, AllocError>
-    ensures { IfOk result (λ new. new ≡ option_and_then (λ e. (looked core.now e).unfolded scope) part.now) }
-{
-    match part {
-        None => Ok(None),
-        Some(part) => unfold_part(alloc, core, part, scope),
-    }
-}
-
-#[cycle(unfold)]
-#[inline(never)]
-#[tactic(auto, using(crate::proofs::UnfoldForms::form_steps))]
-fn unfold_index(
-    alloc: Global,
-    core: &Core,
-    count: u32,
-    vector: &Expr,
-    place: &Expr,
-    scope: u32,
-) -> Result<Option<Expr>, AllocError>
-    ensures { IfOk result (λ new. new ≡ (looked core.now (IndexExpr count vector.now place.now)).unfolded scope) }
-{
-    if let Some(new) = unfold_part(alloc, core, vector, scope)? {
-        return Ok(Some(Expr::Index(count, new, copy_part(alloc, place)?)));
-    }
-    if let Some(new) = unfold_part(alloc, core, place, scope)? {
-        return Ok(Some(Expr::Index(count, copy_part(alloc, vector)?, new)));
-    }
-    Ok(None)
-}
-
-#[cycle(unfold)]
-#[inline(never)]
-#[tactic(auto, using(crate::proofs::UnfoldForms::form_steps))]
-fn unfold_update(
-    alloc: Global,
-    core: &Core,
-    count: u32,
-    vector: &Expr,
-    place: &Expr,
-    item: &Expr,
-    scope: u32,
-) -> Result<Option<Expr>, AllocError>
-    ensures { IfOk result (λ new. new ≡ (looked core.now (UpdateExpr count vector.now place.now item.now)).unfolded scope) }
-{
-    if let Some(new) = unfold_part(alloc, core, vector, scope)? {
-        let place = copy_part(alloc, place)?;
-        return Ok(Some(Expr::Update(count, new, place, copy_part(alloc, item)?)));
-    }
-    if let Some(new) = unfold_part(alloc, core, place, scope)? {
-        let vector = copy_part(alloc, vector)?;
-        return Ok(Some(Expr::Update(count, vector, new, copy_part(alloc, item)?)));
-    }
-    if let Some(new) = unfold_part(alloc, core, item, scope)? {
-        let vector = copy_part(alloc, vector)?;
-        return Ok(Some(Expr::Update(count, vector, copy_part(alloc, place)?, new)));
-    }
-    Ok(None)
-}
-
-#[cycle(unfold)]
-#[inline(never)]
-#[tactic(auto, using(crate::proofs::UnfoldForms::form_steps))]
-fn unfold_choice(
-    alloc: Global,
-    core: &Core,
-    test: &Expr,
-    when_true: &Expr,
-    when_false: &Expr,
-    scope: u32,
-) -> Result<Option<Expr>, AllocError>
-    ensures { IfOk result (λ new. new ≡ (looked core.now (IfExpr test.now when_true.now when_false.now)).unfolded scope) }
-{
-    if let Some(new) = unfold_part(alloc, core, test, scope)? {
-        let when_true = copy_part(alloc, when_true)?;
-        return Ok(Some(Expr::If(new, when_true, copy_part(alloc, when_false)?)));
-    }
-    if let Some(new) = unfold_part(alloc, core, when_true, scope)? {
-        let test = copy_part(alloc, test)?;
-        return Ok(Some(Expr::If(test, new, copy_part(alloc, when_false)?)));
-    }
-    if let Some(new) = unfold_part(alloc, core, when_false, scope)? {
-        let test = copy_part(alloc, test)?;
-        return Ok(Some(Expr::If(test, copy_part(alloc, when_true)?, new)));
-    }
-    Ok(None)
-}
-
-#[cycle(unfold)]
-#[inline(never)]
-#[tactic(auto, using(crate::proofs::UnfoldForms::form_steps))]
-fn unfold_binding(
-    alloc: Global,
-    core: &Core,
-    part: &Expr,
-    body: &Expr,
-    scope: u32,
-) -> Result<Option<Expr>, AllocError>
-    ensures { IfOk result (λ new. new ≡ (looked core.now (LetExpr part.now body.now)).unfolded scope) }
-{
-    if let Some(new) = unfold_part(alloc, core, part, scope)? {
-        return Ok(Some(Expr::Let(new, copy_part(alloc, body)?)));
-    }
-    if let Some(new) = unfold_part(alloc, core, body, plus(scope, 1)?)? {
-        return Ok(Some(Expr::Let(copy_part(alloc, part)?, new)));
-    }
-    Ok(None)
-}
-
+// The call itself, or else the first one in what it is called with.
 #[cycle(unfold)]
 #[inline(never)]
 #[tactic(auto, using(crate::proofs::UnfoldForms::form_steps))]
 fn unfold_in_call(
     alloc: Global,
-    core: &Core,
-    function: u32,
-    parts: &[Expr],
+    funs: &[FunC],
+    e: &mut Expr,
     scope: u32,
-) -> Result<Option<Expr>, AllocError>
-    ensures { IfOk result (λ new. new ≡ (looked core.now (CallExpr function parts.now)).unfolded scope) }
+) -> Result<bool, AllocError>
+    requires { (function : ℕ) × (parts : List Expression) × (e.old ≡ CallExpr function parts) }
+    ensures found { IfOk result (λ found. expression_changed (alone funs.now) scope e.old ≡ if_found found e.new) }
+    ensures kept { IfOk result (λ found. IsFalse found → e.new ≡ e.old) }
 {
-    if let Some(new) = unfold_call(alloc, core, function, parts, scope)? {
-        return Ok(Some(new));
+    let Expr::Call(function, parts) = e else {
+        unreachable!()
+    };
+    if let Some(new) = unfold_call(alloc, funs, *function, parts.as_slice(), scope)? {
+        *e = new;
+        return Ok(true);
     }
-    match unfold_parts(alloc, core, parts, scope)? {
-        None => Ok(None),
-        Some(parts) => Ok(Some(Expr::Call(function, parts))),
+    unfold_parts(alloc, funs, parts, scope)
+}
+
+#[cycle(unfold)]
+fn unfold_boxed(
+    alloc: Global,
+    funs: &[FunC],
+    part: &mut Option<Box<Expr>>,
+    scope: u32,
+) -> Result<bool, AllocError>
+    ensures found { IfOk result (λ found. part_changed (alone funs.now) scope part.old ≡ if_found found part.new) }
+    ensures kept { IfOk result (λ found. IsFalse found → part.new ≡ part.old) }
+{
+    match part {
+        None => Ok(false),
+        Some(part) => unfold(alloc, funs, part.as_mut(), scope),
     }
 }
 
 #[cycle(unfold)]
-#[tactic(auto, using(crate::proofs::Parts::place_steps))]
 fn unfold_parts(
     alloc: Global,
-    core: &Core,
-    parts: &[Expr],
+    funs: &[FunC],
+    parts: &mut List<Expr>,
     scope: u32,
-) -> Result<Option<List<Expr>>, AllocError>
-    ensures { IfOk result (λ news. news ≡ parts_unfolded (map (looked core.now) parts.now) scope) }
+) -> Result<bool, AllocError>
+    ensures found { IfOk result (λ found. first_changed (expression_changed (alone funs.now) scope) parts.old ≡ if_found found parts.new) }
+    ensures kept { IfOk result (λ found. IsFalse found → parts.new ≡ parts.old) }
 {
-    match find_part(alloc, core, parts, scope)? {
-        None => Ok(None),
-        Some((place, new)) => Ok(Some(with_part(alloc, parts, place, new)?)),
-    }
+    let mut items = mem::replace(parts, List::new(alloc)).into_vec();
+    let found = unfold_first(alloc, funs, items.as_mut_slice(), scope)?;
+    *parts = List::from_vec(items);
+    Ok(found)
 }
 
 #[cycle(unfold)]
-#[tactic(auto, using(crate::proofs::Parts::find_steps))]
-fn find_part(
+#[tactic(auto, using(crate::proofs::Changes::loop_steps))]
+fn unfold_first(
     alloc: Global,
-    core: &Core,
-    parts: &[Expr],
+    funs: &[FunC],
+    parts: &mut [Expr],
     scope: u32,
-) -> Result<Option<(usize, Expr)>, AllocError>
-    ensures { IfOk result (λ found. found ≡ first_part 0 (map (looked core.now) parts.now) scope) }
+) -> Result<bool, AllocError>
+    ensures found { IfOk result (λ found. first_changed (expression_changed (alone funs.now) scope) parts.old ≡ if_found found parts.new) }
+    ensures kept { IfOk result (λ found. IsFalse found → parts.new ≡ parts.old) }
 {
-    for (i, part) in parts.iter().enumerate() {
-        if let Some(new) = unfold(alloc, core, part, scope)? {
-            return Ok(Some((i, new)));
+    for i in 0..parts.len() {
+        if unfold(alloc, funs, &mut parts[i], scope)? {
+            return Ok(true);
         }
     }
-    Ok(None)
-}
-
-#[inline(never)]
-#[tactic(auto, using(crate::proofs::Parts::slice_steps))]
-fn with_part(
-    alloc: Global,
-    parts: &[Expr],
-    place: usize,
-    new: Expr,
-) -> Result<List<Expr>, AllocError>
-    requires { place < length parts.now }
-    ensures { IfOk result (λ news. news ≡ take place parts.now ++ new ∷ drop (place + 1) parts.now) }
-{
-    let mut news = copy_parts(alloc, &parts[..place])?;
-    news.push(new)?;
-    news.append(copy_parts(alloc, &parts[place + 1..])?)?;
-    Ok(news)
-}
-
-#[cycle(unfold)]
-#[inline(never)]
-#[tactic(auto, using(crate::proofs::UnfoldForms::form_steps))]
-fn unfold_case(
-    alloc: Global,
-    core: &Core,
-    part: &Expr,
-    ty: &Ty,
-    arms: &[(PatC, Expr)],
-    scope: u32,
-) -> Result<Option<Expr>, AllocError>
-    ensures { IfOk result (λ new. new ≡ (looked core.now (CaseExpr part.now ty.now arms.now)).unfolded scope) }
-{
-    if let Some(new) = unfold_part(alloc, core, part, scope)? {
-        let arms = copy_arms(alloc, arms)?;
-        return Ok(Some(Expr::Case(new, copy_ty(alloc, ty)?, arms)));
-    }
-    if let Some(news) = unfold_arms(alloc, core, arms, scope)? {
-        let part = copy_part(alloc, part)?;
-        return Ok(Some(Expr::Case(part, copy_ty(alloc, ty)?, news)));
-    }
-    Ok(None)
+    Ok(false)
 }
 
 #[cycle(unfold)]
 fn unfold_arms(
     alloc: Global,
-    core: &Core,
-    arms: &[(PatC, Expr)],
+    funs: &[FunC],
+    arms: &mut List<(PatC, Expr)>,
     scope: u32,
-) -> Result<Option<List<(PatC, Expr)>>, AllocError>
-    ensures { IfOk result (λ news. news ≡ arms_unfolded (map (λ (arm : Pattern × Expression). (arm.0, looked core.now arm.1)) arms.now) scope) }
+) -> Result<bool, AllocError>
+    ensures found { IfOk result (λ found. first_changed (arm_changed (expression_changed (alone funs.now)) scope) arms.old ≡ if_found found arms.new) }
+    ensures kept { IfOk result (λ found. IsFalse found → arms.new ≡ arms.old) }
 {
-    match find_arm(alloc, core, arms, scope)? {
-        None => Ok(None),
-        Some((place, new)) => Ok(Some(with_arm(alloc, arms, place, new)?)),
-    }
+    let mut items = mem::replace(arms, List::new(alloc)).into_vec();
+    let found = unfold_first_arm(alloc, funs, items.as_mut_slice(), scope)?;
+    *arms = List::from_vec(items);
+    Ok(found)
 }
 
 #[cycle(unfold)]
-#[tactic(auto, using(crate::proofs::Parts::find_steps))]
-fn find_arm(
+#[tactic(auto, using(crate::proofs::Changes::loop_steps))]
+fn unfold_first_arm(
     alloc: Global,
-    core: &Core,
-    arms: &[(PatC, Expr)],
+    funs: &[FunC],
+    arms: &mut [(PatC, Expr)],
     scope: u32,
-) -> Result<Option<(usize, Expr)>, AllocError>
-    ensures { IfOk result (λ found.
-        found ≡ first_branch 0 (map (λ (arm : Pattern × Expression). (arm.0, looked core.now arm.1)) arms.now) scope) }
+) -> Result<bool, AllocError>
+    ensures found { IfOk result (λ found. first_changed (arm_changed (expression_changed (alone funs.now)) scope) arms.old ≡ if_found found arms.new) }
+    ensures kept { IfOk result (λ found. IsFalse found → arms.new ≡ arms.old) }
 {
-    for (i, arm) in arms.iter().enumerate() {
-        let inside = plus(scope, count_variables(&arm.0)?)?;
-        if let Some(new) = unfold(alloc, core, &arm.1, inside)? {
-            return Ok(Some((i, new)));
+    for i in 0..arms.len() {
+        if unfold_arm(alloc, funs, &mut arms[i], scope)? {
+            return Ok(true);
         }
     }
-    Ok(None)
+    Ok(false)
 }
 
-// The arms with another branch in a place.
-#[inline(never)]
-#[tactic(auto, using(crate::proofs::Parts::slice_steps))]
-fn with_arm(
+// The pattern's variables are in scope in its branch.
+#[cycle(unfold)]
+fn unfold_arm(
     alloc: Global,
-    arms: &[(PatC, Expr)],
-    place: usize,
-    new: Expr,
-) -> Result<List<(PatC, Expr)>, AllocError>
-    requires { place < length arms.now }
-    ensures { IfOk result (λ news.
-        news ≡ take place arms.now ++ ((get_or arms.now place (AnyPattern, new)).0, new) ∷ drop (place + 1) arms.now) }
+    funs: &[FunC],
+    arm: &mut (PatC, Expr),
+    scope: u32,
+) -> Result<bool, AllocError>
+    ensures found { IfOk result (λ found. arm_changed (expression_changed (alone funs.now)) scope arm.old ≡ if_found found arm.new) }
+    ensures kept { IfOk result (λ found. IsFalse found → arm.new ≡ arm.old) }
 {
-    let pattern = copy_pattern(alloc, &arms[place].0)?;
-    let mut news = copy_arms(alloc, &arms[..place])?;
-    news.push((pattern, new))?;
-    news.append(copy_arms(alloc, &arms[place + 1..])?)?;
-    Ok(news)
+    let inside = plus(scope, count_variables(&arm.0)?)?;
+    unfold(alloc, funs, &mut arm.1, inside)
 }

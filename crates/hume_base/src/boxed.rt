@@ -35,6 +35,19 @@ impl<T> Box<T> {
     }
 }
 
+impl<T> Box<T> {
+    ghost use Rattle.std.specs.Borrow.{Lends, sem};
+    ghost use Rattle.hume_base.specs.contracts.boxed.Box.{the_row};
+
+    /// Lends the value, to be changed where it is.
+    pub fn as_mut(&mut self) -> &mut T
+        ensures* writes_back { sem 𝓛 (Lends (the_row T.row) T.row self.entry result (λ value. value)) }
+        ensures value { result.now ≡ self.old }
+    {
+        self.inner.as_mut()
+    }
+}
+
 impl<T: Drop> Box<T> {
     pub fn new(alloc: Global, value: T) -> Result<Box<T>, AllocError>
         ensures { IfOk result (λ owner. owner ≡ value) }

@@ -8,7 +8,3 @@ use Rattle.calculus_laws.specs.Unfolding.{moved_on, numbers_from}
 abbrev pub new_number : Numbers → ℕ → ℕ
 new_number (Moved scope count) = moved_on scope count
 new_number (Listed first later) = numbers_from first later
-
--- each variable keeps its number
-abbrev pub kept : Numbers
-kept = Moved 0 0

@@ -1,15 +1,15 @@
-use Rattle.std.proofs.Common.{Some, ap, sym, ◌∙◌}
-use Rattle.calculus_unfolding.proofs.ResultParts.{no_way_becomes, way_becomes, way_within}
+use Rattle.std.proofs.Common.{◌≡◌, ap, sym, ◌∙◌}
+use Rattle.std.proofs.lemmas.Result.{IfOk-weaker}
+use Rattle.calculus_unfolding.specs.inner.Changes.{alone, arm_changed, expression_changed, first_changed, if_found, result_changed, two_changed}
+use Rattle.calculus_unfolding.proofs.ResultForms.{case_found, case_layer}
 use Rattle.calculus_unfolding.proofs.unfolding_results.+unfold_result.Goals as goal
 
-pub unfold_ways-with_way-requires : goal.unfold_ways-with_way-requires
-unfold_ways-with_way-requires t c =
-    way_within c.args.core.now c.args.arms.now c.args.scope c.in-Some.place c.in-Some.new (sym c.in-Some.is ∙ c.in_ok-find_way.ensures)
-
-pub unfold_ways-returns-in-None : goal.unfold_ways-returns-in-None
-unfold_ways-returns-in-None t c = sym (no_way_becomes c.args.core.now c.args.arms.now c.args.scope (sym c.in-None.is ∙ c.in_ok-find_way.ensures))
-
-pub unfold_ways-returns-in_ok-with_way-in-Some : goal.unfold_ways-returns-in_ok-with_way-in-Some
-unfold_ways-returns-in_ok-with_way-in-Some t c =
-    ap Some c.in_ok-with_way-in-Some.ensures
-    ∙ sym (way_becomes c.args.core.now c.args.arms.now c.args.scope c.in-Some.place c.in-Some.new (sym c.in-Some.is ∙ c.in_ok-find_way.ensures))
+pub unfold_result-returns-in-Case-clause-found : goal.unfold_result-returns-in-Case-clause-found
+unfold_result-returns-in-Case-clause-found t c =
+    let changed = expression_changed (alone c.args.funs.now) c.args.scope in
+    let arms_changed = first_changed (arm_changed (result_changed (alone c.args.funs.now)) c.args.scope) in
+    IfOk-weaker c.unfold_case.result _ _
+    (λ found is. rw c.in-Case.is (rw (case_layer c.in-Case.part c.in-Case.field-1 c.in-Case.arms)
+    (case_found (alone c.args.funs.now) c.in-Case.part c.unfold_case.new.part c.in-Case.field-1 c.in-Case.arms c.unfold_case.new.arms c.args.scope found
+    ((λ i. two_changed changed arms_changed (sym c.in-Case.part-is i, sym c.in-Case.arms-is i)) ∙ is))))
+    c.unfold_case.ensures.found

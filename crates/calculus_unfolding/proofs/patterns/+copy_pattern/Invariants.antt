@@ -1,5 +1,5 @@
 use Rattle.std.proofs.Common.{◌≡◌, take}
-use Rattle.calculus_unfolding.proofs.copies.+copy_pattern.Given as goal
+use Rattle.calculus_unfolding.proofs.patterns.+copy_pattern.Given as goal
 
 abbrev pub invariant-copy_patterns-loop-pattern : goal.invariant-copy_patterns-loop-pattern
 invariant-copy_patterns-loop-pattern l = l.copies ≡ take l.pattern-index l.patterns
