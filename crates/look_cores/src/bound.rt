@@ -4,7 +4,7 @@
 
 /// What is bounded.
 #[derive(Clone, Copy, Debug, PartialEq, Eq)]
-pub enum Measure {
+pub(crate) enum Measure {
     /// Words.
     Heap,
     /// Words.
@@ -14,7 +14,7 @@ pub enum Measure {
 }
 
 impl Measure {
-    pub fn name(self) -> &'static [u8] {
+    pub(crate) fn name(self) -> &'static [u8] {
         match self {
             Measure::Heap => b"heap",
             Measure::Stack => b"stack",
@@ -25,10 +25,10 @@ impl Measure {
 
 /// Words of heap, words of stack, and instructions.
 #[derive(Clone, Copy, Debug)]
-pub struct Bound {
-    pub heap: u64,
-    pub stack: u64,
-    pub work: u64,
+pub(crate) struct Bound {
+    pub(crate) heap: u64,
+    pub(crate) stack: u64,
+    pub(crate) work: u64,
 }
 
 impl Bound {

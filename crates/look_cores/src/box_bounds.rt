@@ -12,13 +12,13 @@ use std::alloc::{AllocError, Global};
 
 /// What the bounds of boxes are worked out from.
 #[derive(Drop)]
-pub struct Ground {
+pub(crate) struct Ground {
     pub(crate) functions: Vec<Bound>,
     builds: Vec<u64>,
 }
 
 impl Ground {
-    pub fn of(alloc: Global, core: &Core) -> Result<Ground, AllocError> {
+    pub(crate) fn of(alloc: Global, core: &Core) -> Result<Ground, AllocError> {
         Ok(Ground {
             functions: function_bounds(alloc, core)?,
             builds: builds(alloc, &core.types)?,

@@ -8,7 +8,7 @@ use hume_model::{EqC, Expr, FunC, PatC, Res};
 
 /// A form that a chain goes through.
 #[derive(Clone, Copy, Debug, PartialEq, Eq)]
-pub enum Form {
+pub(crate) enum Form {
     /// Nothing costs anything any more.
     End,
     /// The part of a tuple, a constructor, a vector or an operation, by its number from 1.
@@ -39,7 +39,7 @@ pub enum Form {
 }
 
 impl Form {
-    pub fn name(self) -> &'static [u8] {
+    pub(crate) fn name(self) -> &'static [u8] {
         match self {
             Form::End => b"end",
             Form::Part => b"part",
@@ -64,7 +64,7 @@ impl Form {
 
 /// Where a chain is.
 #[derive(Clone, Copy)]
-pub enum Stage<'a> {
+pub(crate) enum Stage<'a> {
     Nowhere,
     Expression(&'a Expr),
     Outcome(&'a Res),
@@ -74,11 +74,11 @@ pub enum Stage<'a> {
 
 /// A link of a chain: the form, its number where it has one, what it adds, and where it leads.
 #[derive(Clone, Copy)]
-pub struct Link<'a> {
-    pub form: Form,
-    pub number: usize,
-    pub amount: u64,
-    pub stage: Stage<'a>,
+pub(crate) struct Link<'a> {
+    pub(crate) form: Form,
+    pub(crate) number: usize,
+    pub(crate) amount: u64,
+    pub(crate) stage: Stage<'a>,
 }
 
 fn end<'a>() -> Link<'a> {
@@ -101,10 +101,10 @@ fn dearer<'a>(first: Link<'a>, second: Link<'a>) -> Link<'a> {
 
 /// What decides the bounds of a program's boxes.
 #[derive(Clone, Copy)]
-pub struct Deciding<'a> {
-    pub measure: Measure,
-    pub functions: &'a [FunC],
-    pub bounds: &'a [Bound],
+pub(crate) struct Deciding<'a> {
+    pub(crate) measure: Measure,
+    pub(crate) functions: &'a [FunC],
+    pub(crate) bounds: &'a [Bound],
 }
 
 impl<'a> Deciding<'a> {

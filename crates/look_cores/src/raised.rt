@@ -42,7 +42,8 @@ pub fn may_raise(
     Ok(false)
 }
 
-fn raises_it(core: &Core, raised: &Raises, b: &BoxC, culprit: Culprit, exn: u32) -> bool
+/// Whether that rule or handler of the box may raise the exception and the box doesn't handle it.
+pub(crate) fn raises_it(core: &Core, raised: &Raises, b: &BoxC, culprit: Culprit, exn: u32) -> bool
     requires { IsRaisesOf core.now raised.now }
 {
     if exn >= 64 {

@@ -109,7 +109,8 @@ fn has_fields(value: &Value) -> bool {
     }
 }
 
-fn put_word(page: &mut Page, ty: &Ty, word: u64) {
+/// Puts the word of the type.
+pub(crate) fn put_word(page: &mut Page, ty: &Ty, word: u64) {
     match ty {
         Ty::Bool => page.put(if word == 0 { b"false" } else { b"true" }),
         Ty::Char => put_letter(page, (word % 256) as u8),

@@ -41,7 +41,7 @@ pub fn sentence(rule: Rule) -> &'static [u8] {
         Rule::C79 => b"a step of the box may run more than 1000000 instructions",
         Rule::C90 => b"the line of the script is no step of the program",
         Rule::C91 =>
-            b"the rule calls nothing that can be unfolded, or its result would be more than 1024 deep",
+            b"the rule calls nothing that can be unfolded, or its result would be more than 1024 deep or have more than 1048576 parts",
         Rule::C92 => b"the output of the rule is not one that can be named so",
         Rule::C93 => b"the box is fair, or the rule is its last one",
         Rule::C94 => b"some values fit both rules",

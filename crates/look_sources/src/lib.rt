@@ -3,7 +3,8 @@
 //! Main calls: `Page` gathers what is printed, `Spot` finds the line and column of a place, and `spans_of` lists the parts of a
 //! program with the tokens that spell them.
 //!
-//! Proved: nothing beyond safety: no call fails but for memory, and each ends.
+//! Proved: unless memory runs out, what is put on a page stands behind all that stood there (`Appends`), and `finish` gives just that.
+//! Beyond it nothing but safety: no call fails but for memory, and each ends.
 //!
 //! It knows bytes, tokens and trees. It doesn't know rules, cores, or why a source is refused.
 #![tactic(auto)]

@@ -1,4 +1,5 @@
 //! The tokens of a part of a program.
+ghost use Rattle.std.specs.Prelude.{◌≤◌, IsTrue};
 
 /// What a part is.
 #[derive(Clone, Copy, Debug, PartialEq, Eq)]
@@ -60,7 +61,10 @@ pub struct Span {
 
 impl Span {
     /// Whether the other part is a smaller part of this one.
-    pub fn holds(&self, other: &Span) -> bool {
+    pub fn holds(&self, other: &Span) -> bool
+        ensures first { IsTrue result → self.now.first ≤ other.now.first }
+        ensures after { IsTrue result → other.now.after ≤ self.now.after }
+    {
         self.first <= other.first
             && other.after <= self.after
             && (self.first < other.first || other.after < self.after)

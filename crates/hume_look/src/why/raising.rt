@@ -1,5 +1,6 @@
 //! Which expression of a rule or a handler may raise what isn't handled.
 use crate::sources::core_of;
+use crate::why::leaving::tell_gaps;
 use crate::why::marks::{Mark, all_kept, keep, marked, put_away};
 use hume_base::Rule;
 use hume_model::Core;
@@ -14,6 +15,8 @@ const MAX_CHECKED_BYTES: usize = 8_000_000;
 const NO_CASE_REMEDY: &[u8] =
     b"end a `case` or a function with a pattern for all the rest: of several parameters an equation of variables or `_`";
 
+const MET_REMEDY: &[u8] = b"end with one that fits all: of variables, `_` and tuples of these";
+
 /// An expression that raises an exception, by the number of that.
 #[derive(Clone, Copy)]
 pub(crate) struct Raising {
@@ -23,16 +26,25 @@ pub(crate) struct Raising {
 
 impl Raising {
     /// Tells what raises the exception, and how that is mended.
-    pub(crate) fn tell(&self, site: &Site, core: &Core, reason: &mut Reason) {
+    pub(crate) fn tell(
+        &self,
+        alloc: Global,
+        site: &Site,
+        core: &Core,
+        culprit: Culprit,
+        reason: &mut Reason,
+    ) -> Result<(), AllocError> {
         reason.here = Some(site.place(self.span.first));
         if self.span.parts > 0 && !site.is_upper(self.span.first) {
             put_call(site.name(self.span.first), reason);
         }
+        let is_met = tell_gaps(alloc, site, core, culprit, &mut reason.note)?;
         if let Some(raised) = core.exns.get(self.exn as usize) {
             if site.refusal.rule == Rule::C60 {
-                reason.remedy = remedy_of_exception(raised.name.bytes());
+                reason.remedy = remedy_of_exception(raised.name.bytes(), is_met);
             }
         }
+        Ok(())
     }
 }
 
@@ -44,9 +56,10 @@ fn put_call(name: &[u8], reason: &mut Reason) {
     }
 }
 
-fn remedy_of_exception(name: &[u8]) -> Option<&'static [u8]> {
+// The remedy of an exception. Of `NoCase` there is another one where every value is met.
+fn remedy_of_exception(name: &[u8], is_met: bool) -> Option<&'static [u8]> {
     if name == b"NoCase".as_slice() {
-        Some(NO_CASE_REMEDY)
+        Some(if is_met { MET_REMEDY } else { NO_CASE_REMEDY })
     } else if name == b"DivZero".as_slice() {
         Some(b"add a handler `handle DivZero -> ..`, or divide by a literal")
     } else if name == b"Range".as_slice() {
@@ -96,8 +109,8 @@ fn is_inside(best: Option<Span>, span: Span) -> bool {
     }
 }
 
-// The rule or handler itself.
-fn whole_of(site: &Site, culprit: Culprit) -> Option<Span> {
+/// The rule or handler itself.
+pub(crate) fn whole_of(site: &Site, culprit: Culprit) -> Option<Span> {
     for span in site.spans {
         if site.is_here(span) && span.sort == culprit.sort && span.number == culprit.number {
             return Some(*span);

@@ -168,7 +168,7 @@ fn put_one_of_core(
     if let Some(culprit) = culprit {
         if site.refusal.rule.phase() == 9 {
             if let Some(raising) = raising_part(alloc, site, core, culprit)? {
-                raising.tell(site, core, &mut reason);
+                raising.tell(alloc, site, core, culprit, &mut reason)?;
             }
         }
     }

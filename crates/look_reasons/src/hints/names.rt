@@ -8,14 +8,14 @@ use std::alloc::{AllocError, Global};
 /// The tokens that are names, in chains from the last one to earlier ones. All tokens of one name are in one chain. A place in a chain
 /// is the number of a token counted from 1, and 0 ends it.
 #[derive(Drop)]
-pub struct Names {
+pub(crate) struct Names {
     last: Vec<usize>,
     earlier: Vec<usize>,
 }
 
 impl Names {
     /// Those of a source with these tokens.
-    pub fn of(alloc: Global, tokens: &[Token]) -> Result<Names, AllocError> {
+    pub(crate) fn of(alloc: Global, tokens: &[Token]) -> Result<Names, AllocError> {
         let mut last = vec![in alloc; 0usize; CHAINS]?;
         let mut earlier = Vec::new(alloc);
         for token in 0..tokens.len() {
