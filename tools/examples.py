@@ -15,10 +15,10 @@ from room import Room, names, read, words_of
 
 NOT_OUTPUTS = ("status", "table", "taken", "stdout")
 # which word of a call is WORKERS, and the numbers that are tried
-WORKERS_AT = {"run": 2, "trace": 2, "calc": 2, "union": 2, "demo": 3}
+WORKERS_AT = {"run": 2, "trace": 2, "calc": 2, "union": 2, "demo": 3, "console": 1}
 # which word of a call is SOURCE, where it isn't the word 3
 SOURCE_AT = {"check": 1, "console": 2}
-WORKERS = ("1", "2", "3", "16")
+WORKERS = ("1", "2", "3", "5", "16")
 
 
 def first_difference(what, wanted, found):
@@ -63,25 +63,32 @@ def compare_call(example):
         )
 
 
+def has_workers(example):
+    """Whether the words of the call have a form, with a number of workers."""
+    return words_of(example)[0] in WORKERS_AT and read(example, "expected", "status").strip() != b"1"
+
+
+def compare_with(example, workers):
+    """The call with so many workers writes the same bytes and ends alike. The words of a session aren't those of the built program."""
+    words, wanted = words_of(example), os.path.join(example, "expected")
+    words[WORKERS_AT[words[0]]] = workers
+    with Room(example) as room:
+        files = room.files() | {it: read(wanted, it) for it in outputs(example)}
+        done = (room.call if words[0] == "console" else room.call_program)(words)
+        difference = (
+            first_difference("status", read(wanted, "status").strip(), str(done.returncode).encode())
+            or first_difference("standard output", read(wanted, "table") + read(wanted, "stdout"), done.stdout)
+            or file_differences(files, room.files())
+        )
+        return f"with {workers} workers: {difference}" if difference else None
+
+
 def compare_workers(example):
     """Other numbers of workers write the same bytes and end alike."""
-    words, wanted = words_of(example), os.path.join(example, "expected")
-    at, status = WORKERS_AT.get(words[0]), read(wanted, "status").strip()
-    if at is None or status == b"1":
+    if not has_workers(example):
         return None
-    for workers in WORKERS:
-        if workers == words[at]:
-            continue
-        with Room(example) as room:
-            files = room.files() | {it: read(wanted, it) for it in outputs(example)}
-            done = room.call_program([*words[:at], workers, *words[at + 1 :]])
-            if difference := (
-                first_difference("status", status, str(done.returncode).encode())
-                or first_difference("standard output", read(wanted, "table") + read(wanted, "stdout"), done.stdout)
-                or file_differences(files, room.files())
-            ):
-                return f"with {workers} workers: {difference}"
-    return None
+    own = words_of(example)[WORKERS_AT[words_of(example)[0]]]
+    return next((difference for it in WORKERS if it != own and (difference := compare_with(example, it))), None)
 
 
 def compare_check(example):
