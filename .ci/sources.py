@@ -50,11 +50,11 @@ class Module:
                 kind = ""
                 continue
             head = re.match(r"(\s*)((?:pub |abbrev |unfoldable |data |record |ruleset )*)(" + NAME + r")(.*)", line)
-            begins = head and not bare.startswith("--") and len(head.group(1)) <= 2 and self.is_head(head, name, kind)
+            begins = head and not bare.startswith("--") and len(head.group(1)) <= 2 and self.is_head(head, name, kind, indent)
             if begins:
                 self.add(name, says_before, body) if name else None
                 name, body, says_before, says = head.group(3), [line], says, []
-                kind = head.group(2)
+                kind, indent = head.group(2), len(head.group(1))
             elif bare.startswith("--"):
                 says = says + [bare.lstrip("- ").strip()]
             elif not bare:
@@ -64,11 +64,9 @@ class Module:
                 says = []
         self.add(name, says_before, body) if name else None
 
-    def is_head(self, head, name, kind):
-        """Whether a definition begins here: a line with a word of its own, or a signature at the left edge."""
-        if "record" in kind and len(head.group(1)) == 2:
-            return False
-        if "data" in kind and len(head.group(1)) == 2:
+    def is_head(self, head, name, kind, indent):
+        """Whether a definition begins here, no deeper than the record or the type before it: a line with a word of its own, or a signature."""
+        if ("record" in kind or "data" in kind) and len(head.group(1)) > indent:
             return False
         if head.group(2).strip() and len(head.group(1)) <= 2:
             return True
