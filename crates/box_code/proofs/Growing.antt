@@ -80,7 +80,7 @@ module _ (code more : List ℕ) where
       still (Represents.update count mid parts found) = Represents.update count mid (all_still parts) (still_at _ _ _ found)
       still (Represents.choice tested first done second rt jf ra j rb) =
           Represents.choice tested first done second (still rt) (still_at _ _ _ jf) (still ra) (still_at _ _ _ j) (still rb)
-      still (Represents.alternatives of mid part arms) = Represents.alternatives of mid (still part) (still_arms arms)
+      still (Represents.alternatives forms mid part arms) = Represents.alternatives forms mid (still part) (still_arms arms)
       still (Represents.binding mid done ra rb found) = Represents.binding mid done (still ra) (still rb) (still_at _ _ _ found)
       still (Represents.call n mid place parts at found) = Represents.call n mid place (all_still parts) at (still_at _ _ _ found)
       still (Represents.raise_alone exn mid push found) = Represents.raise_alone exn mid (still_at _ _ _ push) (still_at _ _ _ found)
@@ -104,7 +104,7 @@ module _ (code more : List ℕ) where
       pub still_result : {places : List ℕ} {high from to : ℕ} {r : Res} → ResultStands code entry places high from to r → ResultStands (code ++ more) entry places high from to r
       still_result (ResultStands.outputs mid parts found) = ResultStands.outputs mid (all_still parts) (still_at _ _ _ found)
       still_result (ResultStands.choice tested first second rt jf ra rb) = ResultStands.choice tested first second (still rt) (still_at _ _ _ jf) (still_result ra) (still_result rb)
-      still_result (ResultStands.alternatives of mid part arms) = ResultStands.alternatives of mid (still part) (still_result_arms arms)
+      still_result (ResultStands.alternatives forms mid part arms) = ResultStands.alternatives forms mid (still part) (still_result_arms arms)
       still_result (ResultStands.binding mid part body) = ResultStands.binding mid (still part) (still_result body)
       still_result (ResultStands.raise_alone exn mid push found) = ResultStands.raise_alone exn mid (still_at _ _ _ push) (still_at _ _ _ found)
       still_result (ResultStands.raise_with exn mid part found) = ResultStands.raise_with exn mid (still part) (still_at _ _ _ found)

@@ -2,6 +2,7 @@
 -- a frame, and the code of an expression leaves one word more on it.
 use Rattle.std.specs.Prelude.{◌≡◌, ℕ, zero, suc, nat_lt, if◌then◌else◌, ◌+◌, ◌-◌, ◌*◌, ◌<◌, true, false, List, [], ◌∷◌, ◌++◌, length, Option, Some, None, slice_get}
 use Rattle.hume_base.specs.declared.types.Ty.{Ty}
+use Rattle.hume_model.specs.declared.core_tree.Forms.{Forms}
 use Rattle.hume_model.specs.declared.core_tree.Op.{Op}
 use Rattle.hume_model.specs.declared.core_tree.Op.TheVariants as op
 use Rattle.hume_model.specs.declared.core_tree.Expr.{Expr}
@@ -104,9 +105,9 @@ mutual
         → Represents code entry places high from tested test → StandsAt code tested (JumpFalse second) first
         → Represents code entry places high first done when_true → StandsAt code done (Jump to) second
         → Represents code entry places high second to when_false → Represents code entry places high from to (expr.If test when_true when_false)
-    alternatives : {places : List ℕ} {high from to : ℕ} (of : Ty) (mid : ℕ) {part : Expr} {arms : List (PatC × Expr)}
+    alternatives : {places : List ℕ} {high from to : ℕ} (forms : Forms) (mid : ℕ) {part : Expr} {arms : List (PatC × Expr)}
         → Represents code entry places high from mid part → ArmsStand code entry places high mid to arms
-        → Represents code entry places high from to (expr.Case part of arms)
+        → Represents code entry places high from to (expr.Case part forms arms)
     binding : {places : List ℕ} {high from to : ℕ} (mid done : ℕ) {part body : Expr} → Represents code entry places high from mid part
         → Represents code entry (places ++ high ∷ []) (high + 1) mid done body → StandsAt code done (Slide 1) to
         → Represents code entry places high from to (expr.Let part body)
@@ -170,9 +171,9 @@ mutual
         → Represents code entry places high from tested test → StandsAt code tested (JumpFalse second) first
         → ResultStands code entry places high first second when_true → ResultStands code entry places high second to when_false
         → ResultStands code entry places high from to (res.If test when_true when_false)
-    alternatives : {places : List ℕ} {high from to : ℕ} (of : Ty) (mid : ℕ) {part : Expr} {arms : List (PatC × Res)}
+    alternatives : {places : List ℕ} {high from to : ℕ} (forms : Forms) (mid : ℕ) {part : Expr} {arms : List (PatC × Res)}
         → Represents code entry places high from mid part → ResultArmsStand code entry places high mid to arms
-        → ResultStands code entry places high from to (res.Case part of arms)
+        → ResultStands code entry places high from to (res.Case part forms arms)
     binding : {places : List ℕ} {high from to : ℕ} (mid : ℕ) {part : Expr} {body : Res} → Represents code entry places high from mid part
         → ResultStands code entry (places ++ high ∷ []) (high + 1) mid to body → ResultStands code entry places high from to (res.Let part body)
     raise_alone : {places : List ℕ} {high from to : ℕ} (exn mid : ℕ) → StandsAt code from (Push 0) mid → StandsAt code mid (Raise exn false) to

@@ -1,6 +1,7 @@
 -- The code of single forms of expressions, from that of their parts.
 use Rattle.std.proofs.Common.{◌≡◌, ℕ, ◌+◌, ◌<◌, List, [], ◌∷◌, ◌++◌, length, Option, Some, None, slice_get, ap, sym, ◌∙◌, subst, append_assoc, arith, true, false}
 use Rattle.hume_base.specs.declared.types.Ty.{Ty}
+use Rattle.hume_model.specs.declared.core_tree.Forms.{Forms}
 use Rattle.hume_model.specs.declared.core_tree.Op.{Op}
 use Rattle.hume_model.specs.declared.core_tree.PatC.{PatC}
 use Rattle.hume_model.specs.declared.core_tree.Expr.{Expr}
@@ -135,11 +136,11 @@ module _ {entry : ℕ → Option ℕ} {places : List ℕ} {high : ℕ} where
             (still ex from_jump code grows) (subst (λ n. StandsAt code (length d) (Jump n) (length f)) so (still ek last code grows)) (ey.stands code grows);
       }
 
-  pub case_done : {a b c : List ℕ} (part : Expr) (of : Ty) (arms : List (PatC × Expr)) → Done entry places high a b part
-      → ArmsDone entry places high b c arms → Done entry places high a c (expr.Case part of arms)
-  case_done {b = b} part of arms e f = record {
+  pub case_done : {a b c : List ℕ} (part : Expr) (forms : Forms) (arms : List (PatC × Expr)) → Done entry places high a b part
+      → ArmsDone entry places high b c arms → Done entry places high a c (expr.Case part forms arms)
+  case_done {b = b} part forms arms e f = record {
     grown = grows_more e.grown f.grown;
-    stands = λ code grows. Represents.alternatives of (length b) (still e f.grown code grows) (f.stands code grows);
+    stands = λ code grows. Represents.alternatives forms (length b) (still e f.grown code grows) (f.stands code grows);
   }
 
   pub binding_done : {a b c d : List ℕ} (inner : List ℕ) (top : ℕ) (part body : Expr) → inner ≡ places ++ high ∷ [] → top ≡ high + 1

@@ -2,7 +2,7 @@
 use Rattle.std.proofs.Common.{◌≡◌, ℕ, ◌+◌, List, [], ◌∷◌, ◌++◌, length, true, false, Option, Some, None, refl, ap, sym, ◌∙◌, subst, append_assoc, arith}
 use Rattle.std.proofs.lemmas.List.{length-append}
 use Rattle.std.specs.Option.{option_to_list}
-use Rattle.hume_base.specs.declared.types.Ty.{Ty}
+use Rattle.hume_model.specs.declared.core_tree.Forms.{Forms}
 use Rattle.hume_model.specs.declared.core_tree.PatC.{PatC}
 use Rattle.hume_model.specs.declared.core_tree.Expr.{Expr}
 use Rattle.hume_model.specs.declared.core_tree.Res.{Res}
@@ -80,11 +80,11 @@ module _ {entry : ℕ → Option ℕ} {places : List ℕ} {high : ℕ} where
             (still ex ey.grown code grows) (ey.stands code grows);
       }
 
-  pub case_done : {a b c : List ℕ} (part : Expr) (of : Ty) (arms : List (PatC × Res)) → Done entry places high a b part
-      → ResultArmsDone entry places high b c arms → ResultDone entry places high a c (res.Case part of arms)
-  case_done {b = b} part of arms e f = record {
+  pub case_done : {a b c : List ℕ} (part : Expr) (forms : Forms) (arms : List (PatC × Res)) → Done entry places high a b part
+      → ResultArmsDone entry places high b c arms → ResultDone entry places high a c (res.Case part forms arms)
+  case_done {b = b} part forms arms e f = record {
     grown = grows_more e.grown f.grown;
-    stands = λ code grows. ResultStands.alternatives of (length b) (still e f.grown code grows) (f.stands code grows);
+    stands = λ code grows. ResultStands.alternatives forms (length b) (still e f.grown code grows) (f.stands code grows);
   }
 
   pub binding_done : {a b c : List ℕ} (inner : List ℕ) (top : ℕ) (part : Expr) (body : Res) → inner ≡ places ++ high ∷ [] → top ≡ high + 1

@@ -154,7 +154,7 @@ module _ (call : ℕ → List Value → Spent Outcome) (bounds : ℕ → Cost) (
       let ks = and_parts _ _ hs.1 in
       all_parts (v ∷ k ∷ e ∷ []) (three_true (straight v.0) (straight k.0) (straight e.0) hs.0 ks.0 ks.1) env (λ vs. copied n (changed n vs)) (made n) (λ vs l. copied_exact n (changed n vs))
   step_exact (Expr-F.If test a b) h env = cc
-  step_exact (Expr-F.Case of ty arms) h env = cc
+  step_exact (Expr-F.Case of forms arms) h env = cc
   step_exact (Expr-F.Let a b) h env =
       let hs = and_parts _ _ h in
       let s = spending a.0 env in

@@ -125,7 +125,7 @@ module _ (call : ℕ → List Value → Spent Outcome) (calls : m.Calls) (called
   step_means (Expr-F.If test a b) env =
       then_means (spending test.0 env).outcome _ _ _ (test.1 env)
       (λ v. either_means (word_of_value v == 0) (spending b.0 env) (ended 1 (spending a.0 env)) _ _ (b.1 env) (ended_means 1 (spending a.0 env) _ (a.1 env)))
-  step_means (Expr-F.Case of ty arms) env = then_means (spending of.0 env).outcome _ _ _ (of.1 env) (λ v. arms_mean arms v env)
+  step_means (Expr-F.Case of forms arms) env = then_means (spending of.0 env).outcome _ _ _ (of.1 env) (λ v. arms_mean arms v env)
   step_means (Expr-F.Let a b) env = then_means (spending a.0 env).outcome _ _ _ (a.1 env) (λ v. ended_means 1 (spending b.0 (env ++ v ∷ [])) _ (b.1 (env ++ v ∷ [])))
   step_means (Expr-F.Call f ps) env = all_parts ps env _ _ (λ vs. called f vs)
   step_means (Expr-F.Raise x None) env = refl

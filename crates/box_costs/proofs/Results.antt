@@ -196,7 +196,7 @@ module _ (core : Core) where
   step_means (Res-F.If test a b) env =
       outputs_means (spending test env).outcome (meaning test env) _ _ (comes_to core env test)
       (λ v. either_means (word_of_value v == 0) (result_spent core env b.0) (result_spent core env a.0) _ _ (b.1.means env) (a.1.means env))
-  step_means (Res-F.Case part ty arms) env = outputs_means (spending part env).outcome (meaning part env) _ _ (comes_to core env part) (λ v. arms_mean arms v env)
+  step_means (Res-F.Case part forms arms) env = outputs_means (spending part env).outcome (meaning part env) _ _ (comes_to core env part) (λ v. arms_mean arms v env)
   step_means (Res-F.Let part body) env = outputs_means (spending part env).outcome (meaning part env) _ _ (comes_to core env part) (λ v. body.1.means (env ++ v ∷ []))
   step_means (Res-F.Raise exn None) env = refl
   step_means (Res-F.Raise exn (Some e)) env = ap o.thrown (raise_means exn (spending e) (meaning e) env (comes_to core env e))
@@ -208,7 +208,7 @@ module _ (core : Core) where
       let s = spending test env in
       outputs_within s.cost s.outcome _ (bound test) _ (spends_within core env test)
       (λ v. both_most _ _ _ _ (self_most (instructions 1)) (either_outputs (word_of_value v == 0) (result_spent core env a.0) (result_spent core env b.0) _ _ (a.1.within env) (b.1.within env)))
-  step_within (Res-F.Case part ty arms) env =
+  step_within (Res-F.Case part forms arms) env =
       let s = spending part env in
       outputs_within s.cost s.outcome _ (bound part) _ (spends_within core env part) (λ v. above_most 1 _ _ (arms_within arms v env))
   step_within (Res-F.Let part body) env =
@@ -220,7 +220,7 @@ module _ (core : Core) where
       → ExactlyOuts (result_spent_step spending (map-Res Res ResultSpending spends_result (layer y)) env) (result_bound_step bound (map-Res Res Cost (result_bound core) (layer y)))
   step_exact (Res-F.Outs outs) h env = let s = outs_spent (map (option_map spending) outs) env in finish_exact s.cost s.outcome _ (outs_exact outs h env)
   step_exact (Res-F.If test a b) h env = cc
-  step_exact (Res-F.Case part ty arms) h env = cc
+  step_exact (Res-F.Case part forms arms) h env = cc
   step_exact (Res-F.Let part body) h env =
       let hs = and_parts _ _ h in
       let s = spending part env in

@@ -158,7 +158,7 @@ module _ (call : ℕ → List Value → Spent Outcome) (bounds : ℕ → Cost) (
       then_within s.cost s.outcome _ (bound test.0) _ (test.1 env)
       (λ v. both_most _ _ _ _ (self_most (instructions 1))
       (either_within (word_of_value v == 0) (ended 1 (spending a.0 env)) (spending b.0 env) _ _ (ended_within 1 (spending a.0 env) (bound a.0) (a.1 env)) (b.1 env)))
-  step_within (Expr-F.Case of ty arms) env =
+  step_within (Expr-F.Case of forms arms) env =
       let s = spending of.0 env in
       then_within s.cost s.outcome _ (bound of.0) _ (of.1 env) (λ v. above_most 1 _ _ (arms_within arms v env))
   step_within (Expr-F.Let a b) env =
@@ -230,7 +230,7 @@ module _ (bounds : ℕ → Cost) where
   step_word (Expr-F.Index n v k) = omega arith
   step_word (Expr-F.Update n v k e) = omega arith
   step_word (Expr-F.If test a b) = let h = test.1 in omega (arith, h)
-  step_word (Expr-F.Case of ty arms) = omega arith
+  step_word (Expr-F.Case of forms arms) = omega arith
   step_word (Expr-F.Let a b) = omega arith
   step_word (Expr-F.Call f ps) = omega arith
   step_word (Expr-F.Raise x None) = omega arith

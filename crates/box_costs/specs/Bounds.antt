@@ -46,7 +46,7 @@ bound_step called (Expr-F.Prim op ty parts) = both (in_order parts) pushed
 bound_step called (Expr-F.Index count vector place) = both (in_order (vector ∷ place ∷ [])) pushed
 bound_step called (Expr-F.Update count vector place item) = both (in_order (vector ∷ place ∷ item ∷ [])) (made count)
 bound_step called (Expr-F.If test when_true when_false) = both test (both (instructions 1) (either (both when_true (instructions 1)) when_false))
-bound_step called (Expr-F.Case part ty arms) = both part (above 1 (one_way (map (arm_way 2) arms)))
+bound_step called (Expr-F.Case part forms arms) = both part (above 1 (one_way (map (arm_way 2) arms)))
 bound_step called (Expr-F.Let part body) = both part (above 1 (both body (instructions 1)))
 bound_step called (Expr-F.Call function parts) = both (in_order parts) (above (length parts + 2) (both (instructions 1) (called function)))
 bound_step called (Expr-F.Raise exn part) = raise_bound part
@@ -82,7 +82,7 @@ given_outs outs = filter_map (λ out. out) outs
 abbrev pub result_bound_step : (Expr → Cost) → Res-F Cost → Cost
 result_bound_step bound (Res-F.Outs outs) = both (in_order (map bound (given_outs outs))) (instructions 1)
 result_bound_step bound (Res-F.If test when_true when_false) = both (bound test) (both (instructions 1) (either when_true when_false))
-result_bound_step bound (Res-F.Case part ty arms) = both (bound part) (above 1 (one_way (map (arm_way 0) arms)))
+result_bound_step bound (Res-F.Case part forms arms) = both (bound part) (above 1 (one_way (map (arm_way 0) arms)))
 result_bound_step bound (Res-F.Let part body) = both (bound part) (above 1 body)
 result_bound_step bound (Res-F.Raise exn part) = raise_bound (option_map bound part)
 

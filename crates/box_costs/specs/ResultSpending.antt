@@ -81,7 +81,7 @@ abbrev pub result_spent_step : (Expr → Spending) → Res-F ResultSpending → 
 result_spent_step spending (Res-F.Outs outs) env = finished (outs_spent (map (option_map spending) outs) env)
 result_spent_step spending (Res-F.If test when_true when_false) env =
     then_outputs (spending test env) (λ v. after (instructions 1) (if word_of_value v == 0 then when_false env else when_true env))
-result_spent_step spending (Res-F.Case part ty arms) env = then_outputs (spending part env) (λ v. over 1 (first_result arms v env))
+result_spent_step spending (Res-F.Case part forms arms) env = then_outputs (spending part env) (λ v. over 1 (first_result arms v env))
 result_spent_step spending (Res-F.Let part body) env = then_outputs (spending part env) (λ v. over 1 (body (env ++ v ∷ [])))
 result_spent_step spending (Res-F.Raise exn part) env = thrown_spent (raise_spent exn (option_map spending part) env)
 

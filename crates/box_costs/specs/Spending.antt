@@ -122,7 +122,7 @@ spent_step call (Expr-F.Update count vector place item) env =
     with_all (parts_spent (vector ∷ place ∷ item ∷ []) env) (λ values. copied count (changed count values))
 spent_step call (Expr-F.If test when_true when_false) env =
     and_then (test env) (λ v. after (instructions 1) (if word_of_value v == 0 then when_false env else ended 1 (when_true env)))
-spent_step call (Expr-F.Case part ty arms) env = and_then (part env) (λ v. over 1 (first_arm arms v env))
+spent_step call (Expr-F.Case part forms arms) env = and_then (part env) (λ v. over 1 (first_arm arms v env))
 spent_step call (Expr-F.Let part body) env = and_then (part env) (λ v. over 1 (ended 1 (body (env ++ v ∷ []))))
 spent_step call (Expr-F.Call function parts) env =
     with_all (parts_spent parts env) (λ values. over (length values + 2) (after (instructions 1) (call function values)))

@@ -32,7 +32,7 @@ straight_step called (Expr-F.Prim op ty parts) = all_true parts
 straight_step called (Expr-F.Index count vector place) = vector && place
 straight_step called (Expr-F.Update count vector place item) = vector && (place && item)
 straight_step called (Expr-F.If test when_true when_false) = false
-straight_step called (Expr-F.Case part ty arms) = false
+straight_step called (Expr-F.Case part forms arms) = false
 straight_step called (Expr-F.Let part body) = part && body
 straight_step called (Expr-F.Call function parts) = called function && all_true parts
 straight_step called (Expr-F.Raise exn part) = if_there part
@@ -70,7 +70,7 @@ is_straight_out straight (Some e) = straight e
 abbrev pub result_straight_step : (Expr → Bool) → Res-F Bool → Bool
 result_straight_step straight (Res-F.Outs outs) = list_all (is_straight_out straight) outs
 result_straight_step straight (Res-F.If test when_true when_false) = false
-result_straight_step straight (Res-F.Case part ty arms) = false
+result_straight_step straight (Res-F.Case part forms arms) = false
 result_straight_step straight (Res-F.Let part body) = straight part && body
 result_straight_step straight (Res-F.Raise exn part) = is_straight_out straight part
 

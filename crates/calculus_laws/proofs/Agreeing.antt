@@ -57,8 +57,8 @@ module _ (core : Core) (ca cb : Calls) (same : (f : ℕ) (function : FunC) → s
         layer.eval-choice ca env t a b
         ∙ (λ i. and_then (agrees test env i) (λ v. if word_of_value v == 0 then agrees when_false env i else agrees when_true env i))
         ∙ sym (layer.eval-choice cb env t a b)
-    agrees (HasType.alternatives of {part = e} {arms = ways} part arms) env =
-        layer.eval-case ca env e of ways ∙ (λ i. and_then (agrees part env i) (λ v. arms_agree arms v env i)) ∙ sym (layer.eval-case cb env e of ways)
+    agrees (HasType.alternatives of {part = e} {forms = forms} {arms = ways} part is_of arms) env =
+        layer.eval-case ca env e forms ways ∙ (λ i. and_then (agrees part env i) (λ v. arms_agree arms v env i)) ∙ sym (layer.eval-case cb env e forms ways)
     agrees (HasType.binding of {part = a} {body = b} part body) env =
         layer.eval-let ca env a b ∙ (λ i. and_then (agrees part env i) (λ v. agrees body (env ++ v ∷ []) i)) ∙ sym (layer.eval-let cb env a b)
     agrees (HasType.call number function {parts = es} known parts) env =
@@ -94,8 +94,8 @@ module _ (core new : Core) (mean : (vars : List Ty) (e : Expr) (ty : Ty) → Has
           result-if new env t a b
           ∙ (λ i. then_outputs (mean _ t shape.Bool test env i) (λ v. if word_of_value v == 0 then results_agree when_false env i else results_agree when_true env i))
           ∙ sym (result-if core env t a b)
-      results_agree (GivesOutputs.alternatives of {part = e} {arms = ways} part arms) env =
-          result-case new env e of ways ∙ (λ i. then_outputs (mean _ e of part env i) (λ v. result_arms_agree arms v env i)) ∙ sym (result-case core env e of ways)
+      results_agree (GivesOutputs.alternatives of {part = e} {forms = forms} {arms = ways} part is_of arms) env =
+          result-case new env e forms ways ∙ (λ i. then_outputs (mean _ e of part env i) (λ v. result_arms_agree arms v env i)) ∙ sym (result-case core env e forms ways)
       results_agree (GivesOutputs.binding of {part = e} {body = b} part body) env =
           result-let new env e b ∙ (λ i. then_outputs (mean _ e of part env i) (λ v. results_agree body (env ++ v ∷ []) i)) ∙ sym (result-let core env e b)
       results_agree (GivesOutputs.raise_alone number exn known nothing) env = result-raise new env number None ∙ sym (result-raise core env number None)

@@ -66,7 +66,7 @@ module _ (bound : ℕ) (ca cb : ℕ → Cost) (same : (f : ℕ) → f < bound �
       let hs = and_parts _ _ h in
       let ks = and_parts _ _ hs.1 in
       λ i. level cb (Expr-F.If (t.1 hs.0 i) (a.1 ks.0 i) (b.1 ks.1 i))
-  step_agrees (Expr-F.Case e ty arms) h = (let hs = and_parts _ _ h in λ i. level cb (Expr-F.Case (e.1 hs.0 i) ty (arms_agree arms hs.1 i)))
+  step_agrees (Expr-F.Case e forms arms) h = (let hs = and_parts _ _ h in λ i. level cb (Expr-F.Case (e.1 hs.0 i) forms (arms_agree arms hs.1 i)))
   step_agrees (Expr-F.Let a b) h = (let hs = and_parts _ _ h in λ i. level cb (Expr-F.Let (a.1 hs.0 i) (b.1 hs.1 i)))
   step_agrees (Expr-F.Call f ps) h =
       let hs = and_parts _ _ h in

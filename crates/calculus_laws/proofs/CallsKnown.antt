@@ -45,8 +45,8 @@ module _ (core : Core) where
         by_form (Expr-F.Update count v k e) _ (expr.rolls-Update count v k e) ∙ both _ _ (calls_known vec) (both _ _ (calls_known place) (calls_known new_item))
     calls_known (HasType.choice {test = t} {when_true = a} {when_false = b} test when_true when_false) =
         by_form (Expr-F.If t a b) _ (expr.rolls-If t a b) ∙ both _ _ (calls_known test) (both _ _ (calls_known when_true) (calls_known when_false))
-    calls_known (HasType.alternatives of {part = e} {arms = ways} part arms) =
-        by_form (Expr-F.Case e of ways) _ (expr.rolls-Case e of ways) ∙ both _ _ (calls_known part) (arms_known arms)
+    calls_known (HasType.alternatives of {part = e} {forms = forms} {arms = ways} part is_of arms) =
+        by_form (Expr-F.Case e forms ways) _ (expr.rolls-Case e forms ways) ∙ both _ _ (calls_known part) (arms_known arms)
     calls_known (HasType.binding of {part = a} {body = b} part body) =
         by_form (Expr-F.Let a b) _ (expr.rolls-Let a b) ∙ both _ _ (calls_known part) (calls_known body)
     calls_known (HasType.call number function {parts = es} known parts) =

@@ -67,8 +67,8 @@ module _ (core : Core) (exn : ℕ) (ra rb : ℕ → Bool) (same : (f : ℕ) (fun
         (λ i. raises_step core.types rb exn (Expr-F.Update count (seen_same vec i) (seen_same place i) (seen_same new_item i)))
     seen_same (HasType.choice {test = t} {when_true = a} {when_false = b} test when_true when_false) =
         by_form (Expr-F.If t a b) _ (expr.rolls-If t a b) (λ i. raises_step core.types rb exn (Expr-F.If (seen_same test i) (seen_same when_true i) (seen_same when_false i)))
-    seen_same (HasType.alternatives of {part = e} {arms = ways} part arms) =
-        by_form (Expr-F.Case e of ways) _ (expr.rolls-Case e of ways) (λ i. raises_step core.types rb exn (Expr-F.Case (seen_same part i) of (arms_same arms i)))
+    seen_same (HasType.alternatives of {part = e} {forms = forms} {arms = ways} part is_of arms) =
+        by_form (Expr-F.Case e forms ways) _ (expr.rolls-Case e forms ways) (λ i. raises_step core.types rb exn (Expr-F.Case (seen_same part i) forms (arms_same arms i)))
     seen_same (HasType.binding of {part = a} {body = b} part body) =
         by_form (Expr-F.Let a b) _ (expr.rolls-Let a b) (λ i. raises_step core.types rb exn (Expr-F.Let (seen_same part i) (seen_same body i)))
     seen_same (HasType.call number function {parts = es} known parts) =
@@ -110,10 +110,10 @@ module _ (core : Core) (exn : ℕ) (ma mb : Expr → Bool) (same : (vars : List 
         result_form ma (Res-F.If t a b) _ (res.rolls-If t a b)
         ∙ (λ i. same _ t shape.Bool test i || (result_same first i || result_same second i))
         ∙ sym (result_form mb (Res-F.If t a b) _ (res.rolls-If t a b))
-    result_same (GivesOutputs.alternatives of {part = e} {arms = ways} part arms) =
-        result_form ma (Res-F.Case e of ways) _ (res.rolls-Case e of ways)
-        ∙ (λ i. result_raises_step core.types (λ x. same _ e of part i) exn (Res-F.Case e of (ways_same arms i)))
-        ∙ sym (result_form mb (Res-F.Case e of ways) _ (res.rolls-Case e of ways))
+    result_same (GivesOutputs.alternatives of {part = e} {forms = forms} {arms = ways} part is_of arms) =
+        result_form ma (Res-F.Case e forms ways) _ (res.rolls-Case e forms ways)
+        ∙ (λ i. result_raises_step core.types (λ x. same _ e of part i) exn (Res-F.Case e forms (ways_same arms i)))
+        ∙ sym (result_form mb (Res-F.Case e forms ways) _ (res.rolls-Case e forms ways))
     result_same (GivesOutputs.binding of {part = e} {body = b} part body) =
         result_form ma (Res-F.Let e b) _ (res.rolls-Let e b)
         ∙ (λ i. same _ e of part i || result_same body i)

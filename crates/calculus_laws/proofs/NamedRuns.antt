@@ -43,7 +43,7 @@ layer_is (Res-F.Outs []) body is = cc
 layer_is (Res-F.Outs (out ∷ [])) body is = ap (λ o. Res-F.Outs (o ∷ [])) is
 layer_is (Res-F.Outs (out ∷ next ∷ outs)) body is = cc
 layer_is (Res-F.If test a b) body is = cc
-layer_is (Res-F.Case part ty arms) body is = cc
+layer_is (Res-F.Case part forms arms) body is = cc
 layer_is (Res-F.Let part rest) body is = cc
 layer_is (Res-F.Raise exn part) body is = cc
 

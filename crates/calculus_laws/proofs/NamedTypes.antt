@@ -38,8 +38,8 @@ module _ (core : Core) (tys : List Ty) where
   outputs_have (GivesOutputs.outputs {outs = given} have) outs same = outs_are given outs have same
   outputs_have (GivesOutputs.choice {test = t} {when_true = a} {when_false = b} test first second) outs same =
       let no : Res-F.If t a b ≡ Res-F.Outs outs = other_layer _ (res.If t a b) outs (ap out-Res (sym (res.rolls-If t a b)) ∙ out-roll-Res (Res-F.If t a b)) same in cc
-  outputs_have (GivesOutputs.alternatives of {part = e} {arms = ways} part arms) outs same =
-      let no : Res-F.Case e of ways ≡ Res-F.Outs outs = other_layer _ (res.Case e of ways) outs (ap out-Res (sym (res.rolls-Case e of ways)) ∙ out-roll-Res (Res-F.Case e of ways)) same in cc
+  outputs_have (GivesOutputs.alternatives of {part = e} {forms = forms} {arms = ways} part is_of arms) outs same =
+      let no : Res-F.Case e forms ways ≡ Res-F.Outs outs = other_layer _ (res.Case e forms ways) outs (ap out-Res (sym (res.rolls-Case e forms ways)) ∙ out-roll-Res (Res-F.Case e forms ways)) same in cc
   outputs_have (GivesOutputs.binding of {part = e} {body = b} part body) outs same =
       let no : Res-F.Let e b ≡ Res-F.Outs outs = other_layer _ (res.Let e b) outs (ap out-Res (sym (res.rolls-Let e b)) ∙ out-roll-Res (Res-F.Let e b)) same in cc
   outputs_have (GivesOutputs.raise_alone number exn known nothing) outs same =

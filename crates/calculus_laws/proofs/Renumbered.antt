@@ -96,7 +96,7 @@ module _ (call : Calls) (numbers : ℕ → ℕ) where
   step_means (Expr-F.Index m v k) env other carries = rw (v.1 env other carries, k.1 env other carries) refl
   step_means (Expr-F.Update m v k e) env other carries = rw (v.1 env other carries, k.1 env other carries, e.1 env other carries) refl
   step_means (Expr-F.If test a b) env other carries = rw (test.1 env other carries, a.1 env other carries, b.1 env other carries) refl
-  step_means (Expr-F.Case of ty arms) env other carries =
+  step_means (Expr-F.Case of forms arms) env other carries =
       rw (of.1 env other carries) (ap (and_then (eval_with call of.0 env)) (λ i v. arms_mean arms v env other carries i))
   step_means (Expr-F.Let a b) env other carries =
       rw (a.1 env other carries)

@@ -51,7 +51,7 @@ module _ (X : Type 0) (step : Expr-F X → X) (alike : (n m : ℕ) → step (Exp
   step_same (Expr-F.Index n v k) = λ i. step (Expr-F.Index n (v.1 i) (k.1 i))
   step_same (Expr-F.Update n v k e) = λ i. step (Expr-F.Update n (v.1 i) (k.1 i) (e.1 i))
   step_same (Expr-F.If t a b) = λ i. step (Expr-F.If (t.1 i) (a.1 i) (b.1 i))
-  step_same (Expr-F.Case e ty arms) = λ i. step (Expr-F.Case (e.1 i) ty (arms_same arms i))
+  step_same (Expr-F.Case e forms arms) = λ i. step (Expr-F.Case (e.1 i) forms (arms_same arms i))
   step_same (Expr-F.Let a b) = λ i. step (Expr-F.Let (a.1 i) (b.1 i))
   step_same (Expr-F.Call f ps) = ap (λ xs. step (Expr-F.Call f xs)) (parts_same ps)
   step_same (Expr-F.Raise x None) = refl

@@ -63,9 +63,9 @@ module _ (core : Core) (numbers : ℕ → ℕ) where
     typed_again (HasType.choice {test = t} {when_true = a} {when_false = b} test when_true when_false) others carries =
         has_at (Expr-F.If t a b) (expr.If t a b) (expr.If (new t) (new a) (new b)) (expr.rolls-If t a b) (expr.rolls-If (new t) (new a) (new b))
         (HasType.choice (typed_again test others carries) (typed_again when_true others carries) (typed_again when_false others carries))
-    typed_again (HasType.alternatives of {part = e} {arms = ways} part arms) others carries =
-        has_at (Expr-F.Case e of ways) (expr.Case e of ways) (expr.Case (new e) of (map arm_new ways)) (expr.rolls-Case e of ways) (expr.rolls-Case (new e) of (map arm_new ways))
-        (HasType.alternatives of (typed_again part others carries) (arms_again arms others carries))
+    typed_again (HasType.alternatives of {part = e} {forms = forms} {arms = ways} part is_of arms) others carries =
+        has_at (Expr-F.Case e forms ways) (expr.Case e forms ways) (expr.Case (new e) forms (map arm_new ways)) (expr.rolls-Case e forms ways) (expr.rolls-Case (new e) forms (map arm_new ways))
+        (HasType.alternatives of (typed_again part others carries) is_of (arms_again arms others carries))
     typed_again {vars} (HasType.binding of {part = a} {body = b} part body) others carries =
         has_at (Expr-F.Let a b) (expr.Let a b) (expr.Let (new a) (new b)) (expr.rolls-Let a b) (expr.rolls-Let (new a) (new b))
         (HasType.binding of (typed_again part others carries) (typed_again body (others ++ of ∷ []) (longer numbers vars others (of ∷ []) carries)))

@@ -10,6 +10,7 @@ use Rattle.hume_model.specs.declared.core_tree.Expr.TheVariants as expr
 use Rattle.hume_model.specs.declared.core_tree.FunC.{FunC}
 use Rattle.hume_model.specs.declared.core_tree.Core.{Core}
 use Rattle.hume_model.specs.Typing.{ArmsHaveType, HasType, HaveTypes}
+use Rattle.hume_model.specs.Forms.{forms_of}
 
 module _ (core : Core) where
   -- parts in a list
@@ -61,7 +62,7 @@ module _ (core : Core) where
   TypedAs vars (Expr-F.Index n v k) ty = PairForm vars (λ a b. expr.Index n a b) v k ty
   TypedAs vars (Expr-F.Update n v k e) ty = TripleForm vars (λ a b c. expr.Update n a b c) v k e ty
   TypedAs vars (Expr-F.If t a b) ty = TripleForm vars (λ c d e. expr.If c d e) t a b ty
-  TypedAs vars (Expr-F.Case e of arms) ty = HasType core vars e of × ArmsHaveType core vars of arms ty
+  TypedAs vars (Expr-F.Case e forms arms) ty = (of : Ty) × HasType core vars e of × (forms ≡ forms_of of) × ArmsHaveType core vars of arms ty
   TypedAs vars (Expr-F.Let a b) ty = LetForm vars a b ty
   TypedAs vars (Expr-F.Call f es) ty = CallForm vars f es ty
   TypedAs vars (Expr-F.Raise x None) ty = ⊤
@@ -113,7 +114,7 @@ module _ (core : Core) where
         have = HaveTypes.one test (HaveTypes.one when_true (HaveTypes.one when_false HaveTypes.none));
         again = λ a b c p q r. HasType.choice p q r;
       })
-  typed_as {vars} {e} {ty} (HasType.alternatives of {part = d} {arms = ways} part arms) = as_out vars ty _ _ (expr.rolls-Case d of ways) (part, arms)
+  typed_as {vars} {e} {ty} (HasType.alternatives of {part = d} {forms = forms} {arms = ways} part is_of arms) = as_out vars ty _ _ (expr.rolls-Case d forms ways) (of, part, is_of, arms)
   typed_as {vars} {e} {ty} (HasType.binding of {part = a} {body = b} part body) = as_out vars ty _ _ (expr.rolls-Let a b) (record { of = of; part = part; body = body })
   typed_as {vars} {e} {ty} (HasType.call number function {parts = es} known parts) =
       as_out vars ty _ _ (expr.rolls-Call number es) (record { function = function; known = known; have = parts; gives = refl })

@@ -35,7 +35,7 @@ module _ (core : Core) (funs : List FunC) (nodes : List NodeC)
     typed (HasType.update count places item is vec place new_item) =
         HasType.update count places item is (typed vec) (typed place) (typed new_item)
     typed (HasType.choice test when_true when_false) = HasType.choice (typed test) (typed when_true) (typed when_false)
-    typed (HasType.alternatives of part arms) = HasType.alternatives of (typed part) (arms_typed arms)
+    typed (HasType.alternatives of part is_of arms) = HasType.alternatives of (typed part) is_of (arms_typed arms)
     typed (HasType.binding of part body) = HasType.binding of (typed part) (typed body)
     typed (HasType.call number function known parts) = HasType.call number function (kept number function known) (all_typed parts)
     typed (HasType.raise_alone number exn known nothing) = HasType.raise_alone number exn known nothing
@@ -59,7 +59,7 @@ module _ (core : Core) (funs : List FunC) (nodes : List NodeC)
       pub result_typed : {vars : List Ty} {res : Res} → GivesOutputs core tys vars res → GivesOutputs new tys vars res
       result_typed (GivesOutputs.outputs outs) = GivesOutputs.outputs (outs_typed outs)
       result_typed (GivesOutputs.choice test when_true when_false) = GivesOutputs.choice (typed test) (result_typed when_true) (result_typed when_false)
-      result_typed (GivesOutputs.alternatives of part arms) = GivesOutputs.alternatives of (typed part) (result_arms_typed arms)
+      result_typed (GivesOutputs.alternatives of part is_of arms) = GivesOutputs.alternatives of (typed part) is_of (result_arms_typed arms)
       result_typed (GivesOutputs.binding of part body) = GivesOutputs.binding of (typed part) (result_typed body)
       result_typed (GivesOutputs.raise_alone number exn known nothing) = GivesOutputs.raise_alone number exn known nothing
       result_typed (GivesOutputs.raise_with number exn carried known carries part) = GivesOutputs.raise_with number exn carried known carries (typed part)

@@ -257,10 +257,10 @@ module _ (core : Core) (down : CallsGoDown core)
     choice = λ scope t a b t' a' b' one.
         at_forms (Expr-F.If t a b) (Expr-F.If t' a' b') _ _ (expr.rolls-If t a b) (expr.rolls-If t' a' b')
         (choice_less (bound t) (bound a) (bound b) (bound t') (bound a') (bound b') (one_less scope one));
-    of_case = λ scope e d ty arms r.
-        at_forms (Expr-F.Case e ty arms) (Expr-F.Case d ty arms) _ _ (expr.rolls-Case e ty arms) (expr.rolls-Case d ty arms) (both_left _ _ _ r);
-    arm = λ scope e ty arms others one.
-        at_forms (Expr-F.Case e ty arms) (Expr-F.Case e ty others) _ _ (expr.rolls-Case e ty arms) (expr.rolls-Case e ty others)
+    of_case = λ scope e d forms arms r.
+        at_forms (Expr-F.Case e forms arms) (Expr-F.Case d forms arms) _ _ (expr.rolls-Case e forms arms) (expr.rolls-Case d forms arms) (both_left _ _ _ r);
+    arm = λ scope e forms arms others one.
+        at_forms (Expr-F.Case e forms arms) (Expr-F.Case e forms others) _ _ (expr.rolls-Case e forms arms) (expr.rolls-Case e forms others)
         (both_right (bound e) _ _ (higher 1 _ _ (ways_less _ _ (arms_less scope one))));
     of_let = λ scope e d body r.
         at_forms (Expr-F.Let e body) (Expr-F.Let d body) _ _ (expr.rolls-Let e body) (expr.rolls-Let d body) (both_left _ _ _ r);
@@ -335,10 +335,10 @@ module _ (core : Core) (down : CallsGoDown core)
     when_false = λ scope e a b other r.
         at_results (Res-F.If e a b) (Res-F.If e a other) _ _ (res.rolls-If e a b) (res.rolls-If e a other)
         (both_right (bound e) _ _ (both_right (instructions 1) _ _ (either_right (result a) _ _ r)));
-    of_case = λ scope e d ty arms r.
-        at_results (Res-F.Case e ty arms) (Res-F.Case d ty arms) _ _ (res.rolls-Case e ty arms) (res.rolls-Case d ty arms) (both_left _ _ _ r);
-    arm = λ scope e ty arms others one.
-        at_results (Res-F.Case e ty arms) (Res-F.Case e ty others) _ _ (res.rolls-Case e ty arms) (res.rolls-Case e ty others)
+    of_case = λ scope e d forms arms r.
+        at_results (Res-F.Case e forms arms) (Res-F.Case d forms arms) _ _ (res.rolls-Case e forms arms) (res.rolls-Case d forms arms) (both_left _ _ _ r);
+    arm = λ scope e forms arms others one.
+        at_results (Res-F.Case e forms arms) (Res-F.Case e forms others) _ _ (res.rolls-Case e forms arms) (res.rolls-Case e forms others)
         (both_right (bound e) _ _ (higher 1 _ _ (ways_less _ _ (result_arms scope one))));
     of_let = λ scope e d body r.
         at_results (Res-F.Let e body) (Res-F.Let d body) _ _ (res.rolls-Let e body) (res.rolls-Let d body) (both_left _ _ _ r);

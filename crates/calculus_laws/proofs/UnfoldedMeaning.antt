@@ -106,10 +106,10 @@ module _ (core : Core) (down : CallsGoDown core) where
         layer.eval-choice calls env t' a' b'
         ∙ (λ i. and_then (first i) (λ v. if word_of_value v == 0 then third i else second i))
         ∙ sym (layer.eval-choice calls env t a b);
-    of_case = λ scope e d ty arms r env is.
-        layer.eval-case calls env d ty arms ∙ ap (λ o. and_then o (λ v. first_arm (map (arm_with meaning) arms) v env)) (r env is) ∙ sym (layer.eval-case calls env e ty arms);
-    arm = λ scope e ty arms others one env is.
-        layer.eval-case calls env e ty others ∙ (λ i. and_then (meaning e env) (λ v. one_arm one v env is i)) ∙ sym (layer.eval-case calls env e ty arms);
+    of_case = λ scope e d forms arms r env is.
+        layer.eval-case calls env d forms arms ∙ ap (λ o. and_then o (λ v. first_arm (map (arm_with meaning) arms) v env)) (r env is) ∙ sym (layer.eval-case calls env e forms arms);
+    arm = λ scope e forms arms others one env is.
+        layer.eval-case calls env e forms others ∙ (λ i. and_then (meaning e env) (λ v. one_arm one v env is i)) ∙ sym (layer.eval-case calls env e forms arms);
     of_let = λ scope e d body r env is.
         layer.eval-let calls env d body ∙ ap (λ o. and_then o (λ v. meaning body (env ++ v ∷ []))) (r env is) ∙ sym (layer.eval-let calls env e body);
     body = λ scope e body other r env is.

@@ -219,16 +219,16 @@ module _ (core : Core) (down : CallsGoDown core) (exn : ℕ) where
         (fewer_seen _ _
         (either (look t').raises ((look a').raises || (look b').raises) (look t).raises ((look a).raises || (look b).raises) all.0.raises
         (either (look a').raises (look b').raises (look a).raises (look b).raises all.1.0.raises all.1.1.0.raises)));
-    of_case = λ scope e d ty arms r.
-        at_forms (Expr-F.Case e ty arms) (Expr-F.Case d ty arms) _ _ (expr.rolls-Case e ty arms) (expr.rolls-Case d ty arms)
+    of_case = λ scope e d forms arms r.
+        at_forms (Expr-F.Case e forms arms) (Expr-F.Case d forms arms) _ _ (expr.rolls-Case e forms arms) (expr.rolls-Case d forms arms)
         (fewer_seen _ _ (either (look d).raises _ (look e).raises _ r.raises (λ is. is)));
-    arm = λ scope e ty arms others one.
-        at_forms (Expr-F.Case e ty arms) (Expr-F.Case e ty others) _ _ (expr.rolls-Case e ty arms) (expr.rolls-Case e ty others)
+    arm = λ scope e forms arms others one.
+        at_forms (Expr-F.Case e forms arms) (Expr-F.Case e forms others) _ _ (expr.rolls-Case e forms arms) (expr.rolls-Case e forms others)
         (fewer_seen _ _
         (either (look e).raises _ (look e).raises _ (λ is. is)
-        (either _ ((exn == NO_CASE) && not (are_complete core.types ty (map (λ (arm : PatC × Seen). arm.0) (map arm_seen others))))
-        _ ((exn == NO_CASE) && not (are_complete core.types ty (map (λ (arm : PatC × Seen). arm.0) (map arm_seen arms)))) (arms_less scope one)
-        (λ is. ap (λ ps. (exn == NO_CASE) && not (are_complete core.types ty ps)) (sym (arm_pats scope one)) ∙ is))));
+        (either _ ((exn == NO_CASE) && not (are_complete core.types forms (map (λ (arm : PatC × Seen). arm.0) (map arm_seen others))))
+        _ ((exn == NO_CASE) && not (are_complete core.types forms (map (λ (arm : PatC × Seen). arm.0) (map arm_seen arms)))) (arms_less scope one)
+        (λ is. ap (λ ps. (exn == NO_CASE) && not (are_complete core.types forms ps)) (sym (arm_pats scope one)) ∙ is))));
     of_let = λ scope e d body r.
         at_forms (Expr-F.Let e body) (Expr-F.Let d body) _ _ (expr.rolls-Let e body) (expr.rolls-Let d body)
         (fewer_seen _ _ (either (look d).raises (look body).raises (look e).raises (look body).raises r.raises (λ is. is)));
@@ -289,14 +289,14 @@ module _ (core : Core) (down : CallsGoDown core) (exn : ℕ) where
     when_false = λ scope e a b other r.
         at_results scope (Res-F.If e a b) (Res-F.If e a other) _ _ (res.rolls-If e a b) (res.rolls-If e a other)
         (either (may e) _ (may e) _ (λ is. is) (either _ _ _ _ (λ is. is) r));
-    of_case = λ scope e d ty arms r.
-        at_results scope (Res-F.Case e ty arms) (Res-F.Case d ty arms) _ _ (res.rolls-Case e ty arms) (res.rolls-Case d ty arms) (either (may d) _ (may e) _ r.raises (λ is. is));
-    arm = λ scope e ty arms others one.
-        at_results scope (Res-F.Case e ty arms) (Res-F.Case e ty others) _ _ (res.rolls-Case e ty arms) (res.rolls-Case e ty others)
+    of_case = λ scope e d forms arms r.
+        at_results scope (Res-F.Case e forms arms) (Res-F.Case d forms arms) _ _ (res.rolls-Case e forms arms) (res.rolls-Case d forms arms) (either (may d) _ (may e) _ r.raises (λ is. is));
+    arm = λ scope e forms arms others one.
+        at_results scope (Res-F.Case e forms arms) (Res-F.Case e forms others) _ _ (res.rolls-Case e forms arms) (res.rolls-Case e forms others)
         (either (may e) _ (may e) _ (λ is. is)
-        (either _ ((exn == NO_CASE) && not (are_complete core.types ty (map (λ (arm : PatC × Bool). arm.0) (map way_raises others))))
-        _ ((exn == NO_CASE) && not (are_complete core.types ty (map (λ (arm : PatC × Bool). arm.0) (map way_raises arms)))) (ways_less scope one)
-        (λ is. ap (λ ps. (exn == NO_CASE) && not (are_complete core.types ty ps)) (sym (way_pats scope one)) ∙ is)));
+        (either _ ((exn == NO_CASE) && not (are_complete core.types forms (map (λ (arm : PatC × Bool). arm.0) (map way_raises others))))
+        _ ((exn == NO_CASE) && not (are_complete core.types forms (map (λ (arm : PatC × Bool). arm.0) (map way_raises arms)))) (ways_less scope one)
+        (λ is. ap (λ ps. (exn == NO_CASE) && not (are_complete core.types forms ps)) (sym (way_pats scope one)) ∙ is)));
     of_let = λ scope e d body r.
         at_results scope (Res-F.Let e body) (Res-F.Let d body) _ _ (res.rolls-Let e body) (res.rolls-Let d body) (either (may d) _ (may e) _ r.raises (λ is. is));
     body = λ scope e body other r.

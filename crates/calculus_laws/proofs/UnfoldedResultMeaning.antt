@@ -60,12 +60,12 @@ module _ (core : Core) (down : CallsGoDown core) where
         result-if core env e a other
         ∙ (λ i. then_outputs (meaning_in core e env) (λ v. if word_of_value v == 0 then r env is i else result_of core env a))
         ∙ sym (result-if core env e a b);
-    of_case = λ scope e d ty arms r env is.
-        result-case core env d ty arms
+    of_case = λ scope e d forms arms r env is.
+        result-case core env d forms arms
         ∙ ap (λ o. then_outputs o (λ v. first_result (map (result_arm_with (λ r env. result_of core env r)) arms) v env)) (r env is)
-        ∙ sym (result-case core env e ty arms);
-    arm = λ scope e ty arms others one env is.
-        result-case core env e ty others ∙ (λ i. then_outputs (meaning_in core e env) (λ v. one_arm one v env is i)) ∙ sym (result-case core env e ty arms);
+        ∙ sym (result-case core env e forms arms);
+    arm = λ scope e forms arms others one env is.
+        result-case core env e forms others ∙ (λ i. then_outputs (meaning_in core e env) (λ v. one_arm one v env is i)) ∙ sym (result-case core env e forms arms);
     of_let = λ scope e d body r env is.
         result-let core env d body ∙ ap (λ o. then_outputs o (λ v. result_of core (env ++ v ∷ []) body)) (r env is) ∙ sym (result-let core env e body);
     body = λ scope e body other r env is.

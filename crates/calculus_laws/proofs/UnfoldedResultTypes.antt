@@ -11,6 +11,7 @@ use Rattle.hume_model.specs.declared.core_tree.Res.TheVariants as res
 use Rattle.hume_model.specs.declared.core_tree.Core.{Core}
 use Rattle.hume_model.specs.ResultTyping.{ArmsGiveOutputs, GivesOutputs, OutsHave}
 use Rattle.hume_model.specs.Typing.{FunctionsAreTyped, HasType}
+use Rattle.hume_model.specs.Forms.{forms_of}
 use Rattle.calculus_laws.specs.Unfolding.{result_unfolded, variables_in}
 use Rattle.calculus_laws.proofs.UnfoldedResults.{IsResultKept, OutChanged, result_holds}
 use Rattle.calculus_laws.proofs.UnfoldedTypes.{HoldsType, more, pattern_count, types_kept}
@@ -31,7 +32,7 @@ module _ (core : Core) (tys : List Ty) where
   abbrev GivesAs : List Ty → Res-F Res → Type 0
   GivesAs vars (Res-F.Outs outs) = OutsHave core vars outs tys
   GivesAs vars (Res-F.If t a b) = HasType core vars t shape.Bool × GivesOutputs core tys vars a × GivesOutputs core tys vars b
-  GivesAs vars (Res-F.Case e of arms) = HasType core vars e of × ArmsGiveOutputs core tys vars of arms
+  GivesAs vars (Res-F.Case e forms arms) = (of : Ty) × HasType core vars e of × (forms ≡ forms_of of) × ArmsGiveOutputs core tys vars of arms
   GivesAs vars (Res-F.Let e b) = LetForm vars e b
   GivesAs vars (Res-F.Raise x None) = ⊤
   GivesAs vars (Res-F.Raise x (Some e)) = RaiseForm vars x e
@@ -45,7 +46,7 @@ module _ (core : Core) (tys : List Ty) where
   gives_as : {vars : List Ty} {r : Res} → GivesOutputs core tys vars r → GivesAs vars (out-Res r)
   gives_as {vars} (GivesOutputs.outputs {outs = outs} have) = as_out vars _ _ (res.rolls-Outs outs) have
   gives_as {vars} (GivesOutputs.choice {test = t} {when_true = a} {when_false = b} test first second) = as_out vars _ _ (res.rolls-If t a b) (test, first, second)
-  gives_as {vars} (GivesOutputs.alternatives of {part = e} {arms = ways} part arms) = as_out vars _ _ (res.rolls-Case e of ways) (part, arms)
+  gives_as {vars} (GivesOutputs.alternatives of {part = e} {forms = forms} {arms = ways} part is_of arms) = as_out vars _ _ (res.rolls-Case e forms ways) (of, part, is_of, arms)
   gives_as {vars} (GivesOutputs.binding of {part = e} {body = b} part body) = as_out vars _ _ (res.rolls-Let e b) (record { of = of; part = part; later = body })
   gives_as {vars} (GivesOutputs.raise_alone number exn known nothing) = as_out vars _ _ (res.rolls-Raise number None) tt
   gives_as {vars} (GivesOutputs.raise_with number exn carried {part = e} known carries part) =
@@ -82,10 +83,10 @@ module _ (core : Core) (tys : List Ty) where
         let form = by_form (Res-F.If e a b) (res.rolls-If e a b) gives in GivesOutputs.choice form.0 (r vars is form.1) form.2;
     when_false = λ scope e a b other r vars is gives.
         let form = by_form (Res-F.If e a b) (res.rolls-If e a b) gives in GivesOutputs.choice form.0 form.1 (r vars is form.2);
-    of_case = λ scope e d of arms r vars is gives.
-        let form = by_form (Res-F.Case e of arms) (res.rolls-Case e of arms) gives in GivesOutputs.alternatives of (r vars of is form.0) form.1;
-    arm = λ scope e of arms others one vars is gives.
-        let form = by_form (Res-F.Case e of arms) (res.rolls-Case e of arms) gives in GivesOutputs.alternatives of form.0 (one_arm one vars is form.1);
+    of_case = λ scope e d forms arms r vars is gives.
+        let form = by_form (Res-F.Case e forms arms) (res.rolls-Case e forms arms) gives in GivesOutputs.alternatives form.0 (r vars form.0 is form.1) form.2 form.3;
+    arm = λ scope e forms arms others one vars is gives.
+        let form = by_form (Res-F.Case e forms arms) (res.rolls-Case e forms arms) gives in GivesOutputs.alternatives form.0 form.1 form.2 (one_arm one vars is form.3);
     of_let = λ scope e d body r vars is gives.
         let form = by_form (Res-F.Let e body) (res.rolls-Let e body) gives in GivesOutputs.binding form.of (r vars form.of is form.part) form.later;
     body = λ scope e body other r vars is gives.

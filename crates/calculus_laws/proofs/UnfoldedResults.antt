@@ -1,6 +1,6 @@
 -- What holds of an expression with an unfolded call, and wherever it holds of a part of a result, holds of the result.
 use Rattle.std.proofs.Common.{◌≡◌, ℕ, ◌+◌, List, [], ◌∷◌, map, Option, Some, None, refl, ap, sym, ◌∙◌, subst}
-use Rattle.hume_base.specs.declared.types.Ty.{Ty}
+use Rattle.hume_model.specs.declared.core_tree.Forms.{Forms}
 use Rattle.hume_model.specs.declared.core_tree.PatC.{PatC}
 use Rattle.hume_model.specs.declared.core_tree.Expr.{Expr}
 use Rattle.hume_model.specs.declared.core_tree.Res.{Res, roll-Res, map-Res, fold-roll-Res, ind-Res}
@@ -22,9 +22,9 @@ pub record IsResultKept (R : ℕ → Expr → Expr → Type 0) (S : ℕ → Res 
   pub test : (scope : ℕ) (e d : Expr) (a b : Res) → R scope e d → S scope (res.If e a b) (res.If d a b)
   pub when_true : (scope : ℕ) (e : Expr) (a b other : Res) → S scope a other → S scope (res.If e a b) (res.If e other b)
   pub when_false : (scope : ℕ) (e : Expr) (a b other : Res) → S scope b other → S scope (res.If e a b) (res.If e a other)
-  pub of_case : (scope : ℕ) (e d : Expr) (ty : Ty) (arms : List (PatC × Res)) → R scope e d → S scope (res.Case e ty arms) (res.Case d ty arms)
-  pub arm : (scope : ℕ) (e : Expr) (ty : Ty) (arms others : List (PatC × Res)) → OneChanged (ArmChanged S scope) arms others
-      → S scope (res.Case e ty arms) (res.Case e ty others)
+  pub of_case : (scope : ℕ) (e d : Expr) (forms : Forms) (arms : List (PatC × Res)) → R scope e d → S scope (res.Case e forms arms) (res.Case d forms arms)
+  pub arm : (scope : ℕ) (e : Expr) (forms : Forms) (arms others : List (PatC × Res)) → OneChanged (ArmChanged S scope) arms others
+      → S scope (res.Case e forms arms) (res.Case e forms others)
   pub of_let : (scope : ℕ) (e d : Expr) (body : Res) → R scope e d → S scope (res.Let e body) (res.Let d body)
   pub body : (scope : ℕ) (e : Expr) (body other : Res) → S (scope + 1) body other → S scope (res.Let e body) (res.Let e other)
   pub raise : (scope exn : ℕ) (e d : Expr) → R scope e d → S scope (res.Raise exn (Some e)) (res.Raise exn (Some d))
@@ -100,12 +100,12 @@ module _ (core : Core) (R : ℕ → Expr → Expr → Type 0) (kept : IsKept cor
       (first_that Q _ _
       (through (S scope a.0) Q _ (λ d r. rw b.1.tree (results.when_true scope t a.0 b.0 d r)) _ (a.1.becomes scope))
       (through (S scope b.0) Q _ (λ d r. rw a.1.tree (results.when_false scope t a.0 b.0 d r)) _ (b.1.becomes scope))))
-  step_becomes scope (Res-F.Case e ty arms) =
-      let Q = S scope (res.Case e ty (map arm_of arms)) in
-      of_roll scope _ _ (res.rolls-Case e ty (map arm_of arms)) _
+  step_becomes scope (Res-F.Case e forms arms) =
+      let Q = S scope (res.Case e forms (map arm_of arms)) in
+      of_roll scope _ _ (res.rolls-Case e forms (map arm_of arms)) _
       (first_that Q _ _
-      (through (R scope e) Q _ (λ d r. rw (arm_trees arms) (results.of_case scope e d ty (map arm_of arms) r)) _ (at e scope))
-      (through (OneChanged (ArmChanged S scope) (map arm_of arms)) Q _ (λ ds r. results.arm scope e ty (map arm_of arms) ds r) _ (arms_become scope arms)))
+      (through (R scope e) Q _ (λ d r. rw (arm_trees arms) (results.of_case scope e d forms (map arm_of arms) r)) _ (at e scope))
+      (through (OneChanged (ArmChanged S scope) (map arm_of arms)) Q _ (λ ds r. results.arm scope e forms (map arm_of arms) ds r) _ (arms_become scope arms)))
   step_becomes scope (Res-F.Let e b) =
       let Q = S scope (res.Let e b.0) in
       of_roll scope _ _ (res.rolls-Let e b.0) _
@@ -120,7 +120,7 @@ module _ (core : Core) (R : ℕ → Expr → Expr → Type 0) (kept : IsKept cor
   layer_trees : (y : Res-F Part) → map-Res (Looked Res) Res (λ part. part.tree) (map-Res Res (Looked Res) look (layer y)) ≡ layer y
   layer_trees (Res-F.Outs outs) = refl
   layer_trees (Res-F.If t a b) = λ i. Res-F.If t (a.1.tree i) (b.1.tree i)
-  layer_trees (Res-F.Case e ty arms) = ap (Res-F.Case e ty) (arm_trees arms)
+  layer_trees (Res-F.Case e forms arms) = ap (Res-F.Case e forms) (arm_trees arms)
   layer_trees (Res-F.Let e b) = ap (Res-F.Let e) b.1.tree
   layer_trees (Res-F.Raise x o) = refl
 
@@ -165,7 +165,7 @@ module _ (core : Core) where
   kept_trees : (y : Res-F Kept) → map-Res (Looked Res) Res (λ part. part.tree) (map-Res Res (Looked Res) (looked_result core) (kept_layer y)) ≡ kept_layer y
   kept_trees (Res-F.Outs outs) = refl
   kept_trees (Res-F.If t a b) = λ i. Res-F.If t (a.1 i) (b.1 i)
-  kept_trees (Res-F.Case e ty arms) = ap (Res-F.Case e ty) (kept_arms arms)
+  kept_trees (Res-F.Case e forms arms) = ap (Res-F.Case e forms) (kept_arms arms)
   kept_trees (Res-F.Let e b) = ap (Res-F.Let e) b.1
   kept_trees (Res-F.Raise x o) = refl
 

@@ -161,10 +161,10 @@ module _ (core : Core) where
           let form = by_form core (Expr-F.If t a b) (expr.rolls-If t a b) has in
           let all = three_typed (one_typed one vars is form.have) in
           form.again t' a' b' all.0 all.1 all.2;
-      of_case = λ scope e d at arms r vars ty is has.
-          let form = by_form core (Expr-F.Case e at arms) (expr.rolls-Case e at arms) has in HasType.alternatives at (r vars at is form.0) form.1;
-      arm = λ scope e at arms others one vars ty is has.
-          let form = by_form core (Expr-F.Case e at arms) (expr.rolls-Case e at arms) has in HasType.alternatives at form.0 (one_arm_typed one vars is form.1);
+      of_case = λ scope e d forms arms r vars ty is has.
+          let form = by_form core (Expr-F.Case e forms arms) (expr.rolls-Case e forms arms) has in HasType.alternatives form.0 (r vars form.0 is form.1) form.2 form.3;
+      arm = λ scope e forms arms others one vars ty is has.
+          let form = by_form core (Expr-F.Case e forms arms) (expr.rolls-Case e forms arms) has in HasType.alternatives form.0 form.1 form.2 (one_arm_typed one vars is form.3);
       of_let = λ scope e d body r vars ty is has.
           let form = by_form core (Expr-F.Let e body) (expr.rolls-Let e body) has in HasType.binding form.of (r vars form.of is form.part) form.body;
       body = λ scope e body other r vars ty is has.

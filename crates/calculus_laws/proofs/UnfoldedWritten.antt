@@ -139,11 +139,11 @@ module _ (types : Types) where
           (λ is. let parts = and_parts _ _ is in both _ _ parts.0 (three one parts.1));
       choice = λ scope t a b t' a' b' one.
           level (Expr-F.If t a b) (Expr-F.If t' a' b') _ _ (expr.rolls-If t a b) (expr.rolls-If t' a' b') (three one);
-      of_case = λ scope e d ty arms r.
-          level (Expr-F.Case e ty arms) (Expr-F.Case d ty arms) _ _ (expr.rolls-Case e ty arms) (expr.rolls-Case d ty arms)
+      of_case = λ scope e d forms arms r.
+          level (Expr-F.Case e forms arms) (Expr-F.Case d forms arms) _ _ (expr.rolls-Case e forms arms) (expr.rolls-Case d forms arms)
           (λ is. let parts = and_parts _ _ is in let own = and_parts _ _ parts.1 in both _ _ parts.0 (both _ _ (r own.0) own.1));
-      arm = λ scope e ty arms others one.
-          level (Expr-F.Case e ty arms) (Expr-F.Case e ty others) _ _ (expr.rolls-Case e ty arms) (expr.rolls-Case e ty others)
+      arm = λ scope e forms arms others one.
+          level (Expr-F.Case e forms arms) (Expr-F.Case e forms others) _ _ (expr.rolls-Case e forms arms) (expr.rolls-Case e forms others)
           (λ is.
           let parts = and_parts _ _ is in
           let own = and_parts _ _ parts.1 in
@@ -206,11 +206,11 @@ module _ (types : Types) where
       when_false = λ scope e a b other r.
           result_level (Res-F.If e a b) (Res-F.If e a other) _ _ (res.rolls-If e a b) (res.rolls-If e a other)
           (λ is. let parts = and_parts _ _ is in let own = and_parts _ _ parts.1 in both _ _ parts.0 (both _ _ own.0 (r own.1)));
-      of_case = λ scope e d ty arms r.
-          result_level (Res-F.Case e ty arms) (Res-F.Case d ty arms) _ _ (res.rolls-Case e ty arms) (res.rolls-Case d ty arms)
+      of_case = λ scope e d forms arms r.
+          result_level (Res-F.Case e forms arms) (Res-F.Case d forms arms) _ _ (res.rolls-Case e forms arms) (res.rolls-Case d forms arms)
           (λ is. let parts = and_parts _ _ is in let own = and_parts _ _ parts.1 in both _ _ parts.0 (both _ _ (r own.0) own.1));
-      arm = λ scope e ty arms others one.
-          result_level (Res-F.Case e ty arms) (Res-F.Case e ty others) _ _ (res.rolls-Case e ty arms) (res.rolls-Case e ty others)
+      arm = λ scope e forms arms others one.
+          result_level (Res-F.Case e forms arms) (Res-F.Case e forms others) _ _ (res.rolls-Case e forms arms) (res.rolls-Case e forms others)
           (λ is.
           let parts = and_parts _ _ is in
           let own = and_parts _ _ parts.1 in

@@ -3,6 +3,7 @@ use Rattle.std.proofs.Common.{◌≡◌, ℕ, ◌+◌, List, [], ◌∷◌, map,
 use Rattle.std.specs.Bool.{⊤}
 use Rattle.std.specs.Option.{option_map, option_or}
 use Rattle.hume_base.specs.declared.types.Ty.{Ty}
+use Rattle.hume_model.specs.declared.core_tree.Forms.{Forms}
 use Rattle.hume_model.specs.declared.core_tree.Op.{Op}
 use Rattle.hume_model.specs.declared.core_tree.PatC.{PatC}
 use Rattle.hume_model.specs.declared.core_tree.Expr.{Expr, roll-Expr, map-Expr, fold-roll-Expr, ind-Expr}
@@ -45,9 +46,9 @@ pub record IsKept (core : Core) (R : ℕ → Expr → Expr → Type 0) : Type 0 
   pub update : (scope count : ℕ) (v k e v' k' e' : Expr) → OneChanged (R scope) (v ∷ k ∷ e ∷ []) (v' ∷ k' ∷ e' ∷ [])
       → R scope (expr.Update count v k e) (expr.Update count v' k' e')
   pub choice : (scope : ℕ) (t a b t' a' b' : Expr) → OneChanged (R scope) (t ∷ a ∷ b ∷ []) (t' ∷ a' ∷ b' ∷ []) → R scope (expr.If t a b) (expr.If t' a' b')
-  pub of_case : (scope : ℕ) (e d : Expr) (ty : Ty) (arms : List (PatC × Expr)) → R scope e d → R scope (expr.Case e ty arms) (expr.Case d ty arms)
-  pub arm : (scope : ℕ) (e : Expr) (ty : Ty) (arms others : List (PatC × Expr)) → OneChanged (ArmChanged R scope) arms others
-      → R scope (expr.Case e ty arms) (expr.Case e ty others)
+  pub of_case : (scope : ℕ) (e d : Expr) (forms : Forms) (arms : List (PatC × Expr)) → R scope e d → R scope (expr.Case e forms arms) (expr.Case d forms arms)
+  pub arm : (scope : ℕ) (e : Expr) (forms : Forms) (arms others : List (PatC × Expr)) → OneChanged (ArmChanged R scope) arms others
+      → R scope (expr.Case e forms arms) (expr.Case e forms others)
   pub of_let : (scope : ℕ) (e d body : Expr) → R scope e d → R scope (expr.Let e body) (expr.Let d body)
   pub body : (scope : ℕ) (e body other : Expr) → R (scope + 1) body other → R scope (expr.Let e body) (expr.Let e other)
   pub raise : (scope exn : ℕ) (e d : Expr) → R scope e d → R scope (expr.Raise exn (Some e)) (expr.Raise exn (Some d))
@@ -157,12 +158,12 @@ module _ (core : Core) (R : ℕ → Expr → Expr → Type 0) (kept : IsKept cor
       (first_that Q _ _
       (through (R scope a.0) Q _ (λ d r. rw (t.1.tree, b.1.tree) (one t.0 d b.0 (OneChanged.there (OneChanged.here r)))) _ (a.1.becomes scope))
       (through (R scope b.0) Q _ (λ d r. rw (t.1.tree, a.1.tree) (one t.0 a.0 d (OneChanged.there (OneChanged.there (OneChanged.here r))))) _ (b.1.becomes scope))))
-  step_becomes scope (Expr-F.Case of ty arms) =
-      let Q = R scope (expr.Case of.0 ty (map arm_of arms)) in
-      at scope _ _ (expr.rolls-Case of.0 ty (map arm_of arms)) _
+  step_becomes scope (Expr-F.Case of forms arms) =
+      let Q = R scope (expr.Case of.0 forms (map arm_of arms)) in
+      at scope _ _ (expr.rolls-Case of.0 forms (map arm_of arms)) _
       (first_that Q _ _
-      (through (R scope of.0) Q _ (λ d r. rw (arm_trees arms) (kept.of_case scope of.0 d ty (map arm_of arms) r)) _ (of.1.becomes scope))
-      (through (OneChanged (ArmChanged R scope) (map arm_of arms)) Q _ (λ ds r. rw of.1.tree (kept.arm scope of.0 ty (map arm_of arms) ds r)) _ (arms_become scope arms)))
+      (through (R scope of.0) Q _ (λ d r. rw (arm_trees arms) (kept.of_case scope of.0 d forms (map arm_of arms) r)) _ (of.1.becomes scope))
+      (through (OneChanged (ArmChanged R scope) (map arm_of arms)) Q _ (λ ds r. rw of.1.tree (kept.arm scope of.0 forms (map arm_of arms) ds r)) _ (arms_become scope arms)))
   step_becomes scope (Expr-F.Let a b) =
       let Q = R scope (expr.Let a.0 b.0) in
       at scope _ _ (expr.rolls-Let a.0 b.0) _
@@ -184,7 +185,7 @@ module _ (core : Core) (R : ℕ → Expr → Expr → Type 0) (kept : IsKept cor
   layer_trees (Expr-F.Index n v k) = λ i. Expr-F.Index n (v.1.tree i) (k.1.tree i)
   layer_trees (Expr-F.Update n v k e) = λ i. Expr-F.Update n (v.1.tree i) (k.1.tree i) (e.1.tree i)
   layer_trees (Expr-F.If t a b) = λ i. Expr-F.If (t.1.tree i) (a.1.tree i) (b.1.tree i)
-  layer_trees (Expr-F.Case of ty arms) = λ i. Expr-F.Case (of.1.tree i) ty (arm_trees arms i)
+  layer_trees (Expr-F.Case of forms arms) = λ i. Expr-F.Case (of.1.tree i) forms (arm_trees arms i)
   layer_trees (Expr-F.Let a b) = λ i. Expr-F.Let (a.1.tree i) (b.1.tree i)
   layer_trees (Expr-F.Call f ps) = ap (Expr-F.Call f) (trees ps)
   layer_trees (Expr-F.Raise x None) = refl
@@ -224,8 +225,8 @@ looked_tree core e = (keeps core (λ scope old new. ⊤) each e).tree
       index = λ scope n v k v' k' one. tt;
       update = λ scope n v k e v' k' e' one. tt;
       choice = λ scope t a b t' a' b' one. tt;
-      of_case = λ scope e d ty arms r. tt;
-      arm = λ scope e ty arms others one. tt;
+      of_case = λ scope e d forms arms r. tt;
+      arm = λ scope e forms arms others one. tt;
       of_let = λ scope e d body r. tt;
       body = λ scope e body other r. tt;
       raise = λ scope x e d r. tt;

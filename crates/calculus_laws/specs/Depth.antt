@@ -27,7 +27,7 @@ deepest_part (Expr-F.Prim op ty parts) = greatest parts
 deepest_part (Expr-F.Index count vector place) = max vector place
 deepest_part (Expr-F.Update count vector place item) = max vector (max place item)
 deepest_part (Expr-F.If test when_true when_false) = max test (max when_true when_false)
-deepest_part (Expr-F.Case part ty arms) = max part (deepest_arm arms)
+deepest_part (Expr-F.Case part forms arms) = max part (deepest_arm arms)
 deepest_part (Expr-F.Let part body) = max part body
 deepest_part (Expr-F.Call function parts) = greatest parts
 deepest_part (Expr-F.Raise exn part) = depth_if_there part
@@ -49,7 +49,7 @@ out_depth (Some e) = expression_depth e
 abbrev pub deepest_in_result : Res-F ℕ → ℕ
 deepest_in_result (Res-F.Outs outs) = greatest (map out_depth outs)
 deepest_in_result (Res-F.If test when_true when_false) = max (expression_depth test) (max when_true when_false)
-deepest_in_result (Res-F.Case part ty arms) = max (expression_depth part) (deepest_arm arms)
+deepest_in_result (Res-F.Case part forms arms) = max (expression_depth part) (deepest_arm arms)
 deepest_in_result (Res-F.Let part body) = max (expression_depth part) body
 deepest_in_result (Res-F.Raise exn part) = out_depth part
 

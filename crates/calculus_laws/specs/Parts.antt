@@ -26,7 +26,7 @@ parts_inside (Expr-F.Prim op ty parts) = sum parts
 parts_inside (Expr-F.Index count vector place) = vector + place
 parts_inside (Expr-F.Update count vector place item) = vector + (place + item)
 parts_inside (Expr-F.If test when_true when_false) = test + (when_true + when_false)
-parts_inside (Expr-F.Case part ty arms) = part + parts_in_arms arms
+parts_inside (Expr-F.Case part forms arms) = part + parts_in_arms arms
 parts_inside (Expr-F.Let part body) = part + body
 parts_inside (Expr-F.Call function parts) = sum parts
 parts_inside (Expr-F.Raise exn part) = parts_if_there part
@@ -48,7 +48,7 @@ out_parts (Some e) = expression_parts e
 abbrev pub parts_inside_result : Res-F ℕ → ℕ
 parts_inside_result (Res-F.Outs outs) = sum (map out_parts outs)
 parts_inside_result (Res-F.If test when_true when_false) = expression_parts test + (when_true + when_false)
-parts_inside_result (Res-F.Case part ty arms) = expression_parts part + parts_in_arms arms
+parts_inside_result (Res-F.Case part forms arms) = expression_parts part + parts_in_arms arms
 parts_inside_result (Res-F.Let part body) = expression_parts part + body
 parts_inside_result (Res-F.Raise exn part) = out_parts part
 

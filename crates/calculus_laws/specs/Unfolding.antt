@@ -130,9 +130,9 @@ unfold_step core (Expr-F.If test when_true when_false) scope =
     option_or (option_map (λ e. expr.If e when_true.tree when_false.tree) (test.unfolded scope))
     (option_or (option_map (λ e. expr.If test.tree e when_false.tree) (when_true.unfolded scope))
     (option_map (expr.If test.tree when_true.tree) (when_false.unfolded scope)))
-unfold_step core (Expr-F.Case part ty arms) scope =
-    option_or (option_map (λ e. expr.Case e ty (map (λ arm. (arm.0, arm.1.tree)) arms)) (part.unfolded scope))
-    (option_map (expr.Case part.tree ty) (arms_unfolded arms scope))
+unfold_step core (Expr-F.Case part forms arms) scope =
+    option_or (option_map (λ e. expr.Case e forms (map (λ arm. (arm.0, arm.1.tree)) arms)) (part.unfolded scope))
+    (option_map (expr.Case part.tree forms) (arms_unfolded arms scope))
 unfold_step core (Expr-F.Let part body) scope =
     option_or (option_map (λ e. expr.Let e body.tree) (part.unfolded scope)) (option_map (expr.Let part.tree) (body.unfolded (scope + 1)))
 unfold_step core (Expr-F.Call function parts) scope =
@@ -166,9 +166,9 @@ unfold_result_step look (Res-F.If test when_true when_false) scope =
     option_or (option_map (λ e. res.If e when_true.tree when_false.tree) ((look test).unfolded scope))
     (option_or (option_map (λ r. res.If test r when_false.tree) (when_true.unfolded scope))
     (option_map (res.If test when_true.tree) (when_false.unfolded scope)))
-unfold_result_step look (Res-F.Case part ty arms) scope =
-    option_or (option_map (λ e. res.Case e ty (map (λ arm. (arm.0, arm.1.tree)) arms)) ((look part).unfolded scope))
-    (option_map (res.Case part ty) (arms_unfolded arms scope))
+unfold_result_step look (Res-F.Case part forms arms) scope =
+    option_or (option_map (λ e. res.Case e forms (map (λ arm. (arm.0, arm.1.tree)) arms)) ((look part).unfolded scope))
+    (option_map (res.Case part forms) (arms_unfolded arms scope))
 unfold_result_step look (Res-F.Let part body) scope =
     option_or (option_map (λ e. res.Let e body.tree) ((look part).unfolded scope)) (option_map (res.Let part) (body.unfolded (scope + 1)))
 unfold_result_step look (Res-F.Raise exn None) scope = None

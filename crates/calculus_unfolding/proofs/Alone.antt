@@ -18,7 +18,7 @@ module _ (core : Core) where
   same_step (Expr-F.Index count vector place) scope = refl
   same_step (Expr-F.Update count vector place item) scope = refl
   same_step (Expr-F.If test when_true when_false) scope = refl
-  same_step (Expr-F.Case part ty arms) scope = refl
+  same_step (Expr-F.Case part forms arms) scope = refl
   same_step (Expr-F.Let part body) scope = refl
   same_step (Expr-F.Call function parts) scope = refl
   same_step (Expr-F.Raise exn None) scope = refl

@@ -2,6 +2,7 @@
 use Rattle.std.proofs.Common.{◌≡◌, ℕ, List, map, ap, sym, ◌∙◌}
 use Rattle.std.proofs.lemmas.Grind.{common_steps}
 use Rattle.hume_base.specs.declared.types.Ty.{Ty}
+use Rattle.hume_model.specs.declared.core_tree.Forms.{Forms}
 use Rattle.hume_model.specs.declared.core_tree.Op.{Op}
 use Rattle.hume_model.specs.declared.core_tree.PatC.{PatC}
 use Rattle.hume_model.specs.declared.core_tree.Expr.{Expr, roll-Expr, map-Expr, fold-roll-Expr}
@@ -28,10 +29,10 @@ module _ (numbers : ℕ → ℕ) where
   pub call_renumbered : (f : ℕ) (es : List Expr) → renumbered numbers (expr.Call f es) ≡ expr.Call f (map (renumbered numbers) es)
   call_renumbered f es = form _ (Expr-F.Call f es) (expr.rolls-Call f es) ∙ expr.rolls-Call f (map (renumbered numbers) es)
 
-  pub case_renumbered : (e : Expr) (ty : Ty) (arms : List (PatC × Expr)) → renumbered numbers (expr.Case e ty arms)
-      ≡ expr.Case (renumbered numbers e) ty (map (λ (arm : PatC × Expr). (arm.0, renumbered numbers arm.1)) arms)
-  case_renumbered e ty arms =
-      form _ (Expr-F.Case e ty arms) (expr.rolls-Case e ty arms)
-      ∙ expr.rolls-Case (renumbered numbers e) ty (map (λ (arm : PatC × Expr). (arm.0, renumbered numbers arm.1)) arms)
+  pub case_renumbered : (e : Expr) (forms : Forms) (arms : List (PatC × Expr)) → renumbered numbers (expr.Case e forms arms)
+      ≡ expr.Case (renumbered numbers e) forms (map (λ (arm : PatC × Expr). (arm.0, renumbered numbers arm.1)) arms)
+  case_renumbered e forms arms =
+      form _ (Expr-F.Case e forms arms) (expr.rolls-Case e forms arms)
+      ∙ expr.rolls-Case (renumbered numbers e) forms (map (λ (arm : PatC × Expr). (arm.0, renumbered numbers arm.1)) arms)
 
 pub ruleset number_steps = (common_steps, con_renumbered, tuple_renumbered, vect_renumbered, prim_renumbered, call_renumbered, case_renumbered)

@@ -2,7 +2,7 @@
 use Rattle.std.proofs.Common.{◌≡◌, ℕ, ◌+◌, Bool, List, Option, Some, None, map, ap, sym, ◌∙◌}
 use Rattle.std.specs.Option.{option_map, option_or}
 use Rattle.std.proofs.lemmas.Grind.{common_steps}
-use Rattle.hume_base.specs.declared.types.Ty.{Ty}
+use Rattle.hume_model.specs.declared.core_tree.Forms.{Forms}
 use Rattle.hume_model.specs.declared.core_tree.PatC.{PatC}
 use Rattle.hume_model.specs.declared.core_tree.Expr.{Expr}
 use Rattle.hume_model.specs.declared.core_tree.Res.{Res, out-Res, out-roll-Res, roll-Res, map-Res, fold-roll-Res}
@@ -15,8 +15,8 @@ use Rattle.calculus_unfolding.specs.inner.Changes.{arm_changed, expression_chang
 use Rattle.calculus_unfolding.proofs.Changes.{arm_trees, arms_are, map_if_found, map_twice, outs_are, three_mapped, two_mapped}
 
 -- one level of a result of the form in which not all fields are lent
-pub case_layer : (e : Expr) (ty : Ty) (arms : List (PatC × Res)) → out-Res (res.Case e ty arms) ≡ Res-F.Case e ty arms
-case_layer e ty arms = ap out-Res (sym (res.rolls-Case e ty arms)) ∙ out-roll-Res (Res-F.Case e ty arms)
+pub case_layer : (e : Expr) (forms : Forms) (arms : List (PatC × Res)) → out-Res (res.Case e forms arms) ≡ Res-F.Case e forms arms
+case_layer e forms arms = ap out-Res (sym (res.rolls-Case e forms arms)) ∙ out-roll-Res (Res-F.Case e forms arms)
 
 module _ (core : Core) where
   form : (r : Res) (x : Res-F Res) (scope : ℕ) → roll-Res x ≡ r
@@ -35,16 +35,16 @@ module _ (core : Core) where
   raise_becomes exn (Some e) scope =
       form _ (Res-F.Raise exn (Some e)) scope (res.rolls-Raise exn (Some e)) ∙ sym (map_twice Some (res.Raise exn) (expression_changed core scope e))
 
-  pub case_becomes : (e : Expr) (ty : Ty) (arms : List (PatC × Res)) (scope : ℕ)
-      → result_changed core scope (res.Case e ty arms)
-      ≡ option_map (λ parts. res.Case parts.0 ty parts.1)
+  pub case_becomes : (e : Expr) (forms : Forms) (arms : List (PatC × Res)) (scope : ℕ)
+      → result_changed core scope (res.Case e forms arms)
+      ≡ option_map (λ parts. res.Case parts.0 forms parts.1)
       (two_changed (expression_changed core scope) (first_changed (arm_changed (result_changed core) scope)) (e, arms))
-  case_becomes e ty arms scope =
-      form _ (Res-F.Case e ty arms) scope (res.rolls-Case e ty arms)
-      ∙ (λ i. option_or (option_map (λ d. res.Case d ty (arm_trees (looked_result core) (looked_result_tree core) arms i)) (expression_changed core scope e))
-      (option_map (res.Case e ty) (arms_are (looked_result core) (looked_result_tree core) arms scope i)))
+  case_becomes e forms arms scope =
+      form _ (Res-F.Case e forms arms) scope (res.rolls-Case e forms arms)
+      ∙ (λ i. option_or (option_map (λ d. res.Case d forms (arm_trees (looked_result core) (looked_result_tree core) arms i)) (expression_changed core scope e))
+      (option_map (res.Case e forms) (arms_are (looked_result core) (looked_result_tree core) arms scope i)))
       ∙ sym (two_mapped (expression_changed core scope) (first_changed (arm_changed (result_changed core) scope))
-      (λ parts. res.Case parts.0 ty parts.1) e arms)
+      (λ parts. res.Case parts.0 forms parts.1) e arms)
 
   pub let_becomes : (e : Expr) (body : Res) (scope : ℕ)
       → result_changed core scope (res.Let e body)
@@ -68,12 +68,12 @@ module _ (core : Core) where
       (λ parts. res.If parts.0 parts.1.0 parts.1.1) t a b)
 
   -- so the result becomes what its parts do
-  pub case_found : (e d : Expr) (ty : Ty) (arms new : List (PatC × Res)) (scope : ℕ) (found : Bool)
+  pub case_found : (e d : Expr) (forms : Forms) (arms new : List (PatC × Res)) (scope : ℕ) (found : Bool)
       → two_changed (expression_changed core scope) (first_changed (arm_changed (result_changed core) scope)) (e, arms) ≡ if_found found (d, new)
-      → result_changed core scope (res.Case e ty arms) ≡ if_found found (res.Case d ty new)
-  case_found e d ty arms new scope found is =
-      case_becomes e ty arms scope ∙ ap (option_map (λ parts. res.Case parts.0 ty parts.1)) is
-      ∙ map_if_found (λ parts. res.Case parts.0 ty parts.1) found (d, new)
+      → result_changed core scope (res.Case e forms arms) ≡ if_found found (res.Case d forms new)
+  case_found e d forms arms new scope found is =
+      case_becomes e forms arms scope ∙ ap (option_map (λ parts. res.Case parts.0 forms parts.1)) is
+      ∙ map_if_found (λ parts. res.Case parts.0 forms parts.1) found (d, new)
 
   pub let_found : (e d : Expr) (body new : Res) (scope : ℕ) (found : Bool)
       → two_changed (expression_changed core scope) (result_changed core (scope + 1)) (e, body) ≡ if_found found (d, new)

@@ -3,6 +3,7 @@ use Rattle.std.proofs.Common.{◌≡◌, ℕ, ◌+◌, Bool, List, Option, Some,
 use Rattle.std.specs.Option.{option_map, option_or}
 use Rattle.std.proofs.lemmas.Grind.{common_steps}
 use Rattle.hume_base.specs.declared.types.Ty.{Ty}
+use Rattle.hume_model.specs.declared.core_tree.Forms.{Forms}
 use Rattle.hume_model.specs.declared.core_tree.Op.{Op}
 use Rattle.hume_model.specs.declared.core_tree.PatC.{PatC}
 use Rattle.hume_model.specs.declared.core_tree.Expr.{Expr, out-Expr, out-roll-Expr, roll-Expr, map-Expr, fold-roll-Expr}
@@ -30,8 +31,8 @@ index_layer n v k = layer_of _ (Expr-F.Index n v k) (expr.rolls-Index n v k)
 pub update_layer : (n : ℕ) (v k item : Expr) → out-Expr (expr.Update n v k item) ≡ Expr-F.Update n v k item
 update_layer n v k item = layer_of _ (Expr-F.Update n v k item) (expr.rolls-Update n v k item)
 
-pub case_layer : (e : Expr) (ty : Ty) (arms : List (PatC × Expr)) → out-Expr (expr.Case e ty arms) ≡ Expr-F.Case e ty arms
-case_layer e ty arms = layer_of _ (Expr-F.Case e ty arms) (expr.rolls-Case e ty arms)
+pub case_layer : (e : Expr) (forms : Forms) (arms : List (PatC × Expr)) → out-Expr (expr.Case e forms arms) ≡ Expr-F.Case e forms arms
+case_layer e forms arms = layer_of _ (Expr-F.Case e forms arms) (expr.rolls-Case e forms arms)
 
 module _ (core : Core) where
   form : (e : Expr) (x : Expr-F Expr) (scope : ℕ) → roll-Expr x ≡ e
@@ -63,16 +64,16 @@ module _ (core : Core) where
       form _ (Expr-F.Call f es) scope (expr.rolls-Call f es)
       ∙ (λ i. option_or (call_unfolded core f (trees core es i) scope) (option_map (expr.Call f) (parts_are core es scope i)))
 
-  pub case_unfolded : (e : Expr) (ty : Ty) (arms : List (PatC × Expr)) (scope : ℕ)
-      → expression_changed core scope (expr.Case e ty arms)
-      ≡ option_map (λ parts. expr.Case parts.0 ty parts.1)
+  pub case_unfolded : (e : Expr) (forms : Forms) (arms : List (PatC × Expr)) (scope : ℕ)
+      → expression_changed core scope (expr.Case e forms arms)
+      ≡ option_map (λ parts. expr.Case parts.0 forms parts.1)
       (two_changed (expression_changed core scope) (first_changed (arm_changed (expression_changed core) scope)) (e, arms))
-  case_unfolded e ty arms scope =
-      form _ (Expr-F.Case e ty arms) scope (expr.rolls-Case e ty arms)
-      ∙ (λ i. option_or (option_map (λ d. expr.Case d ty (arm_trees (looked core) (looked_tree core) arms i)) (expression_changed core scope e))
-      (option_map (expr.Case (looked_tree core e i) ty) (arms_are (looked core) (looked_tree core) arms scope i)))
+  case_unfolded e forms arms scope =
+      form _ (Expr-F.Case e forms arms) scope (expr.rolls-Case e forms arms)
+      ∙ (λ i. option_or (option_map (λ d. expr.Case d forms (arm_trees (looked core) (looked_tree core) arms i)) (expression_changed core scope e))
+      (option_map (expr.Case (looked_tree core e i) forms) (arms_are (looked core) (looked_tree core) arms scope i)))
       ∙ sym (two_mapped (expression_changed core scope) (first_changed (arm_changed (expression_changed core) scope))
-      (λ parts. expr.Case parts.0 ty parts.1) e arms)
+      (λ parts. expr.Case parts.0 forms parts.1) e arms)
 
   pub let_unfolded : (e body : Expr) (scope : ℕ)
       → expression_changed core scope (expr.Let e body)
@@ -141,12 +142,12 @@ module _ (core : Core) where
       → expression_changed core scope (expr.Prim op ty es) ≡ if_found found (expr.Prim op ty ds)
   prim_found op ty es ds scope found is = prim_unfolded op ty es scope ∙ ap (option_map (expr.Prim op ty)) is ∙ map_if_found (expr.Prim op ty) found ds
 
-  pub case_found : (e d : Expr) (ty : Ty) (arms new : List (PatC × Expr)) (scope : ℕ) (found : Bool)
+  pub case_found : (e d : Expr) (forms : Forms) (arms new : List (PatC × Expr)) (scope : ℕ) (found : Bool)
       → two_changed (expression_changed core scope) (first_changed (arm_changed (expression_changed core) scope)) (e, arms) ≡ if_found found (d, new)
-      → expression_changed core scope (expr.Case e ty arms) ≡ if_found found (expr.Case d ty new)
-  case_found e d ty arms new scope found is =
-      case_unfolded e ty arms scope ∙ ap (option_map (λ parts. expr.Case parts.0 ty parts.1)) is
-      ∙ map_if_found (λ parts. expr.Case parts.0 ty parts.1) found (d, new)
+      → expression_changed core scope (expr.Case e forms arms) ≡ if_found found (expr.Case d forms new)
+  case_found e d forms arms new scope found is =
+      case_unfolded e forms arms scope ∙ ap (option_map (λ parts. expr.Case parts.0 forms parts.1)) is
+      ∙ map_if_found (λ parts. expr.Case parts.0 forms parts.1) found (d, new)
 
   pub let_found : (e d body new : Expr) (scope : ℕ) (found : Bool)
       → two_changed (expression_changed core scope) (expression_changed core (scope + 1)) (e, body) ≡ if_found found (d, new)

@@ -13,7 +13,7 @@ ghost use Rattle.calculus_unfolding.specs.inner.Numbers.{new_number};
 use crate::counts::plus;
 use crate::patterns::copy_pattern;
 use hume_base::{Box, List, Ty, copy_ty};
-use hume_model::{Expr, Op, PatC};
+use hume_model::{Expr, Forms, Op, PatC};
 use std::alloc::{AllocError, Global};
 
 /// Which numbers the variables of an expression get.
@@ -69,7 +69,13 @@ pub fn renumber(alloc: Global, numbers: &Numbers, e: &Expr) -> Result<Expr, Allo
         Expr::If(test, when_true, when_false) => {
             renumber_choice(alloc, numbers, test, when_true, when_false)
         }
-        Expr::Case(part, ty, arms) => renumber_case(alloc, numbers, part, ty, arms.as_slice()),
+        Expr::Case(part, forms, arms) => renumber_case(
+            alloc,
+            numbers,
+            part,
+            *forms,
+            arms.as_slice(),
+        ),
         Expr::Let(part, body) => renumber_binding(alloc, numbers, part, body),
         Expr::Call(function, parts) => renumber_call(alloc, numbers, *function, parts.as_slice()),
         Expr::Raise(exn, part) => renumber_raise(alloc, numbers, *exn, part),
@@ -182,14 +188,14 @@ fn renumber_case(
     alloc: Global,
     numbers: &Numbers,
     part: &Expr,
-    ty: &Ty,
+    forms: Forms,
     arms: &[(PatC, Expr)],
 ) -> Result<Expr, AllocError>
-    ensures { IfOk result (λ new. new ≡ renumbered (new_number numbers.now) (CaseExpr part.now ty.now arms.now)) }
+    ensures { IfOk result (λ new. new ≡ renumbered (new_number numbers.now) (CaseExpr part.now forms arms.now)) }
 {
     let part = renumber_part(alloc, numbers, part)?;
     let arms = renumber_arms(alloc, numbers, arms)?;
-    Ok(Expr::Case(part, copy_ty(alloc, ty)?, arms))
+    Ok(Expr::Case(part, forms, arms))
 }
 
 #[cycle(renumber)]

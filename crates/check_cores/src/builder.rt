@@ -6,7 +6,7 @@ ghost use Rattle.check_cores.specs.Stacks.{top_core, top_pattern, lifted};
 use crate::stack::Stack;
 use crate::{forms, gather};
 use hume_base::Ty;
-use hume_model::{Expr, Op, PatC};
+use hume_model::{Expr, Forms, Op, PatC};
 use std::alloc::{AllocError, Global};
 use std::marker::Model;
 
@@ -213,16 +213,21 @@ impl Builder {
     }
 
     /// A `case` of the last core with the last alternatives.
-    pub fn alternatives(&mut self, alloc: Global, ty: Ty, count: usize) -> Result<(), AllocError>
+    pub fn alternatives(
+        &mut self,
+        alloc: Global,
+        values: Forms,
+        count: usize,
+    ) -> Result<(), AllocError>
         ensures { OnOk result (self.new ≡ (
-          case_core ty (top_core self.old.0) (reverse (take count self.old.2))
+          case_core values (top_core self.old.0) (reverse (take count self.old.2))
               ∷ drop 1 self.old.0,
           self.old.1,
           drop count self.old.2,
         )) }
     {
         let arms = gather::arms(alloc, &mut self.arms, count)?;
-        forms::alternatives(alloc, &mut self.cores, ty, arms)
+        forms::alternatives(alloc, &mut self.cores, values, arms)
     }
 
     /// Takes the last core out.

@@ -6,7 +6,7 @@ ghost use Rattle.check_cores.specs.Stacks.{top_core};
 
 use crate::stack::Stack;
 use hume_base::{Box, List, Ty};
-use hume_model::{Expr, Op, PatC};
+use hume_model::{Expr, Forms, Op, PatC};
 use std::alloc::{AllocError, Global};
 
 type Cores = Stack<(Expr, bool)>;
@@ -108,14 +108,14 @@ pub(crate) fn update(alloc: Global, cores: &mut Cores, count: u32) -> Result<(),
 pub(crate) fn alternatives(
     alloc: Global,
     cores: &mut Cores,
-    ty: Ty,
+    forms: Forms,
     arms: (List<(PatC, Expr)>, bool),
 ) -> Result<(), AllocError>
-    ensures { OnOk result (cores.new ≡ (CaseCore (top_core cores.old).0 ty arms.0, (top_core cores.old).1 || arms.1) ∷ drop 1 cores.old) }
+    ensures { OnOk result (cores.new ≡ (CaseCore (top_core cores.old).0 forms arms.0, (top_core cores.old).1 || arms.1) ∷ drop 1 cores.old) }
 {
     let (arms, some_too_wide) = arms;
     let (part, too_wide) = last(alloc, cores)?;
-    cores.push((Expr::Case(part, ty, arms), too_wide || some_too_wide))
+    cores.push((Expr::Case(part, forms, arms), too_wide || some_too_wide))
 }
 
 // Takes the last core out, to be a part of another.

@@ -2,6 +2,7 @@
 ghost use Rattle.std.specs.Prelude.{◌≡◌, length, drop, OnOk, IfOk};
 ghost use Rattle.hume_base.specs.declared.types.Ty.{out-Ty};
 ghost use Rattle.check_scopes.specs.types.Contexts.{top, shape_of as shape_seen};
+ghost use Rattle.hume_model.specs.Forms.{forms_of};
 ghost use Rattle.check_typing.specs.Signatures.{exn_named};
 ghost use Rattle.check_scopes.specs.Known.{with_exception};
 ghost use Rattle.check_cores.specs.Stacks.{top_core, top_pattern};
@@ -9,9 +10,8 @@ ghost use Rattle.check_tasks.specs.States.{scope_in, types_in, signatures_in};
 
 use crate::elaboration::Elaboration;
 use check_scopes::types::Shape;
-use hume_base::Ty;
-use hume_model::{Expr, PatC};
-use std::alloc::{AllocError, Global};
+use hume_model::{Expr, Forms, PatC};
+use std::alloc::AllocError;
 
 impl<'a> Elaboration<'a> {
     /// How many variables are in scope.
@@ -28,12 +28,11 @@ impl<'a> Elaboration<'a> {
         self.environment.shape()
     }
 
-    /// The last type as a tree.
-    pub fn tree(&mut self, alloc: Global) -> Result<Ty, AllocError>
-        ensures keeps { OnOk result (self.new ≡ self.old) }
-        ensures is { IfOk result (λ ty. ty ≡ top (types_in self.old)) }
+    /// The forms of the values of the last type.
+    pub fn forms(&self) -> Result<Forms, AllocError>
+        ensures { IfOk result (λ forms. forms ≡ forms_of (top (types_in self.now))) }
     {
-        self.environment.tree(alloc)
+        self.environment.forms()
     }
 
     /// The number of the exception of a name, and whether it carries something. The type of what it carries goes on the stack.

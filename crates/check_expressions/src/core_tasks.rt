@@ -44,29 +44,29 @@ impl<'a> Elaboration<'a> {
     fn operation(&mut self, alloc: Global, operation: Op) -> Result<(), AllocError>
         ensures { OnOk result (self.new ≡ core_step (Operation operation) self.old) }
     {
-        let ty = self.environment.tree(alloc)?;
+        let ty = self.environment.scalar()?;
         self.builder.operation(alloc, operation, ty)
     }
 
     fn negation(&mut self, alloc: Global) -> Result<(), AllocError>
         ensures { OnOk result (self.new ≡ core_step Negation self.old) }
     {
-        let ty = self.environment.tree(alloc)?;
+        let ty = self.environment.scalar()?;
         self.builder.negation(alloc, ty)
     }
 
     fn conversion(&mut self, alloc: Global) -> Result<(), AllocError>
         ensures { OnOk result (self.new ≡ core_step Conversion self.old) }
     {
-        let ty = self.environment.tree(alloc)?;
+        let ty = self.environment.scalar()?;
         self.builder.conversion(alloc, ty)
     }
 
     fn alternatives(&mut self, alloc: Global, count: usize) -> Result<(), AllocError>
         ensures { OnOk result (self.new ≡ core_step (Alternatives count) self.old) }
     {
-        let ty = self.environment.tree(alloc)?;
-        self.builder.alternatives(alloc, ty, count)
+        let forms = self.environment.forms()?;
+        self.builder.alternatives(alloc, forms, count)
     }
 
     fn own_tuple(&mut self, alloc: Global, count: usize) -> Result<(), AllocError>

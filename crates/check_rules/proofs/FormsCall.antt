@@ -13,6 +13,7 @@ use Rattle.hume_model.specs.declared.core_tree.Expr.{Expr, roll-Expr, map-Expr, 
 use Rattle.hume_model.specs.declared.core_tree.Expr.TheOpen.{Expr-F}
 use Rattle.hume_model.specs.declared.core_tree.Expr.TheVariants.{rolls-Word, rolls-Var, rolls-Con, rolls-Tuple, rolls-Vect, rolls-Prim, rolls-Index, rolls-Update, rolls-If, rolls-Case, rolls-Let, rolls-Call, rolls-Raise}
 use Rattle.hume_model.specs.Calls.{all_true, calls_step, calls_below}
+use Rattle.hume_model.specs.Forms.{forms_of}
 use Rattle.check_typing.specs.Signatures.{Scope, fun_named}
 use Rattle.check_typing.specs.Patterns.{literal_word, word_of_truth}
 use Rattle.check_typing.specs.Cores.{Cored, CoredArm, cores, arm_cores, letter_core, truth_core, literal_core, variable_core, let_core, if_core, and_core, or_core, operation_core, neg_core, not_core, convert_core, index_core, update_core, case_core, raise_core, raise_with_core, call_core, con_core, tuple_core, vector_core}
@@ -239,8 +240,8 @@ module _ (s : Signatures) (bound : ℕ) where
 
   module _ (a : Judged) (p : Goes a) (arms : List Arm) (g : AllArmsGo arms) where
     alternatives : (scope : Scope) (u t : Ty) (c : Cored) → Alternatives s a arms scope u t c → Calls c.0
-    alternatives scope u t c h = shown c (case_core u h.0 h.1) h.4
-        (rolled (Expr-F.Case h.0.0 u (arm_cores h.1)) (Case h.0.0 u (arm_cores h.1)) (rolls-Case h.0.0 u (arm_cores h.1))
+    alternatives scope u t c h = shown c (case_core (forms_of u) h.0 h.1) h.4
+        (rolled (Expr-F.Case h.0.0 (forms_of u) (arm_cores h.1)) (Case h.0.0 (forms_of u) (arm_cores h.1)) (rolls-Case h.0.0 (forms_of u) (arm_cores h.1))
         (both _ _ (p.has scope u h.0 h.2) (arms_call scope u t arms g h.1 h.3)))
 
     pub goes_case : Goes (case_typing s a arms)

@@ -25,6 +25,8 @@ use Rattle.hume_model.specs.declared.core_tree.Expr.TheVariants.{rolls-Word, rol
 use Rattle.hume_model.specs.Calls.{all_true}
 use Rattle.hume_model.specs.TypeLimits.{is_between, type_step, is_type}
 use Rattle.hume_model.specs.PartLimits.{is_written_pattern, is_length, expression_step, is_written}
+use Rattle.hume_model.specs.Forms.{forms_of}
+use Rattle.hume_model.proofs.FormsThere.{forms_there}
 use Rattle.check_typing.specs.Signatures.{Scope, exn_named}
 use Rattle.check_typing.specs.WrittenTypes.{written}
 use Rattle.check_typing.specs.Patterns.{literal_word, word_of_truth}
@@ -416,9 +418,9 @@ module _ (s : Signatures) (have : HaveTypes s) where
     alternatives scope u t c vars is h =
         let part = p.has scope u h.0 vars h.2 in
         let r = arms_written scope u t arms g vars part.0 is h.1 h.3 in
-        shown c (case_core u h.0 h.1) h.4
-        (rolled (Expr-F.Case h.0.0 u (arm_cores h.1)) (Case h.0.0 u (arm_cores h.1)) (rolls-Case h.0.0 u (arm_cores h.1))
-        (both _ _ part.0 (both _ _ part.1 (both _ _ (le-leb 1 _ (subst (λ n. 1 ≤ n) (sym r.long) some)) r.each))))
+        shown c (case_core (forms_of u) h.0 h.1) h.4
+        (rolled (Expr-F.Case h.0.0 (forms_of u) (arm_cores h.1)) (Case h.0.0 (forms_of u) (arm_cores h.1)) (rolls-Case h.0.0 (forms_of u) (arm_cores h.1))
+        (both _ _ (forms_there s.types u part.0) (both _ _ part.1 (both _ _ (le-leb 1 _ (subst (λ n. 1 ≤ n) (sym r.long) some)) r.each))))
 
     pub good_case : IsGood (case_typing s a arms)
     good_case = record {

@@ -21,6 +21,8 @@ use Rattle.hume_model.specs.declared.core_tree.Res.TheVariants.{rolls-Outs, roll
 use Rattle.hume_model.specs.TypeLimits.{is_type}
 use Rattle.hume_model.specs.PartLimits.{is_written_pattern, is_written, is_written_if_there, is_written_result}
 use Rattle.hume_model.specs.PartLimits as model
+use Rattle.hume_model.specs.Forms.{forms_of}
+use Rattle.hume_model.proofs.FormsThere.{forms_there}
 use Rattle.check_typing.specs.Signatures.{Scope}
 use Rattle.check_typing.specs.Typing.{Judged, typing}
 use Rattle.check_typing.specs.Results.{CoredRes, CoredOut, CoredResArm, AsResult, ResultArm, outs_core, let_result_core, if_result_core, case_result_core, raise_result_core, raise_with_result_core, result_arm_cores, AllOutputs, OutputsOf, leaf, Valued, NoOutputs, star_result, tuple_result, plain_result, followed, raise_result, raise_with_result, let_result, if_result, ArmsResult, case_result, result_arm_with, result_step, as_result}
@@ -156,9 +158,9 @@ module _ (s : Signatures) (have : HaveTypes s) where
       good_case arms g some = good_followed _ (λ scope tys c vars are h.
           let part = p.has scope h.0 h.1 vars h.3 in
           let r = arms_written scope h.0 tys arms g vars part.0 are h.2 h.4 in
-          shown c (case_result_core h.0 h.1 h.2) h.5
-          (rolled (Res-F.Case h.1.0 h.0 (result_arm_cores h.2)) (Case h.1.0 h.0 (result_arm_cores h.2)) (rolls-Case h.1.0 h.0 (result_arm_cores h.2))
-          (both _ _ part.0 (both _ _ part.1 (both _ _ (le-leb 1 _ (subst (λ n. 1 ≤ n) (sym r.long) some)) r.each)))))
+          shown c (case_result_core (forms_of h.0) h.1 h.2) h.5
+          (rolled (Res-F.Case h.1.0 (forms_of h.0) (result_arm_cores h.2)) (Case h.1.0 (forms_of h.0) (result_arm_cores h.2)) (rolls-Case h.1.0 (forms_of h.0) (result_arm_cores h.2))
+          (both _ _ (forms_there s.types h.0 part.0) (both _ _ part.1 (both _ _ (le-leb 1 _ (subst (λ n. 1 ≤ n) (sym r.long) some)) r.each)))))
 
   good_star : IsGoodResult star_result
   good_star = good_leaf _ NoOutputs (λ scope t out vars is h. ap (λ (out : CoredOut). is_written_if_there s.types out.0) h) no_outs

@@ -2,6 +2,7 @@ ghost use Rattle.std.specs.Prelude.{◌≡◌, ◌↔◌, ◌∷◌, ◌++◌, [
 ghost use Rattle.hume_base.specs.declared.types.Ty.{Tuple as TupleTy, Vector as VectorTy, out-Ty};
 ghost use Rattle.check_scopes.specs.types.Nodes.{ty_of, IsWithin};
 ghost use Rattle.check_scopes.specs.types.Contexts.{top, below, shape_of as shape_seen, part_at, item_of};
+ghost use Rattle.hume_model.specs.Forms.{forms_of};
 ghost use Rattle.check_typing.specs.Signatures.{variable_named};
 ghost use Rattle.check_scopes.specs.Known.{with_type, with_variable};
 
@@ -10,11 +11,9 @@ use crate::signed::signed_context;
 use crate::types::{Context, Node, Shape};
 use check_typing::Signatures;
 use hume_base::Ty;
+use hume_model::Forms;
 use std::alloc::{AllocError, Global};
 use std::marker::Model;
-
-/// How many nodes of types a core may hold as trees. A core with more of them is answered with want of memory.
-const TYPE_NODES: usize = 16_777_216;
 
 /// What is known where an expression stands: the variables with their types, outermost first; a stack of types, the last one
 /// first; and the signatures. What asks for a type of an empty stack is answered with want of memory.
@@ -22,7 +21,6 @@ const TYPE_NODES: usize = 16_777_216;
 pub struct Environment<'a> {
     pub(crate) names: SignatureTable<'a>,
     pub(crate) context: Context<'a>,
-    room: usize,
 }
 
 impl<'a> Model for Environment<'a> {
@@ -49,11 +47,7 @@ impl<'a> Environment<'a> {
     {
         let names = SignatureTable::make(alloc, signatures)?;
         let context = signed_context(alloc, signatures)?;
-        Ok(Environment {
-            names,
-            context,
-            room: TYPE_NODES,
-        })
+        Ok(Environment { names, context })
     }
 
     /// How many variables are in scope.
@@ -127,12 +121,19 @@ impl<'a> Environment<'a> {
         Ok(same)
     }
 
-    /// The last type of the stack as a tree.
-    pub fn tree(&mut self, alloc: Global) -> Result<Ty, AllocError>
-        ensures keeps { OnOk result (self.new ≡ self.old) }
-        ensures is { IfOk result (λ ty. ty ≡ top self.old.1) }
+    /// The forms of the values of the last type of the stack.
+    pub fn forms(&self) -> Result<Forms, AllocError>
+        ensures { IfOk result (λ forms. forms ≡ forms_of (top self.now.1)) }
     {
-        let ty = self.context.tree(alloc, &mut self.room)?;
+        let forms = self.context.forms()?;
+        Ok(forms)
+    }
+
+    /// The last type of the stack, one of numbers, `char` or `bool`, as a tree. Any other is answered with want of memory.
+    pub fn scalar(&self) -> Result<Ty, AllocError>
+        ensures { IfOk result (λ ty. ty ≡ top self.now.1) }
+    {
+        let ty = self.context.scalar()?;
         Ok(ty)
     }
 

@@ -2,8 +2,8 @@
 //!
 //! A page of source can declare types of 2^60 words, so types are numbered. `Context` is the state of an elaboration: the
 //! variables in scope, a stack of types, and the types that declarations wrote down. Contracts speak of types alone
-//! (`Contexts.antt`). `TypeTable` gives each type its one number (`Nodes.antt`). `Context::tree` gives a type as a tree again,
-//! of as many nodes as there is room for.
+//! (`Contexts.antt`). `TypeTable` gives each type its one number (`Nodes.antt`). No type becomes a tree again but one of a single
+//! node (`Context::scalar`).
 //!
 //! Proved: a type has one number in a table (`TypeTable::number`, `is_same`). Each call of `Context` changes the variables, the
 //! stack of types and the kept types exactly as it says of types; where a call fails, the kept types stay.

@@ -5,6 +5,7 @@ use Rattle.hume_ast.specs.declared.tree.Pat.{Pat}
 use Rattle.hume_ast.specs.declared.tree.Exp.{Exp}
 use Rattle.hume_model.specs.declared.core_tree.PatC.{Con as ConPat, Tuple as TuplePat}
 use Rattle.hume_model.specs.Typing.{is_number_type, is_comparison}
+use Rattle.hume_model.specs.Forms.{forms_of}
 use Rattle.check_scopes.specs.types.Contexts.{top, below, part_at, item_of}
 use Rattle.check_typing.specs.Partial.{given, when}
 use Rattle.check_typing.specs.Patterns.{CoredPat, Bound, pat_cores, some_pat_too_wide, pattern, patterns}
@@ -87,7 +88,7 @@ core_step (cores.OwnVector count) state =
     ((state.0.0, VectorTy count (top state.0.1) ∷ below state.0.1, state.0.2), vector_core (last_ones count state) ∷ drop count state.1, state.2, state.3)
 core_step cores.Arm state = (state.0, drop 1 state.1, drop 1 state.2, (top_pattern state.2, last state) ∷ state.3)
 core_step (cores.Alternatives count) state =
-    (state.0, case_core (top state.0.1) (last state) (reverse (take count state.3)) ∷ drop 1 state.1, state.2, drop count state.3)
+    (state.0, case_core (forms_of (top state.0.1)) (last state) (reverse (take count state.3)) ∷ drop 1 state.1, state.2, drop count state.3)
 core_step (cores.SameConstructor place count) state = (
   state.0,
   state.1,

@@ -12,6 +12,7 @@ use Rattle.hume_model.specs.declared.core_tree.Op.TheVariants as op
 use Rattle.hume_model.specs.declared.core_tree.ExnDef.{ExnDef}
 use Rattle.hume_model.specs.declared.core_tree.Core.{Core}
 use Rattle.hume_model.specs.Typing.{is_arithmetic, HasType, HaveTypes, ArmsHaveType, IsPattern}
+use Rattle.hume_model.specs.Forms.{forms_of}
 use Rattle.check_typing.specs.Signatures.{Scope, exn_named}
 use Rattle.check_typing.specs.Patterns.{literal_word, word_of_truth}
 use Rattle.check_typing.specs.Cores.{Cored, CoredArm, cores, some_too_wide, arm_cores, some_arm_too_wide, letter_core, truth_core, literal_core, variable_core, let_core, if_core, and_core, or_core, operation_core, neg_core, not_core, convert_core, index_core, update_core, case_core, raise_core, raise_with_core, call_core, con_core, tuple_core, vector_core}
@@ -260,9 +261,9 @@ module _ (s : Signatures) (core : Core) (of : HasSignatures s core) where
 
   module _ (a : Judged) (p : IsSound a) (arms : List Arm) (g : AllArmsSound arms) where
     alternatives : (scope : Scope) (u t : Ty) (c : Cored) → Alternatives s a arms scope u t c → IsTypedAs scope t c
-    alternatives scope u t c h = shown scope t t c (case_core u h.0 h.1) refl h.4 (λ off.
+    alternatives scope u t c h = shown scope t t c (case_core (forms_of u) h.0 h.1) refl h.4 (λ off.
         let flags = or_parts h.0.1 (some_arm_too_wide h.1) off in
-        HasType.alternatives u (p.has scope u h.0 h.2 flags.0) (arms_typed scope u t arms g h.1 h.3 flags.1))
+        HasType.alternatives u (p.has scope u h.0 h.2 flags.0) refl (arms_typed scope u t arms g h.1 h.3 flags.1))
 
     pub sound_case : IsSound (case_typing s a arms)
     sound_case = record { has = λ scope t c h. alternatives scope h.0 t c h.2; checked = λ scope t c h. alternatives scope h.0 t c h.1 }

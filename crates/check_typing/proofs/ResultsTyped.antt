@@ -1,5 +1,5 @@
 -- The core of a result gives outputs of their types, if no literal in it is out of range.
-use Rattle.std.proofs.Common.{◌≡◌, ℕ, List, [], ◌∷◌, ◌++◌, map, Option, Some, None, ap, sym, subst, ◌∙◌, Bool, false, ◌||◌}
+use Rattle.std.proofs.Common.{◌≡◌, ℕ, List, [], ◌∷◌, ◌++◌, map, Option, Some, None, ap, sym, subst, ◌∙◌, Bool, false, ◌||◌, refl}
 use Rattle.std.specs.List.{list_any}
 use Rattle.std.proofs.lemmas.Bool.{or_parts}
 use Rattle.std.proofs.lemmas.List.{map-append}
@@ -11,6 +11,7 @@ use Rattle.hume_model.specs.declared.core_tree.Core.{Core}
 use Rattle.hume_model.specs.declared.core_tree.Expr.{Expr}
 use Rattle.hume_model.specs.Typing.{IsPattern}
 use Rattle.hume_model.specs.ResultTyping.{OutsHave, GivesOutputs, ArmsGiveOutputs}
+use Rattle.hume_model.specs.Forms.{forms_of}
 use Rattle.check_typing.specs.Signatures.{Scope}
 use Rattle.check_typing.specs.Typing.{Judged, typing}
 use Rattle.check_typing.specs.Results.{CoredRes, CoredOut, CoredResArm, AsResult, ResultArm, outs_core, let_result_core, if_result_core, case_result_core, raise_result_core, raise_with_result_core, result_arm_cores, AllOutputs, OutputsOf, leaf, Valued, NoOutputs, star_result, tuple_result, plain_result, followed, raise_result, raise_with_result, let_result, if_result, ArmsResult, case_result, result_arm_with, result_step, as_result}
@@ -149,9 +150,9 @@ module _ (s : Signatures) (core : Core) (of : HasSignatures s core) where
           GivesOutputs.choice (p.checked scope BoolTy h.0 h.3 first.0) (rs.result scope tys h.1 h.4 two.0) (qs.result scope tys h.2 h.5 two.1)))
 
       sound_case : (arms : List ResultArm) → AllSoundArms arms → IsSoundResult (case_result s j a arms)
-      sound_case arms g = sound_followed _ (λ scope tys c h. shown scope tys c (case_result_core h.0 h.1 h.2) h.5 (λ off.
+      sound_case arms g = sound_followed _ (λ scope tys c h. shown scope tys c (case_result_core (forms_of h.0) h.1 h.2) h.5 (λ off.
           let flags = or_parts h.1.1 (some_arm_wide h.2) off in
-          GivesOutputs.alternatives h.0 (p.has scope h.0 h.1 h.3 flags.0) (arms_give scope h.0 tys arms g h.2 h.4 flags.1)))
+          GivesOutputs.alternatives h.0 (p.has scope h.0 h.1 h.3 flags.0) refl (arms_give scope h.0 tys arms g h.2 h.4 flags.1)))
 
   sound_star : IsSoundResult star_result
   sound_star =

@@ -5,6 +5,7 @@ use Rattle.hume_base.specs.declared.types.Ty.{Ty, Bool as BoolTy}
 use Rattle.hume_model.specs.declared.core_tree.Op.{Op}
 use Rattle.hume_model.specs.declared.core_tree.Op.TheVariants as op
 use Rattle.hume_model.specs.declared.core_tree.PatC.{PatC}
+use Rattle.hume_model.specs.declared.core_tree.Forms.{Forms}
 use Rattle.hume_model.specs.declared.core_tree.Expr.{Expr, Word, Var, Con, Tuple, Vect, Prim, Index, Update, If, Case, Let, Call, Raise}
 use Rattle.check_typing.specs.Patterns.{CoredPat, literal_word, is_too_wide, is_no_char, word_of_truth}
 
@@ -88,9 +89,9 @@ index_core count vector place = (Index count vector.0 place.0, vector.1 || place
 abbrev pub update_core : ℕ → Cored → Cored → Cored → Cored
 update_core count vector place item = (Update count vector.0 place.0 item.0, vector.1 || (place.1 || item.1))
 
--- with the type of what is matched
-abbrev pub case_core : Ty → Cored → List CoredArm → Cored
-case_core ty part arms = (Case part.0 ty (arm_cores arms), part.1 || some_arm_too_wide arms)
+-- with the forms of the values that are matched
+abbrev pub case_core : Forms → Cored → List CoredArm → Cored
+case_core forms part arms = (Case part.0 forms (arm_cores arms), part.1 || some_arm_too_wide arms)
 
 -- an exception by its number
 abbrev pub raise_core : ℕ → Cored

@@ -7,7 +7,9 @@ use Rattle.hume_ast.specs.declared.tree.Exp.{Exp, rec-Exp}
 use Rattle.hume_ast.specs.declared.tree.Exp.TheOpen.{Exp-F}
 use Rattle.hume_model.specs.declared.core_tree.PatC.{PatC}
 use Rattle.hume_model.specs.declared.core_tree.Expr.{Expr}
+use Rattle.hume_model.specs.declared.core_tree.Forms.{Forms}
 use Rattle.hume_model.specs.declared.core_tree.Res.{Res, Outs, If, Case, Let, Raise}
+use Rattle.hume_model.specs.Forms.{forms_of}
 use Rattle.check_typing.specs.Signatures.{Scope}
 use Rattle.check_typing.specs.Patterns.{CoredPat, pattern}
 use Rattle.check_typing.specs.Cores.{Cored}
@@ -50,9 +52,9 @@ if_result_core test when_true when_false = (If test.0 when_true.0 when_false.0, 
 abbrev pub result_arm_cores : List CoredResArm → List (PatC × Res)
 result_arm_cores arms = map (λ arm. (arm.0.0, arm.1.0)) arms
 
--- `case`, with the type of what is matched
-abbrev pub case_result_core : Ty → Cored → List CoredResArm → CoredRes
-case_result_core ty part arms = (Case part.0 ty (result_arm_cores arms), part.1 || list_any (λ arm. arm.0.1 || arm.1.1) arms)
+-- `case`, with the forms of the values that are matched
+abbrev pub case_result_core : Forms → Cored → List CoredResArm → CoredRes
+case_result_core forms part arms = (Case part.0 forms (result_arm_cores arms), part.1 || list_any (λ arm. arm.0.1 || arm.1.1) arms)
 
 -- an exception by its number
 abbrev pub raise_result_core : ℕ → CoredRes
@@ -150,7 +152,7 @@ ArmsResult signatures scope of _ tys _ = ⊥
 abbrev pub case_result : Signatures → Judged → Judged → List ResultArm → AsResult
 case_result signatures j a arms = followed j (λ scope tys c.
     (of : Ty) × (part : Cored) × (cs : List CoredResArm) × a.has scope of part × ArmsResult signatures scope of arms tys cs
-    × (c ≡ case_result_core of part cs))
+    × (c ≡ case_result_core (forms_of of) part cs))
 
 -- an alternative, by what is said of its body
 abbrev pub result_arm_with : (X : Type 0) → (X → AsResult) → Pat × X → ResultArm

@@ -11,6 +11,7 @@ use Rattle.hume_model.specs.declared.core_tree.Op.{Op}
 use Rattle.hume_model.specs.declared.core_tree.Op.TheVariants as op
 use Rattle.hume_model.specs.declared.core_tree.ExnDef.{ExnDef}
 use Rattle.hume_model.specs.Typing.{is_number_type, is_comparison}
+use Rattle.hume_model.specs.Forms.{forms_of}
 use Rattle.check_typing.specs.Signatures.{Scope, Constructor, exn_named, fun_named, con_named, variable_named}
 use Rattle.check_typing.specs.WrittenTypes.{written}
 use Rattle.check_typing.specs.Patterns.{CoredPat, pattern}
@@ -132,7 +133,7 @@ all_arms_open (arm ∷ arms) = arm.body.is_open && all_arms_open arms
 -- what is matched has its type by itself, and the alternatives are checked against both types
 abbrev pub Alternatives : Signatures → Judged → List Arm → Scope → Ty → Ty → Cored → Type 0
 Alternatives signatures a arms scope of ty c =
-    (part : Cored) × (cs : List CoredArm) × a.has scope of part × ArmsChecked signatures scope of arms ty cs × (c ≡ case_core of part cs)
+    (part : Cored) × (cs : List CoredArm) × a.has scope of part × ArmsChecked signatures scope of arms ty cs × (c ≡ case_core (forms_of of) part cs)
 
 -- `case`: what is matched has its type by itself
 abbrev pub case_typing : Signatures → Judged → List Arm → Judged

@@ -28,7 +28,7 @@ module _ (code : List ℕ) (entry : ℕ → Option ℕ) (places : List ℕ) (hig
   Layer (Expr-F.Prim op ty parts) = (scalar : Scalar) × (mid : ℕ) × (ty ≡ type_of scalar) × Parts mid parts × StandsAt code mid (instr_of_op op scalar) to
   Layer (Expr-F.Index count v p) = (mid : ℕ) × Parts mid (v ∷ p ∷ []) × StandsAt code mid (Index count) to
   Layer (Expr-F.Update count v p e) = (mid : ℕ) × Parts mid (v ∷ p ∷ e ∷ []) × StandsAt code mid (Update count) to
-  Layer (Expr-F.Case e ty arms) = (mid : ℕ) × Part from mid e × ArmsStand code entry places high mid to arms
+  Layer (Expr-F.Case e forms arms) = (mid : ℕ) × Part from mid e × ArmsStand code entry places high mid to arms
   Layer (Expr-F.If test a b) = (tested : ℕ) × (first : ℕ) × (done : ℕ) × (second : ℕ) × Part from tested test
       × StandsAt code tested (JumpFalse second) first × Part first done a × StandsAt code done (Jump to) second × Part second to b
   Layer (Expr-F.Let a b) = (mid : ℕ) × (done : ℕ) × Part from mid a × Represents code entry (places ++ high ∷ []) (high + 1) mid done b × StandsAt code done (Slide 1) to
@@ -56,8 +56,8 @@ module _ (code : List ℕ) (entry : ℕ → Option ℕ) where
       opened code entry p h f t (expr.Index count v k) (Expr-F.Index count v k) (expr.rolls-Index count v k) (mid, parts, found)
   layer_of (Represents.update {places = p} {high = h} {from = f} {to = t} count mid {vector = v} {place = k} {item = e} parts found) =
       opened code entry p h f t (expr.Update count v k e) (Expr-F.Update count v k e) (expr.rolls-Update count v k e) (mid, parts, found)
-  layer_of (Represents.alternatives {places = p} {high = h} {from = f} {to = t} of mid {part = e} {arms = ways} part arms) =
-      opened code entry p h f t (expr.Case e of ways) (Expr-F.Case e of ways) (expr.rolls-Case e of ways) (mid, part, arms)
+  layer_of (Represents.alternatives {places = p} {high = h} {from = f} {to = t} forms mid {part = e} {arms = ways} part arms) =
+      opened code entry p h f t (expr.Case e forms ways) (Expr-F.Case e forms ways) (expr.rolls-Case e forms ways) (mid, part, arms)
   layer_of (Represents.choice {places = p} {high = h} {from = f} {to = t} tested first done second {test = e} {when_true = a} {when_false = b} re jf ra j rb) =
       opened code entry p h f t (expr.If e a b) (Expr-F.If e a b) (expr.rolls-If e a b) (tested, first, done, second, re, jf, ra, j, rb)
   layer_of (Represents.binding {places = p} {high = h} {from = f} {to = t} mid done {part = a} {body = b} ra rb found) =

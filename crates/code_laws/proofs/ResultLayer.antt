@@ -22,7 +22,7 @@ module _ (code : List ℕ) (entry : ℕ → Option ℕ) (places : List ℕ) (hig
   abbrev pub Layer : Res-F Res → Type 0
   Layer (Res-F.Outs outs) = (mid : ℕ) × AllRepresent code entry places high from mid (given_outs outs) × StandsAt code mid (Finish (mask_of outs)) to
   Layer (Res-F.If test a b) = (tested : ℕ) × (first : ℕ) × (second : ℕ) × Part from tested test × StandsAt code tested (JumpFalse second) first × Result first second a × Result second to b
-  Layer (Res-F.Case e ty arms) = (mid : ℕ) × Part from mid e × ResultArmsStand code entry places high mid to arms
+  Layer (Res-F.Case e forms arms) = (mid : ℕ) × Part from mid e × ResultArmsStand code entry places high mid to arms
   Layer (Res-F.Let e body) = (mid : ℕ) × Part from mid e × ResultStands code entry (places ++ high ∷ []) (high + 1) mid to body
   Layer (Res-F.Raise exn None) = (mid : ℕ) × StandsAt code from (Push 0) mid × StandsAt code mid (Raise exn false) to
   Layer (Res-F.Raise exn (Some e)) = (mid : ℕ) × Part from mid e × StandsAt code mid (Raise exn true) to
@@ -36,8 +36,8 @@ module _ (code : List ℕ) (entry : ℕ → Option ℕ) where
       opened code entry p h f t (res.Outs outs) (Res-F.Outs outs) (res.rolls-Outs outs) (mid, parts, found)
   layer_of (ResultStands.choice {places = p} {high = h} {from = f} {to = t} tested first second {test = e} {when_true = a} {when_false = b} re jf ra rb) =
       opened code entry p h f t (res.If e a b) (Res-F.If e a b) (res.rolls-If e a b) (tested, first, second, re, jf, ra, rb)
-  layer_of (ResultStands.alternatives {places = p} {high = h} {from = f} {to = t} of mid {part = e} {arms = ways} part arms) =
-      opened code entry p h f t (res.Case e of ways) (Res-F.Case e of ways) (res.rolls-Case e of ways) (mid, part, arms)
+  layer_of (ResultStands.alternatives {places = p} {high = h} {from = f} {to = t} forms mid {part = e} {arms = ways} part arms) =
+      opened code entry p h f t (res.Case e forms ways) (Res-F.Case e forms ways) (res.rolls-Case e forms ways) (mid, part, arms)
   layer_of (ResultStands.binding {places = p} {high = h} {from = f} {to = t} mid {part = e} {body = b} part body) =
       opened code entry p h f t (res.Let e b) (Res-F.Let e b) (res.rolls-Let e b) (mid, part, body)
   layer_of (ResultStands.raise_alone {places = p} {high = h} {from = f} {to = t} exn mid push found) =

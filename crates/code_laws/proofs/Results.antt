@@ -123,10 +123,10 @@ module _ (core : Core) (sound : HasSoundParts core) (s : Setting) (entry : ℕ �
         branch n m.stack tall r.1 r.2 (word_of_value v == 0) (result_spent core env a) (result_spent core env b) (omega arith) (choice_runs s n m.stack g.word r.0 r.1 r.2 v refl r.4 word)
         (result_runs first env is places high (later n r.1 m.stack [] (tall + 0)) r.2 under tall l r.5 (again r.1))
         (result_runs second env is places high (later n r.2 m.stack [] (tall + 0)) to under tall l r.6 (again r.2))))
-    result_runs (GivesOutputs.alternatives of {part = a} {arms = ways} part arms) env is places high m to under tall l rep fits =
-        let r = stands_there s.code entry rep (Res-F.Case a of ways) (res.rolls-Case a of ways) in
+    result_runs (GivesOutputs.alternatives of {part = a} {forms = forms} {arms = ways} part is_of arms) env is places high m to under tall l rep fits =
+        let r = stands_there s.code entry rep (Res-F.Case a forms ways) (res.rolls-Case a forms ways) in
         let x = spent core env a in
-        by_form m tall env (res.Case a of ways) (Res-F.Case a of ways) (res.rolls-Case a of ways)
+        by_form m tall env (res.Case a forms ways) (Res-F.Case a forms ways) (res.rolls-Case a forms ways)
         (then_outputs_run s m tall m.stack r.0 x.outcome x.cost (λ v. over 1 (first_result (map arm_spending ways) v env)) (expression part env is places high m r.0 under tall l r.1 fits)
         (λ v gives g. let n = reached s m m.stack tall r.0 v x.cost g in let gt = g.top in let one = length-append m.stack (g.word ∷ []) in
         let y = first_result (map arm_spending ways) v env in

@@ -259,11 +259,11 @@ module _ (core : Core) (own : AreRaised core) (down : HoldSmaller core.types) (c
         (runs new env is places (high + 1 + 1) o r.0 below (tall + 1 + 1) (omega (arith, two, l1)) k.4 (fits_more below places env (high + 1) n more k.1 h.word h.more (tall + 1 + y.cost.stack) (omega (arith, ht, l1))))
         (λ c f q. let qt = q.top in none_run s (reached s o o.stack (tall + 1 + 1) r.0 c z.cost q) (tall + 1 + 1 + 1) r.0 refl (omega (arith, qt))))))
         (λ vs all. values_of (HaveTypes.one whole (HaveTypes.one at (HaveTypes.one new HaveTypes.none))) env is vs all))
-    runs (HasType.alternatives of {part = a} {arms = ways} part arms) env is places high m to below tall l rep fits =
-        let r = stands_there s.code entry rep (Expr-F.Case a of ways) (expr.rolls-Case a of ways) in
+    runs (HasType.alternatives of {part = a} {forms = forms} {arms = ways} part is_of arms) env is places high m to below tall l rep fits =
+        let r = stands_there s.code entry rep (Expr-F.Case a forms ways) (expr.rolls-Case a forms ways) in
         let x = spending a env in
         let low = fits.low in
-        by_form m tall to env (expr.Case a of ways) (Expr-F.Case a of ways) (expr.rolls-Case a of ways)
+        by_form m tall to env (expr.Case a forms ways) (Expr-F.Case a forms ways) (expr.rolls-Case a forms ways)
         (then_runs s m tall m.stack r.0 x.outcome x.cost m.stack to (λ v. over 1 (first_arm (map arm_spending ways) v env)) (runs part env is places high m r.0 below tall l r.1 fits)
         (λ v gives g. let n = reached s m m.stack tall r.0 v x.cost g in let gt = g.top in let one = length-append m.stack (g.word ∷ []) in
         let y = first_arm (map arm_spending ways) v env in

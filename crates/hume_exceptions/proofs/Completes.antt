@@ -16,6 +16,7 @@ use Rattle.hume_model.specs.declared.core_tree.PatC.{PatC, out-PatC}
 use Rattle.hume_model.specs.Patterns.{matches, matches_all, both_match, all_match, match_con, match_word, match_tuple}
 use Rattle.hume_model.specs.Typing.{IsPattern, ArePatterns, AreOf}
 use Rattle.hume_model.specs.Completeness.{is_irrefutable, last_passes, takes_con, takes_word, all_below, are_of_data, are_all, are_complete}
+use Rattle.hume_model.specs.Forms.{forms_in, forms_of}
 use Rattle.hume_model.proofs.Layers.{variable-match, any-match, word-match, con-match, tuple-match, tuple-value}
 use Rattle.hume_model.proofs.Fields.{data-value}
 use Rattle.hume_exceptions.specs.Matched.{ArePatternsOf, is_matched}
@@ -144,7 +145,7 @@ module _ (types : Types) (down : HoldSmaller types) where
   named_matched number (Some sum) found ps are h v is =
       cons_matched number sum found ps are (and_parts _ _ h).1 v is (out-Value v) refl (sym (data-value types down number sum found v) ∙ is)
 
-  all_matched : (x : Ty-F Ty) (ps : List PatC) → ArePatternsOf types (roll-Ty x) ps → are_all types x ps ≡ true → (v : Value) → is_value types (roll-Ty x) v ≡ true → is_matched ps v ≡ true
+  all_matched : (x : Ty-F Ty) (ps : List PatC) → ArePatternsOf types (roll-Ty x) ps → are_all types (forms_in x) ps ≡ true → (v : Value) → is_value types (roll-Ty x) v ≡ true → is_matched ps v ≡ true
   all_matched Ty-F.Bool ps are h v is =
       truths_matched (roll-Ty Ty-F.Bool) ps are (and_parts _ _ h).1 v (out-Value v) refl
       (sym (ap (λ (t : Value → Bool). t v) (fold-roll-Ty (Value → Bool) (value_step (is_named_value types (length types.sums))) Ty-F.Bool)) ∙ is)
@@ -157,8 +158,8 @@ module _ (types : Types) (down : HoldSmaller types) where
   all_matched (Ty-F.Tuple ts) ps are h v is = cc
   all_matched (Ty-F.Vector count item) ps are h v is = cc
 
-  pub complete_matched : (t : Ty) (ps : List PatC) → ArePatternsOf types t ps → are_complete types t ps ≡ true → (v : Value) → is_value types t v ≡ true → is_matched ps v ≡ true
-  complete_matched t ps are h v is = elim (either_way (last_passes is_irrefutable ps) (are_all types (out-Ty t) ps) h) [
+  pub complete_matched : (t : Ty) (ps : List PatC) → ArePatternsOf types t ps → are_complete types (forms_of t) ps ≡ true → (v : Value) → is_value types t v ≡ true → is_matched ps v ≡ true
+  complete_matched t ps are h v is = elim (either_way (last_passes is_irrefutable ps) (are_all types (forms_of t) ps) h) [
     | inl last ↦ last_matched t ps are last v is
     | inr all ↦ all_matched (out-Ty t) ps (subst (λ u. ArePatternsOf types u ps) (sym (roll-out-Ty t)) are) all v (subst (λ u. is_value types u v ≡ true) (sym (roll-out-Ty t)) is)
   ]

@@ -318,12 +318,12 @@ module _ (core : Core) (own : AreRaised core) (down : HoldSmaller core.types) (c
         by_form exn _ _ _ _ (raises-if core.types raising exn c a b) (eval-choice call env c a b)
         (then_covers exn _ _ _ _ (covers test env is) (λ v g. either exn (word_of_value v == 0) _ _ _
         (λ h. weaker exn _ _ _ (or_right (raises a) (raises b)) (covers second env is)) (λ h. weaker exn _ _ _ (or_left (raises a) (raises b)) (covers first env is))))
-    covers (HasType.alternatives of {part = e} {arms = ways} part arms) env is =
-        let complete = are_complete core.types of (arm_patterns ways) in
-        by_form exn _ _ _ _ (raises-case core.types raising exn e of ways) (eval-case call env e of ways)
+    covers (HasType.alternatives of {part = e} {forms = forms} {arms = ways} part is_of arms) env is =
+        let complete = are_complete core.types forms (arm_patterns ways) in
+        by_form exn _ _ _ _ (raises-case core.types raising exn e forms ways) (eval-case call env e forms ways)
         (then_covers exn _ _ _ _ (covers part env is) (λ v g.
         arms_cover arms env is v (gives_of part env is v g) (not complete)
-        (incomplete complete (is_matched (arm_patterns ways) v) (λ h. complete_matched core.types down of (arm_patterns ways) (patterns_of arms) h v (gives_of part env is v g)))))
+        (incomplete complete (is_matched (arm_patterns ways) v) (λ h. complete_matched core.types down of (arm_patterns ways) (patterns_of arms) (subst (λ f. are_complete core.types f (arm_patterns ways) ≡ true) is_of h) v (gives_of part env is v g)))))
     covers (HasType.binding {vars = xs} of {part = a} {body = b} part body) env is =
         by_form exn _ _ _ _ (raises-let core.types raising exn a b) (eval-let call env a b)
         (then_covers exn _ _ _ _ (covers part env is) (λ v g. covers body (env ++ v ∷ []) (of_both core.types xs (of ∷ []) env (v ∷ []) is (one_of core.types of v (gives_of part env is v g)))))

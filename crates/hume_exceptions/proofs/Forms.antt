@@ -4,6 +4,7 @@ use Rattle.std.proofs.lemmas.Grind.{common_steps}
 use Rattle.std.specs.List.{list_any, filter_map}
 use Rattle.hume_base.specs.declared.types.Ty.{Ty}
 use Rattle.hume_base.specs.declared.types.Types.{Types}
+use Rattle.hume_model.specs.declared.core_tree.Forms.{Forms}
 use Rattle.hume_model.specs.declared.core_tree.Op.{Op}
 use Rattle.hume_model.specs.declared.core_tree.Op.TheVariants as op
 use Rattle.hume_model.specs.declared.core_tree.PatC.{PatC}
@@ -46,8 +47,8 @@ literal-update n v p e = ap literal_in (out_form _ (Expr-F.Update n v p e) (expr
 pub literal-if : (c a b : Expr) → literal_of (expr.If c a b) ≡ None
 literal-if c a b = ap literal_in (out_form _ (Expr-F.If c a b) (expr.rolls-If c a b))
 
-pub literal-case : (e : Expr) (t : Ty) (arms : List (PatC × Expr)) → literal_of (expr.Case e t arms) ≡ None
-literal-case e t arms = ap literal_in (out_form _ (Expr-F.Case e t arms) (expr.rolls-Case e t arms))
+pub literal-case : (e : Expr) (forms : Forms) (arms : List (PatC × Expr)) → literal_of (expr.Case e forms arms) ≡ None
+literal-case e forms arms = ap literal_in (out_form _ (Expr-F.Case e forms arms) (expr.rolls-Case e forms arms))
 
 pub literal-let : (a b : Expr) → literal_of (expr.Let a b) ≡ None
 literal-let a b = ap literal_in (out_form _ (Expr-F.Let a b) (expr.rolls-Let a b))
@@ -83,7 +84,7 @@ module _ (types : Types) (called : ℕ → Bool) (exn : ℕ) where
   literal_step (Expr-F.Index n v p) = refl
   literal_step (Expr-F.Update n v p e) = refl
   literal_step (Expr-F.If c a b) = refl
-  literal_step (Expr-F.Case e t arms) = refl
+  literal_step (Expr-F.Case e forms arms) = refl
   literal_step (Expr-F.Let a b) = refl
   literal_step (Expr-F.Call f es) = refl
   literal_step (Expr-F.Raise x None) = refl
@@ -161,9 +162,9 @@ module _ (types : Types) (called : ℕ → Bool) (exn : ℕ) where
   pub raises-if : (c a b : Expr) → raises (expr.If c a b) ≡ (raises c || (raises a || raises b))
   raises-if c a b = raises_form _ (Expr-F.If c a b) (expr.rolls-If c a b)
 
-  pub raises-case : (e : Expr) (t : Ty) (arms : List (PatC × Expr)) → raises (expr.Case e t arms)
-      ≡ (raises e || (list_any (λ (arm : PatC × Expr). raises arm.1) arms || ((exn == NO_CASE) && not (are_complete types t (filter_map (λ (arm : PatC × Expr). Some arm.0) arms)))))
-  raises-case e t arms = raises_form _ (Expr-F.Case e t arms) (expr.rolls-Case e t arms) ∙ rw (some_arms arms, arm_patterns arms) refl
+  pub raises-case : (e : Expr) (forms : Forms) (arms : List (PatC × Expr)) → raises (expr.Case e forms arms)
+      ≡ (raises e || (list_any (λ (arm : PatC × Expr). raises arm.1) arms || ((exn == NO_CASE) && not (are_complete types forms (filter_map (λ (arm : PatC × Expr). Some arm.0) arms)))))
+  raises-case e forms arms = raises_form _ (Expr-F.Case e forms arms) (expr.rolls-Case e forms arms) ∙ rw (some_arms arms, arm_patterns arms) refl
 
   pub raises-let : (a b : Expr) → raises (expr.Let a b) ≡ (raises a || raises b)
   raises-let a b = raises_form _ (Expr-F.Let a b) (expr.rolls-Let a b)

@@ -2,7 +2,7 @@
 use Rattle.std.proofs.Common.{◌≡◌, ℕ, ◌==◌, ◌&&◌, ◌||◌, not, Bool, List, [], ◌∷◌, map, Option, Some, refl, ap, sym, ◌∙◌}
 use Rattle.std.proofs.lemmas.Grind.{common_steps}
 use Rattle.std.specs.List.{list_any, filter_map}
-use Rattle.hume_base.specs.declared.types.Ty.{Ty}
+use Rattle.hume_model.specs.declared.core_tree.Forms.{Forms}
 use Rattle.hume_model.specs.declared.core_tree.PatC.{PatC}
 use Rattle.hume_model.specs.declared.core_tree.Expr.{Expr}
 use Rattle.hume_model.specs.declared.core_tree.Res.{Res, roll-Res, map-Res, fold-roll-Res}
@@ -37,10 +37,10 @@ module _ (core : Core) (exn : ℕ) where
   pub raises-choice : (e : Expr) (a b : Res) → raises (res.If e a b) ≡ (may_raise core exn e || (raises a || raises b))
   raises-choice e a b = result_form _ (Res-F.If e a b) (res.rolls-If e a b)
 
-  pub raises-arms : (e : Expr) (t : Ty) (arms : List (PatC × Res)) → raises (res.Case e t arms)
+  pub raises-arms : (e : Expr) (forms : Forms) (arms : List (PatC × Res)) → raises (res.Case e forms arms)
       ≡ (may_raise core exn e
-      || (list_any (λ (arm : PatC × Res). raises arm.1) arms || ((exn == NO_CASE) && not (are_complete core.types t (filter_map (λ (arm : PatC × Res). Some arm.0) arms)))))
-  raises-arms e t arms = result_form _ (Res-F.Case e t arms) (res.rolls-Case e t arms) ∙ rw (some_arms arms, arm_patterns arms) refl
+      || (list_any (λ (arm : PatC × Res). raises arm.1) arms || ((exn == NO_CASE) && not (are_complete core.types forms (filter_map (λ (arm : PatC × Res). Some arm.0) arms)))))
+  raises-arms e forms arms = result_form _ (Res-F.Case e forms arms) (res.rolls-Case e forms arms) ∙ rw (some_arms arms, arm_patterns arms) refl
 
   pub raises-binding : (e : Expr) (r : Res) → raises (res.Let e r) ≡ (may_raise core exn e || raises r)
   raises-binding e r = result_form _ (Res-F.Let e r) (res.rolls-Let e r)

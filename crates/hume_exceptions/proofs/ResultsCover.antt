@@ -121,12 +121,12 @@ module _ (core : Core) (sound : HasSoundParts core) (exn : ℕ) where
           by_result exn _ _ _ _ (raises-choice core exn c a b) (result-if core env c a b)
           (outputs_covers exn _ _ _ _ (eval_covers core sound exn test env is) (λ v g. either_outputs exn (word_of_value v == 0) _ _ _
           (weaker_outputs exn _ _ _ (or_right (raises a) (raises b)) (result_covers second env is)) (weaker_outputs exn _ _ _ (or_left (raises a) (raises b)) (result_covers first env is))))
-      result_covers (GivesOutputs.alternatives of {part = e} {arms = ways} part arms) env is =
-          let complete = are_complete core.types of (arm_patterns ways) in
-          by_result exn _ _ _ _ (raises-arms core exn e of ways) (result-case core env e of ways)
+      result_covers (GivesOutputs.alternatives of {part = e} {forms = forms} {arms = ways} part is_of arms) env is =
+          let complete = are_complete core.types forms (arm_patterns ways) in
+          by_result exn _ _ _ _ (raises-arms core exn e forms ways) (result-case core env e forms ways)
           (outputs_covers exn _ _ _ _ (eval_covers core sound exn part env is) (λ v g.
           arms_cover arms env is v (gives_of part env is v g) (not complete)
-          (incomplete complete (is_matched (arm_patterns ways) v) (λ h. complete_matched core.types sound.holds of (arm_patterns ways) (patterns_of arms) h v (gives_of part env is v g)))))
+          (incomplete complete (is_matched (arm_patterns ways) v) (λ h. complete_matched core.types sound.holds of (arm_patterns ways) (patterns_of arms) (subst (λ f. are_complete core.types f (arm_patterns ways) ≡ true) is_of h) v (gives_of part env is v g)))))
       result_covers (GivesOutputs.binding {vars = xs} of {part = e} {body = b} part body) env is =
           by_result exn _ _ _ _ (raises-binding core exn e b) (result-let core env e b)
           (outputs_covers exn _ _ _ _ (eval_covers core sound exn part env is) (λ v g.

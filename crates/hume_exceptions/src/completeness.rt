@@ -1,14 +1,13 @@
-//! Whether patterns leave no value of a type out.
+//! Whether patterns leave no value out.
 ghost use Rattle.std.specs.Prelude.{◌≡◌, MatchOption, None, Some, length};
 ghost use Rattle.std.specs.List.{filter_map, list_any};
-ghost use Rattle.hume_base.specs.declared.types.Ty.{out-Ty};
 ghost use Rattle.hume_model.specs.declared.core_tree.PatC.{PatC as Pattern, out-PatC};
 ghost use Rattle.hume_model.specs.Completeness.{are_complete as leave_none_out, are_all as are_all_there, are_constructors as are_the_constructors, are_truths as are_the_truths};
 ghost use Rattle.hume_model.specs.Completeness.{all_below, last_passes, is_irrefutable as has_no_refusal, takes_con as is_of_con, takes_word as is_of_word};
 
 use crate::patterns::{is_irrefutable, takes_con, takes_word};
-use hume_base::{Ty, Types};
-use hume_model::{EqC, Expr, PatC, Res};
+use hume_base::Types;
+use hume_model::{EqC, Expr, Forms, PatC, Res};
 
 /// What has a pattern.
 pub trait Alternative {
@@ -48,11 +47,11 @@ impl Alternative for EqC {
     }
 }
 
-/// Whether the patterns leave no value of the type out.
-pub fn are_complete<A: Alternative>(types: &Types, ty: &Ty, items: &[A]) -> bool
-    ensures { result ≡ leave_none_out types.now ty.now (filter_map A.pattern items.now) }
+/// Whether the patterns leave no value of these forms out.
+pub fn are_complete<A: Alternative>(types: &Types, forms: Forms, items: &[A]) -> bool
+    ensures { result ≡ leave_none_out types.now forms (filter_map A.pattern items.now) }
 {
-    last_is_irrefutable(items) || are_all(types, ty, items)
+    last_is_irrefutable(items) || are_all(types, forms, items)
 }
 
 #[tactic(auto, using(crate::proofs::Lasts::last_steps))]
@@ -69,16 +68,16 @@ fn last_is_irrefutable<A: Alternative>(items: &[A]) -> bool
 }
 
 #[tactic(auto, using(crate::proofs::PatternForms::pattern_forms))]
-fn are_all<A: Alternative>(types: &Types, ty: &Ty, items: &[A]) -> bool
-    ensures { result ≡ are_all_there types.now (out-Ty ty.now) (filter_map A.pattern items.now) }
+fn are_all<A: Alternative>(types: &Types, forms: Forms, items: &[A]) -> bool
+    ensures { result ≡ are_all_there types.now forms (filter_map A.pattern items.now) }
 {
-    match ty {
-        Ty::Bool => are_truths(items),
-        Ty::Named(number) => match types.sums.get(*number as usize) {
+    match forms {
+        Forms::Truths => are_truths(items),
+        Forms::Constructors(number) => match types.sums.get(number as usize) {
             None => false,
             Some(sum) => are_constructors(sum.cons.len(), items),
         },
-        _ => false,
+        Forms::Others => false,
     }
 }
 

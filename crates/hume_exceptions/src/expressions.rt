@@ -49,9 +49,9 @@ pub fn expression_set(types: &Types, called: &[ExnSet], e: &Expr) -> ExnSet
             let when_false = expression_set(types, called, when_false);
             test.or(when_true.or(when_false))
         }
-        Expr::Case(part, ty, arms) => {
+        Expr::Case(part, forms, arms) => {
             let arms = arms.as_slice();
-            let complete = are_complete(types, ty, arms);
+            let complete = are_complete(types, *forms, arms);
             let part = expression_set(types, called, part);
             part.or(arms_set(types, called, arms).or(ExnSet::only_if(NO_CASE, !complete)))
         }

@@ -13,7 +13,7 @@ use crate::expressions::expression_set;
 use crate::function_sets::Raises;
 use crate::patterns::are_irrefutable;
 use hume_base::{List, Ty, Types};
-use hume_model::{Core, EqC, FunC, NO_CASE};
+use hume_model::{Core, EqC, FunC, NO_CASE, forms_of};
 use std::alloc::{AllocError, Global};
 
 /// The exceptions that each function of the core may raise, computed once for each in the order of their numbers.
@@ -50,7 +50,7 @@ fn are_complete_equations(types: &Types, params: &[Ty], equations: &[EqC]) -> bo
     ensures { result ≡ leave_none_out types.now params.now equations.now }
 {
     last_is_irrefutable(equations)
-        || (params.len() == 1 && are_complete(types, &params[0], equations))
+        || (params.len() == 1 && are_complete(types, forms_of(&params[0]), equations))
 }
 
 #[tactic(auto, using(crate::proofs::Lasts::last_steps))]

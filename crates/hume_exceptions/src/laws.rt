@@ -15,6 +15,7 @@ ghost use Rattle.hume_model.specs.declared.core_tree.Res.{Res};
 ghost use Rattle.hume_model.specs.declared.outcome.Outcome.TheVariants.{Raises};
 ghost use Rattle.hume_model.specs.declared.outcome.Outputs.TheVariants.{Throws};
 ghost use Rattle.hume_model.specs.Completeness.{are_complete};
+ghost use Rattle.hume_model.specs.Forms.{forms_of};
 ghost use Rattle.hume_model.specs.HandlerRules.{BreaksHandlers};
 ghost use Rattle.hume_model.specs.Handling.{HandlesAll};
 ghost use Rattle.hume_model.specs.Meaning.{eval};
@@ -28,7 +29,7 @@ ghost use Rattle.hume_exceptions.specs.Matched.{ArePatternsOf, is_matched};
 /// Complete patterns leave no value of their type out.
 pub fn complete_patterns_match()
     ensures { (types : Types) → HoldSmaller types → (ty : Ty) (pats : List PatC) → ArePatternsOf types ty pats
-        → are_complete types ty pats ≡ true → (v : Value) → is_value types ty v ≡ true → is_matched pats v ≡ true }
+        → are_complete types (forms_of ty) pats ≡ true → (v : Value) → is_value types ty v ≡ true → is_matched pats v ≡ true }
 {}
 
 /// Whatever an expression or a result raises, on values of its variables' types, it may raise.

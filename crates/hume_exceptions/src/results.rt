@@ -34,9 +34,9 @@ pub fn result_may_raise(core: &Core, raises: &Raises, res: &Res) -> ExnSet
             let when_false = result_may_raise(core, raises, when_false);
             test.or(when_true.or(when_false))
         }
-        Res::Case(part, ty, arms) => {
+        Res::Case(part, forms, arms) => {
             let arms = arms.as_slice();
-            let complete = are_complete(&core.types, ty, arms);
+            let complete = are_complete(&core.types, *forms, arms);
             let part = may_raise(core, raises, part);
             part.or(arms_set(core, raises, arms).or(ExnSet::only_if(NO_CASE, !complete)))
         }

@@ -69,7 +69,7 @@ module _ (bound : ℕ) (ca cb : Calls) (same : (f : ℕ) → f < bound → (args
       let hs = and_parts _ _ h in
       let ks = and_parts _ _ hs.1 in
       rw (test.1 hs.0 env, a.1 ks.0 env, b.1 ks.1 env) refl
-  step_agrees (Expr-F.Case of ty arms) h env =
+  step_agrees (Expr-F.Case of forms arms) h env =
       let hs = and_parts _ _ h in
       rw (of.1 hs.0 env) (ap (and_then (eval_with cb of.0 env)) (λ i v. arms_agree arms hs.1 v env i))
   step_agrees (Expr-F.Let a b) h env =

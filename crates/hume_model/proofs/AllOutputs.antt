@@ -72,8 +72,8 @@ module _ (core : Core) where
       result_all (GivesOutputs.outputs {outs = outs} have) env = subst (HasAll tys) (sym (result-outs core env outs)) (outs_all have env)
       result_all (GivesOutputs.choice {test = c} {when_true = a} {when_false = b} test first second) env =
           subst (HasAll tys) (sym (result-if core env c a b)) (then_all tys _ _ (λ v. either_all tys (word_of_value v == 0) _ _ (result_all second env) (result_all first env)))
-      result_all (GivesOutputs.alternatives of {part = e} {arms = ways} part arms) env =
-          subst (HasAll tys) (sym (result-case core env e of ways)) (then_all tys _ _ (λ v. arms_all arms env v))
+      result_all (GivesOutputs.alternatives of {part = e} {forms = forms} {arms = ways} part is_of arms) env =
+          subst (HasAll tys) (sym (result-case core env e forms ways)) (then_all tys _ _ (λ v. arms_all arms env v))
       result_all (GivesOutputs.binding of {part = e} {body = b} part body) env =
           subst (HasAll tys) (sym (result-let core env e b)) (then_all tys _ _ (λ v. result_all body (env ++ v ∷ [])))
       result_all (GivesOutputs.raise_alone number exn found carries) env = subst (HasAll tys) (sym (result-raise core env number None)) tt

@@ -4,7 +4,7 @@ use Rattle.std.proofs.lemmas.Bool.{cases_eq, eq-eqb, ne_eqb}
 use Rattle.std.proofs.lemmas.Grind.{common_steps}
 use Rattle.hume_base.specs.declared.types.Value.{Value}
 use Rattle.hume_base.specs.declared.boxed.Box.{Box}
-use Rattle.hume_base.specs.declared.types.Ty.{Ty}
+use Rattle.hume_model.specs.declared.core_tree.Forms.{Forms}
 use Rattle.hume_model.specs.declared.core_tree.PatC.{PatC}
 use Rattle.hume_model.specs.declared.core_tree.Expr.{Expr, fold-roll-Expr, the_lemmas as expr_lemmas}
 use Rattle.hume_model.specs.declared.core_tree.Expr.TheVariants.{Case, rolls-Case}
@@ -58,15 +58,15 @@ after_outputs-none (Asserts more) = refl
 after_outputs-none (Throws exn carried) = refl
 
 -- a `case`, with what its alternatives come to
-pub eval-case : (call : Calls) (part : Box Expr) (ty : Ty) (arms : List (PatC × Expr)) (env : List Value)
-    → eval_with call (Case part ty arms) env ≡ and_then (eval_with call part env) (λ v. first_arm (map (arm_with (eval_with call)) arms) v env)
-eval-case call part ty arms env =
-    ap (λ e. eval_with call e env) (sym (rolls-Case part ty arms)) ∙ ap (λ m. m env) (fold-roll-Expr Meaning (eval_step call) (Expr-F.Case part ty arms))
+pub eval-case : (call : Calls) (part : Box Expr) (forms : Forms) (arms : List (PatC × Expr)) (env : List Value)
+    → eval_with call (Case part forms arms) env ≡ and_then (eval_with call part env) (λ v. first_arm (map (arm_with (eval_with call)) arms) v env)
+eval-case call part forms arms env =
+    ap (λ e. eval_with call e env) (sym (rolls-Case part forms arms)) ∙ ap (λ m. m env) (fold-roll-Expr Meaning (eval_step call) (Expr-F.Case part forms arms))
 
-pub result-case : (core : Core) (part : Expr) (ty : Ty) (arms : List (PatC × Res)) (env : List Value)
-    → result_of core env (case_result part ty arms) ≡ then_outputs (meaning_in core part env) (λ v. first_result (map (result_arm_with (λ res env. result_of core env res)) arms) v env)
-result-case core part ty arms env =
-    ap (λ res. result_of core env res) (sym (rolls_case_result part ty arms)) ∙ ap (λ m. m env) (fold-roll-Res ResultMeaning (result_step (meaning_in core)) (Res-F.Case part ty arms))
+pub result-case : (core : Core) (part : Expr) (forms : Forms) (arms : List (PatC × Res)) (env : List Value)
+    → result_of core env (case_result part forms arms) ≡ then_outputs (meaning_in core part env) (λ v. first_result (map (result_arm_with (λ res env. result_of core env res)) arms) v env)
+result-case core part forms arms env =
+    ap (λ res. result_of core env res) (sym (rolls_case_result part forms arms)) ∙ ap (λ m. m env) (fold-roll-Res ResultMeaning (result_step (meaning_in core)) (Res-F.Case part forms arms))
 
 pub ruleset eval_steps = (common_steps, expr_lemmas, eval-case, call-past, call-at, after_values-append, after_values-none, rank-falls, some_size)
 

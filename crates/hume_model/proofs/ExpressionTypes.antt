@@ -237,8 +237,8 @@ module _ (core : Core) where
         typed (HasType.choice {ty = t} {test = c} {when_true = a} {when_false = b} test first second) env is =
             ap (is_outcome core t) (eval-choice call env c a b)
             ∙ and_then_typed shape.Bool t _ _ (typed test env is) (λ v is_v. either (GivesOf t) (word_of_value v == 0) _ _ (typed second env is) (typed first env is))
-        typed (HasType.alternatives of {ty = t} {part = e} {arms = ways} part arms) env is =
-            ap (is_outcome core t) (eval-case call env e of ways)
+        typed (HasType.alternatives of {ty = t} {part = e} {forms = forms} {arms = ways} part is_of arms) env is =
+            ap (is_outcome core t) (eval-case call env e forms ways)
             ∙ and_then_typed of t _ _ (typed part env is) (λ v is_v. arms_typed arms env is v is_v)
         typed (HasType.binding {vars = xs} of {ty = t} {part = a} {body = b} part body) env is =
             ap (is_outcome core t) (eval-let call env a b)

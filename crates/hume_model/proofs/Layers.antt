@@ -8,6 +8,7 @@ use Rattle.hume_base.specs.declared.types.Value.{Value, out-Value, out-roll-Valu
 use Rattle.hume_base.specs.declared.types.Value.TheOpen.{Value-F}
 use Rattle.hume_base.specs.declared.types.Value.TheVariants as value
 use Rattle.hume_base.specs.Values.{is_value_with, value_step, is_word_of, is_int_word, is_tuple_of, is_vector_of}
+use Rattle.hume_model.specs.declared.core_tree.Forms.{Forms}
 use Rattle.hume_model.specs.declared.core_tree.Op.{Op}
 use Rattle.hume_model.specs.declared.core_tree.PatC.{PatC, fold-roll-PatC}
 use Rattle.hume_model.specs.declared.core_tree.PatC.TheOpen.{PatC-F}
@@ -99,8 +100,8 @@ module _ (call : Calls) (env : List Value) where
   pub eval-choice : (test a b : Box Expr) → meaning (expr.If test a b) env ≡ and_then (meaning test env) (λ v. if word_of_value v == 0 then meaning b env else meaning a env)
   eval-choice test a b = ap (λ e. meaning e env) (sym (expr.rolls-If test a b)) ∙ ap (λ (m : Meaning). m env) (fold-roll-Expr Meaning (eval_step call) (Expr-F.If test a b))
 
-  pub eval-case : (e : Box Expr) (t : Ty) (arms : List (PatC × Expr)) → meaning (expr.Case e t arms) env ≡ and_then (meaning e env) (λ v. first_arm (map (arm_with meaning) arms) v env)
-  eval-case e t arms = ap (λ e. meaning e env) (sym (expr.rolls-Case e t arms)) ∙ ap (λ (m : Meaning). m env) (fold-roll-Expr Meaning (eval_step call) (Expr-F.Case e t arms))
+  pub eval-case : (e : Box Expr) (forms : Forms) (arms : List (PatC × Expr)) → meaning (expr.Case e forms arms) env ≡ and_then (meaning e env) (λ v. first_arm (map (arm_with meaning) arms) v env)
+  eval-case e forms arms = ap (λ e. meaning e env) (sym (expr.rolls-Case e forms arms)) ∙ ap (λ (m : Meaning). m env) (fold-roll-Expr Meaning (eval_step call) (Expr-F.Case e forms arms))
 
   pub eval-let : (a b : Box Expr) → meaning (expr.Let a b) env ≡ and_then (meaning a env) (λ v. meaning b (env ++ v ∷ []))
   eval-let a b = ap (λ e. meaning e env) (sym (expr.rolls-Let a b)) ∙ ap (λ (m : Meaning). m env) (fold-roll-Expr Meaning (eval_step call) (Expr-F.Let a b))

@@ -6,6 +6,7 @@ pub mod ExpressionTypes
 pub mod Fields
 pub mod Findings
 pub mod FiringTypes
+pub mod FormsThere
 pub mod FrontReading
 pub mod Layers
 pub mod OwnExceptions

@@ -6,6 +6,7 @@ use Rattle.hume_base.specs.declared.types.Ty.TheVariants as shape
 use Rattle.hume_base.specs.declared.boxed.Box.{Box}
 use Rattle.hume_base.specs.declared.types.Value.{Value}
 use Rattle.hume_base.specs.Values.{is_value}
+use Rattle.hume_model.specs.declared.core_tree.Forms.{Forms}
 use Rattle.hume_model.specs.declared.core_tree.PatC.{PatC}
 use Rattle.hume_model.specs.declared.core_tree.Expr.{Expr}
 use Rattle.hume_model.specs.declared.core_tree.Res.{Res, fold-roll-Res}
@@ -37,9 +38,9 @@ module _ (core : Core) (env : List Value) where
       ≡ then_outputs (meaning_in core test env) (λ v. if word_of_value v == 0 then result_of core env b else result_of core env a)
   result-if test a b = ap (λ r. result_of core env r) (sym (res.rolls-If test a b)) ∙ ap (λ (m : ResultMeaning). m env) (fold-roll-Res ResultMeaning (result_step (meaning_in core)) (Res-F.If test a b))
 
-  pub result-case : (e : Expr) (t : Ty) (arms : List (PatC × Res)) → result_of core env (res.Case e t arms)
+  pub result-case : (e : Expr) (forms : Forms) (arms : List (PatC × Res)) → result_of core env (res.Case e forms arms)
       ≡ then_outputs (meaning_in core e env) (λ v. first_result (map (result_arm_with (λ r env. result_of core env r)) arms) v env)
-  result-case e t arms = ap (λ r. result_of core env r) (sym (res.rolls-Case e t arms)) ∙ ap (λ (m : ResultMeaning). m env) (fold-roll-Res ResultMeaning (result_step (meaning_in core)) (Res-F.Case e t arms))
+  result-case e forms arms = ap (λ r. result_of core env r) (sym (res.rolls-Case e forms arms)) ∙ ap (λ (m : ResultMeaning). m env) (fold-roll-Res ResultMeaning (result_step (meaning_in core)) (Res-F.Case e forms arms))
 
   pub result-let : (e : Expr) (body : Box Res) → result_of core env (res.Let e body)
       ≡ then_outputs (meaning_in core e env) (λ v. result_of core (env ++ v ∷ []) body)
@@ -96,8 +97,8 @@ module _ (core : Core) (sound : HasSoundParts core) (tys : List Ty) where
     result_typed (GivesOutputs.choice {test = c} {when_true = a} {when_false = b} test first second) env is =
         ap (is_result core tys) (result-if core env c a b)
         ∙ then_typed shape.Bool _ _ (eval_typed core sound test env is) (λ v is_v. either IsResult (word_of_value v == 0) _ _ (result_typed second env is) (result_typed first env is))
-    result_typed (GivesOutputs.alternatives of {part = e} {arms = ways} part arms) env is =
-        ap (is_result core tys) (result-case core env e of ways)
+    result_typed (GivesOutputs.alternatives of {part = e} {forms = forms} {arms = ways} part is_of arms) env is =
+        ap (is_result core tys) (result-case core env e forms ways)
         ∙ then_typed of _ _ (eval_typed core sound part env is) (λ v is_v. arms_typed arms env is v is_v)
     result_typed (GivesOutputs.binding {vars = xs} of {part = e} {body = b} part body) env is =
         ap (is_result core tys) (result-let core env e b)

@@ -1,14 +1,16 @@
 -- When the patterns of a `case`, or the equations of a function, leave no value out.
 use Rattle.std.specs.Prelude.{ℕ, zero, suc, ◌==◌, ◌&&◌, ◌||◌, Bool, true, false, List, [], ◌∷◌, length, Option, Some, None, slice_get}
 use Rattle.std.specs.List.{list_all, list_any, filter_map}
-use Rattle.hume_base.specs.declared.types.Ty.{Ty, out-Ty}
-use Rattle.hume_base.specs.declared.types.Ty.TheOpen.{Ty-F}
+use Rattle.hume_base.specs.declared.types.Ty.{Ty}
 use Rattle.hume_base.specs.declared.types.SumDef.{SumDef}
 use Rattle.hume_base.specs.declared.types.Types.{Types}
+use Rattle.hume_model.specs.declared.core_tree.Forms.{Forms}
+use Rattle.hume_model.specs.declared.core_tree.Forms.TheVariants.{Truths, Constructors, Others}
 use Rattle.hume_model.specs.declared.core_tree.PatC.{PatC, fold-PatC, out-PatC}
 use Rattle.hume_model.specs.declared.core_tree.PatC.TheOpen.{PatC-F}
 use Rattle.hume_model.specs.declared.core_tree.EqC.{EqC}
 use Rattle.hume_model.specs.Calls.{all_true}
+use Rattle.hume_model.specs.Forms.{forms_of}
 
 -- one level of a pattern: it is a variable, `_`, or a tuple of such patterns
 abbrev pub irrefutable_step : PatC-F Bool → Bool
@@ -56,15 +58,15 @@ abbrev pub are_of_data : Option SumDef → List PatC → Bool
 are_of_data None pats = false
 are_of_data (Some sum) pats = are_constructors (length sum.cons) pats
 
--- the patterns are each constructor of the type once, or `true` and `false` once each
-abbrev pub are_all : Types → Ty-F Ty → List PatC → Bool
-are_all types Ty-F.Bool pats = are_truths pats
-are_all types (Ty-F.Named number) pats = are_of_data (slice_get types.sums number) pats
-are_all types _ pats = false
+-- the patterns are each form once
+abbrev pub are_all : Types → Forms → List PatC → Bool
+are_all types Truths pats = are_truths pats
+are_all types (Constructors number) pats = are_of_data (slice_get types.sums number) pats
+are_all types Others pats = false
 
--- the patterns leave no value of the type out: the last is irrefutable, or they are all that there are
-abbrev pub are_complete : Types → Ty → List PatC → Bool
-are_complete types ty pats = last_passes is_irrefutable pats || are_all types (out-Ty ty) pats
+-- the patterns leave no value of these forms out: the last is irrefutable, or they are all that there are
+abbrev pub are_complete : Types → Forms → List PatC → Bool
+are_complete types forms pats = last_passes is_irrefutable pats || are_all types forms pats
 
 -- the first pattern of each equation, which is its only one where there is one parameter
 abbrev pub first_patterns : List EqC → List PatC
@@ -72,7 +74,7 @@ first_patterns equations = filter_map (λ (equation : EqC). slice_get equation.p
 
 -- there is one parameter, and the patterns for it are complete
 abbrev pub are_complete_alone : Types → List Ty → List EqC → Bool
-are_complete_alone types (ty ∷ []) equations = are_complete types ty (first_patterns equations)
+are_complete_alone types (ty ∷ []) equations = are_complete types (forms_of ty) (first_patterns equations)
 are_complete_alone types _ equations = false
 
 -- the equation has only irrefutable patterns

@@ -4,6 +4,7 @@ pub mod Patterns
 pub mod Matching
 pub mod Meaning
 pub mod Calls
+pub mod Forms
 pub mod Typing
 pub mod Reading
 pub mod Readers

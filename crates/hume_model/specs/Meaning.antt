@@ -41,7 +41,7 @@ eval_step call (Expr-F.Index count vector place) env =
 eval_step call (Expr-F.Update count vector place item) env =
     and_then (vector env) (λ v. and_then (place env) (λ p. and_then (item env) (updated count v p)))
 eval_step call (Expr-F.If test when_true when_false) env = and_then (test env) (λ v. if word_of_value v == 0 then when_false env else when_true env)
-eval_step call (Expr-F.Case part ty arms) env = and_then (part env) (λ v. first_arm arms v env)
+eval_step call (Expr-F.Case part forms arms) env = and_then (part env) (λ v. first_arm arms v env)
 eval_step call (Expr-F.Let part body) env = and_then (part env) (λ v. body (env ++ v ∷ []))
 eval_step call (Expr-F.Call function parts) env = with_all (in_order parts env) (call function)
 eval_step call (Expr-F.Raise exn part) env = raised exn part env

@@ -14,6 +14,7 @@ use Rattle.hume_model.specs.declared.core_tree.Res.TheOpen.{Res-F}
 use Rattle.hume_model.specs.declared.core_tree.EqC.{EqC}
 use Rattle.hume_model.specs.declared.core_tree.RuleC.{RuleC}
 use Rattle.hume_model.specs.Calls.{all_true, if_there}
+use Rattle.hume_model.specs.Forms.{are_there}
 use Rattle.hume_model.specs.TypeLimits.{is_between, is_type}
 
 -- a tuple has two parts, and no more than are allowed, each of which is as it should be
@@ -53,7 +54,7 @@ expression_step types (Expr-F.Prim op ty parts) = is_type types ty && all_true p
 expression_step types (Expr-F.Index count vector place) = is_length count && (vector && place)
 expression_step types (Expr-F.Update count vector place item) = is_length count && (vector && (place && item))
 expression_step types (Expr-F.If test when_true when_false) = test && (when_true && when_false)
-expression_step types (Expr-F.Case part ty arms) = is_type types ty && (part && are_alternatives arms)
+expression_step types (Expr-F.Case part forms arms) = are_there types forms && (part && are_alternatives arms)
 expression_step types (Expr-F.Let part body) = part && body
 expression_step types (Expr-F.Call function parts) = all_true parts
 expression_step types (Expr-F.Raise exn part) = if_there part
@@ -71,7 +72,7 @@ is_written_if_there types (Some e) = is_written types e
 abbrev pub result_step : Types → Res-F Bool → Bool
 result_step types (Res-F.Outs outs) = list_all (is_written_if_there types) outs
 result_step types (Res-F.If test when_true when_false) = is_written types test && (when_true && when_false)
-result_step types (Res-F.Case part ty arms) = is_type types ty && (is_written types part && are_alternatives arms)
+result_step types (Res-F.Case part forms arms) = are_there types forms && (is_written types part && are_alternatives arms)
 result_step types (Res-F.Let part body) = is_written types part && body
 result_step types (Res-F.Raise exn part) = is_written_if_there types part
 

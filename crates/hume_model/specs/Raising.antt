@@ -58,9 +58,9 @@ raises_step types called exn (Expr-F.Index count vector place) =
 raises_step types called exn (Expr-F.Update count vector place item) =
     seen (vector.raises || (place.raises || (item.raises || ((exn == RANGE) && may_be_outside count place.literal))))
 raises_step types called exn (Expr-F.If test when_true when_false) = seen (test.raises || (when_true.raises || when_false.raises))
-raises_step types called exn (Expr-F.Case part ty arms) =
+raises_step types called exn (Expr-F.Case part forms arms) =
     seen (part.raises || (list_any (λ (arm : PatC × Seen). arm.1.raises) arms
-    || ((exn == NO_CASE) && not (are_complete types ty (map (λ (arm : PatC × Seen). arm.0) arms)))))
+    || ((exn == NO_CASE) && not (are_complete types forms (map (λ (arm : PatC × Seen). arm.0) arms)))))
 raises_step types called exn (Expr-F.Let part body) = seen (part.raises || body.raises)
 raises_step types called exn (Expr-F.Call function parts) = seen (some_raise parts || called function)
 raises_step types called exn (Expr-F.Raise other None) = seen (other == exn)
@@ -101,9 +101,9 @@ raises_if_there raises (Some e) = raises e
 abbrev pub result_raises_step : Types → (Expr → Bool) → ℕ → Res-F Bool → Bool
 result_raises_step types raises exn (Res-F.Outs outs) = list_any (raises_if_there raises) outs
 result_raises_step types raises exn (Res-F.If test when_true when_false) = raises test || (when_true || when_false)
-result_raises_step types raises exn (Res-F.Case part ty arms) =
+result_raises_step types raises exn (Res-F.Case part forms arms) =
     raises part || (list_any (λ (arm : PatC × Bool). arm.1) arms
-    || ((exn == NO_CASE) && not (are_complete types ty (map (λ (arm : PatC × Bool). arm.0) arms))))
+    || ((exn == NO_CASE) && not (are_complete types forms (map (λ (arm : PatC × Bool). arm.0) arms))))
 result_raises_step types raises exn (Res-F.Let part body) = raises part || body
 result_raises_step types raises exn (Res-F.Raise other part) = raises_if_there raises part || (other == exn)
 

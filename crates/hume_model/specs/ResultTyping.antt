@@ -5,6 +5,7 @@ use Rattle.hume_base.specs.declared.types.Ty.TheVariants as shape
 use Rattle.hume_base.specs.declared.types.Types.{Types}
 use Rattle.hume_base.specs.declared.types.Value.{Value}
 use Rattle.hume_base.specs.Values.{is_value}
+use Rattle.hume_model.specs.declared.core_tree.Forms.{Forms}
 use Rattle.hume_model.specs.declared.core_tree.PatC.{PatC}
 use Rattle.hume_model.specs.declared.core_tree.Expr.{Expr}
 use Rattle.hume_model.specs.declared.core_tree.Res.{Res}
@@ -13,6 +14,7 @@ use Rattle.hume_model.specs.declared.core_tree.ExnDef.{ExnDef}
 use Rattle.hume_model.specs.declared.core_tree.Core.{Core}
 use Rattle.hume_model.specs.declared.outcome.Outputs.{Outputs}
 use Rattle.hume_model.specs.declared.outcome.Outputs.TheVariants.{Asserts, Throws}
+use Rattle.hume_model.specs.Forms.{forms_of}
 use Rattle.hume_model.specs.Typing.{IsPattern, HasType, is_raised}
 
 -- an output for each type: an expression of the type, or none
@@ -28,8 +30,8 @@ mutual
     outputs : {vars : List Ty} {outs : List (Option Expr)} → OutsHave core vars outs tys → GivesOutputs core tys vars (res.Outs outs)
     choice : {vars : List Ty} {test : Expr} {when_true when_false : Res} → HasType core vars test shape.Bool
         → GivesOutputs core tys vars when_true → GivesOutputs core tys vars when_false → GivesOutputs core tys vars (res.If test when_true when_false)
-    alternatives : {vars : List Ty} (of : Ty) {part : Expr} {arms : List (PatC × Res)} → HasType core vars part of
-        → ArmsGiveOutputs core tys vars of arms → GivesOutputs core tys vars (res.Case part of arms)
+    alternatives : {vars : List Ty} (of : Ty) {part : Expr} {forms : Forms} {arms : List (PatC × Res)} → HasType core vars part of
+        → forms ≡ forms_of of → ArmsGiveOutputs core tys vars of arms → GivesOutputs core tys vars (res.Case part forms arms)
     binding : {vars : List Ty} (of : Ty) {part : Expr} {body : Res} → HasType core vars part of → GivesOutputs core tys (vars ++ of ∷ []) body
         → GivesOutputs core tys vars (res.Let part body)
     raise_alone : {vars : List Ty} (number : ℕ) (exn : ExnDef) → slice_get core.exns number ≡ Some exn → exn.carries ≡ None

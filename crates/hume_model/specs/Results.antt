@@ -29,7 +29,7 @@ abbrev pub result_step : (Expr → Meaning) → Res-F ResultMeaning → ResultMe
 result_step meaning (Res-F.Outs outs) env = outs_in_order (map (option_map meaning) outs) env
 result_step meaning (Res-F.If test when_true when_false) env =
     then_outputs (meaning test env) (λ v. if word_of_value v == 0 then when_false env else when_true env)
-result_step meaning (Res-F.Case part ty arms) env = then_outputs (meaning part env) (λ v. first_result arms v env)
+result_step meaning (Res-F.Case part forms arms) env = then_outputs (meaning part env) (λ v. first_result arms v env)
 result_step meaning (Res-F.Let part body) env = then_outputs (meaning part env) (λ v. body (env ++ v ∷ []))
 result_step meaning (Res-F.Raise exn part) env = thrown (raised exn (option_map meaning part) env)
 

@@ -9,6 +9,7 @@ use Rattle.hume_base.specs.declared.types.Types.{Types}
 use Rattle.hume_base.specs.declared.types.Value.TheVariants as value
 use Rattle.hume_base.specs.declared.types.Value.{Value}
 use Rattle.hume_base.specs.Values.{is_value, all_pass, fields_at}
+use Rattle.hume_model.specs.declared.core_tree.Forms.{Forms}
 use Rattle.hume_model.specs.declared.core_tree.Op.{Op}
 use Rattle.hume_model.specs.declared.core_tree.Op.TheVariants.{Add, Sub, Mul, Div, Mod, Neg, Not, Convert, Eq, Ne, Lt, Le, Gt, Ge}
 use Rattle.hume_model.specs.declared.core_tree.PatC.{PatC}
@@ -21,6 +22,7 @@ use Rattle.hume_model.specs.declared.core_tree.ExnDef.{ExnDef}
 use Rattle.hume_model.specs.declared.core_tree.Core.{Core}
 use Rattle.hume_model.specs.declared.outcome.Outcome.{Outcome}
 use Rattle.hume_model.specs.declared.outcome.Outcome.TheVariants.{Gives, Raises}
+use Rattle.hume_model.specs.Forms.{forms_of}
 
 -- `int` and `nat` of at least one bit, and no more than are allowed
 abbrev pub is_number_layer : Ty-F Ty → Bool
@@ -104,8 +106,8 @@ mutual
         → HasType core vars (expr.Update count vector place new_item) (shape.Vector count item)
     choice : {vars : List Ty} {ty : Ty} {test when_true when_false : Expr} → HasType core vars test shape.Bool
         → HasType core vars when_true ty → HasType core vars when_false ty → HasType core vars (expr.If test when_true when_false) ty
-    alternatives : {vars : List Ty} (of : Ty) {ty : Ty} {part : Expr} {arms : List (PatC × Expr)} → HasType core vars part of
-        → ArmsHaveType core vars of arms ty → HasType core vars (expr.Case part of arms) ty
+    alternatives : {vars : List Ty} (of : Ty) {ty : Ty} {part : Expr} {forms : Forms} {arms : List (PatC × Expr)} → HasType core vars part of
+        → forms ≡ forms_of of → ArmsHaveType core vars of arms ty → HasType core vars (expr.Case part forms arms) ty
     binding : {vars : List Ty} (of : Ty) {ty : Ty} {part body : Expr} → HasType core vars part of → HasType core (vars ++ of ∷ []) body ty
         → HasType core vars (expr.Let part body) ty
     call : {vars : List Ty} (number : ℕ) (function : FunC) {parts : List Expr} → slice_get core.funs number ≡ Some function

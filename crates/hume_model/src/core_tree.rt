@@ -21,6 +21,17 @@ pub enum Op {
     Ge,
 }
 
+/// Of which forms the values of a type are, as far as patterns can list them one by one.
+#[derive(Clone, Copy, Debug)]
+pub enum Forms {
+    /// `true` and `false`.
+    Truths,
+    /// The constructors of a data type, by its number.
+    Constructors(u32),
+    /// More than patterns list.
+    Others,
+}
+
 /// An expression. Variables are numbered from 0, outermost first. Parts stand in source order.
 #[derive(Drop)]
 pub enum Expr {
@@ -37,8 +48,8 @@ pub enum Expr {
     /// A vector of so many with another element at a place from 1.
     Update(u32, Box<Expr>, Box<Expr>, Box<Expr>),
     If(Box<Expr>, Box<Expr>, Box<Expr>),
-    /// The first alternative that the first part matches, which is of the type.
-    Case(Box<Expr>, Ty, List<(PatC, Expr)>),
+    /// The first alternative that the first part matches, whose values are of these forms.
+    Case(Box<Expr>, Forms, List<(PatC, Expr)>),
     Let(Box<Expr>, Box<Expr>),
     Call(u32, List<Expr>),
     /// An exception, with what it carries.
@@ -74,7 +85,7 @@ pub enum Res {
     /// One output each, or none where `*` stands.
     Outs(List<Option<Expr>>),
     If(Expr, Box<Res>, Box<Res>),
-    Case(Expr, Ty, List<(PatC, Res)>),
+    Case(Expr, Forms, List<(PatC, Res)>),
     Let(Expr, Box<Res>),
     Raise(u32, Option<Expr>),
 }

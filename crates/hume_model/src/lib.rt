@@ -25,6 +25,7 @@ mod declarations;
 mod evaluate;
 mod exceptions;
 mod firing;
+mod forms_told;
 mod laws;
 mod matching;
 mod operations;
@@ -34,13 +35,14 @@ mod reading;
 mod results;
 
 pub use core_tree::{
-    BoxC, Core, EqC, ExnDef, Expr, FunC, HandC, InPat, NodeC, Op, PatC, PortC, Res, RuleC, StreamC,
-    WireC,
+    BoxC, Core, EqC, ExnDef, Expr, Forms, FunC, HandC, InPat, NodeC, Op, PatC, PortC, Res, RuleC,
+    StreamC, WireC,
 };
 pub use declarations::declared_line;
 pub use evaluate::eval_plain;
 pub use exceptions::{DIV_ZERO, NO_CASE, RANGE, own_exceptions};
 pub use firing::first_firing;
+pub use forms_told::forms_of;
 pub use laws::{
     calls_unfold, evaluation_keeps_types, firing_keeps_types, flat_words_are_read_back,
     handled_boxes_give_all_outputs, own_exceptions_have_their_numbers, results_keep_types,

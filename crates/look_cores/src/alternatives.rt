@@ -1,7 +1,7 @@
 //! The patterns of equations and alternatives, and whether they leave nothing out by their forms alone.
-use crate::guess::{Guess, sum_of};
-use hume_base::Ty;
-use hume_model::{EqC, Expr, PatC, Res};
+use crate::guess::Guess;
+use hume_base::Types;
+use hume_model::{EqC, Expr, Forms, PatC, Res, forms_of};
 use std::alloc::{AllocError, Global};
 
 /// What has patterns, of which the first that fits is taken.
@@ -41,19 +41,31 @@ impl<'a> Alternatives<'a> {
 
     /// Whether the rule on exceptions sees that they leave nothing out for the parameters of the guess.
     pub(crate) fn are_complete(&self, alloc: Global, guess: &Guess) -> Result<bool, AllocError> {
-        if self.last_is_plain(guess.parameters) {
+        match guess.first_type() {
+            Some(ty) if guess.parameters == 1 => {
+                self.are_complete_for(alloc, guess.types, forms_of(ty))
+            }
+            _ => Ok(self.last_is_plain(guess.parameters)),
+        }
+    }
+
+    /// Whether the rule on exceptions sees that they leave nothing out for one parameter, whose values are of these forms.
+    pub(crate) fn are_complete_for(
+        &self,
+        alloc: Global,
+        types: &Types,
+        forms: Forms,
+    ) -> Result<bool, AllocError> {
+        if self.last_is_plain(1) {
             return Ok(true);
         }
-        if guess.parameters != 1 {
-            return Ok(false);
-        }
-        match guess.first_type() {
-            Some(Ty::Bool) => self.are_each(alloc, 2),
-            Some(ty) => match sum_of(guess.types, ty) {
+        match forms {
+            Forms::Truths => self.are_each(alloc, 2),
+            Forms::Constructors(number) => match types.sums.get(number as usize) {
                 None => Ok(false),
                 Some(sum) => self.are_each(alloc, sum.cons.len()),
             },
-            None => Ok(false),
+            Forms::Others => Ok(false),
         }
     }
 

@@ -4,11 +4,12 @@ ghost use Rattle.hume_exceptions.specs.Sets.{IsRaisesOf};
 use crate::alternatives::Alternatives;
 use crate::broken::{Culprit, tell_box};
 use crate::guess::Guess;
+use crate::known::{Known, Scope, better, enter_pattern, tree, with_forms};
 use crate::left_out::{Cause, left_out_by};
 use crate::raised::raises_it;
 use hume_base::{Box, Refusal, Ty};
 use hume_exceptions::{Raises, raises};
-use hume_model::{BoxC, Core, Expr, FunC, NO_CASE, NodeC, PatC, Res};
+use hume_model::{BoxC, Core, EqC, Expr, Forms, FunC, InPat, NO_CASE, NodeC, Op, PatC, Res};
 use look_sources::{Page, Sort};
 use std::alloc::{AllocError, Global};
 
@@ -16,6 +17,9 @@ use std::alloc::{AllocError, Global};
 const MAX_GAPS: usize = 3;
 
 const MAX_STEPS: usize = 100_000;
+
+// How many nodes the type of what a `case` matches has at most.
+const MAX_NODES: usize = 100_000;
 
 /// A place that may raise `NoCase`.
 #[derive(Drop)]
@@ -38,8 +42,9 @@ pub fn gaps_of(
     culprit: Culprit,
 ) -> Result<Vec<Gap>, AllocError> {
     let raised = raises(alloc, core)?;
-    let mut search = Search::begin(alloc, core.funs.len())?;
-    if let Some(result) = raising_result(alloc, core, &raised, refusal, culprit) {
+    let mut search = Search::begin(alloc, core)?;
+    if let Some((b, result)) = raising_result(alloc, core, &raised, refusal, culprit) {
+        enter_culprit(&mut search.scope, b, culprit);
         search_result(&mut search, core, result);
         for number in (0..core.funs.len()).rev() {
             if search.is_called(number) {
@@ -50,14 +55,14 @@ pub fn gaps_of(
     search.finish()
 }
 
-// The result of the rule or handler of the first box that breaks the rule in the line, if it may raise `NoCase`.
+// The first box that breaks the rule in the line, and the result of its rule or handler, if that may raise `NoCase`.
 fn raising_result<'a>(
     alloc: Global,
     core: &'a Core,
     raised: &Raises,
     refusal: Refusal,
     culprit: Culprit,
-) -> Option<&'a Res>
+) -> Option<(&'a BoxC, &'a Res)>
     requires { IsRaisesOf core.now raised.now }
 {
     let mut note = Page::make(alloc);
@@ -66,10 +71,13 @@ fn raising_result<'a>(
             if b.line == refusal.line
                 && tell_box(core, raised, b, refusal.rule, &mut note).is_some()
             {
-                if raises_it(core, raised, b, culprit, NO_CASE) {
-                    return result_at(b, culprit);
+                if !raises_it(core, raised, b, culprit, NO_CASE) {
+                    return None;
                 }
-                return None;
+                return match result_at(b, culprit) {
+                    None => None,
+                    Some(result) => Some((b, result)),
+                };
             }
         }
     }
@@ -91,10 +99,38 @@ fn result_at(b: &BoxC, culprit: Culprit) -> Option<&Res> {
     }
 }
 
+// Enters the variables of the rule or handler.
+fn enter_culprit<'a>(scope: &mut Scope<'a>, b: &'a BoxC, culprit: Culprit) {
+    let place = culprit.number.saturating_sub(1);
+    if culprit.sort == Sort::Handler {
+        if let Some(handler) = b.handlers.get(place) {
+            if handler.bound {
+                let carried = scope.carried(handler.exn);
+                scope.enter(carried);
+            }
+        }
+    } else if let Some(rule) = b.rules.get(place) {
+        enter_positions(scope, b, rule.pats.as_slice());
+    }
+}
+
+fn enter_positions<'a>(scope: &mut Scope<'a>, b: &'a BoxC, positions: &[InPat]) {
+    for at in 0..positions.len() {
+        if let InPat::Built(pattern) = &positions[at] {
+            if let Some(port) = b.ins.get(at) {
+                enter_pattern(scope, pattern, Known::Declared(&port.ty));
+            }
+        }
+    }
+}
+
 /// What is found so far, and where the search is.
 #[derive(Drop)]
-struct Search {
+struct Search<'a> {
     alloc: Global,
+    scope: Scope<'a>,
+    // Whether only the type of a part is looked for.
+    quiet: bool,
     gaps: Vec<Gap>,
     // Of each function, whether it is called.
     called: Vec<bool>,
@@ -106,12 +142,14 @@ struct Search {
     failed: bool,
 }
 
-impl Search {
-    fn begin(alloc: Global, functions: usize) -> Result<Search, AllocError> {
+impl<'a> Search<'a> {
+    fn begin(alloc: Global, core: &'a Core) -> Result<Search<'a>, AllocError> {
         Ok(Search {
             alloc,
+            scope: Scope::begin(alloc, core),
+            quiet: false,
             gaps: Vec::new(alloc),
-            called: vec![in alloc; false; functions]?,
+            called: vec![in alloc; false; core.funs.len()]?,
             function: None,
             equation: 0,
             cases: 0,
@@ -147,7 +185,7 @@ impl Search {
 
     // Notes what is wrong with the `case` of that number, or what is where there is none.
     fn note(&mut self, case: usize, cause: Cause) {
-        if self.is_full() {
+        if self.quiet || self.is_full() {
             return;
         }
         let gap = Gap {
@@ -178,21 +216,14 @@ impl Search {
         }
     }
 
-    fn judge_case(&mut self, core: &Core, ty: &Ty, alternatives: Alternatives) {
-        self.cases = self.cases.saturating_add(1);
-        let mut guess = Guess::begin(self.alloc, &core.types, self.steps);
-        guess.add(ty);
-        let case = self.cases;
-        self.judge(case, &mut guess, alternatives, b"");
-    }
-
     fn finish(self) -> Result<Vec<Gap>, AllocError> {
-        let Search { gaps, failed, .. } = self;
+        let failed = self.failed || self.scope.has_failed();
+        let Search { gaps, .. } = self;
         if failed { Err(AllocError) } else { Ok(gaps) }
     }
 }
 
-fn search_function(search: &mut Search, core: &Core, function: &FunC, number: usize) {
+fn search_function<'a>(search: &mut Search<'a>, core: &'a Core, function: &'a FunC, number: usize) {
     let equations = function.equations.as_slice();
     search.enter(number, 0);
     let mut guess = Guess::begin(search.alloc, &core.types, search.steps);
@@ -203,48 +234,72 @@ fn search_function(search: &mut Search, core: &Core, function: &FunC, number: us
     search.judge(0, &mut guess, alternatives, function.name.bytes());
     for i in 0..equations.len() {
         search.enter(number, i.saturating_add(1));
-        search_expression(search, core, &equations[i].body);
+        enter_equation(&mut search.scope, function, &equations[i]);
+        let _known = search_expression(search, core, &equations[i].body);
+    }
+}
+
+// Enters the variables of the equation, and no others.
+fn enter_equation<'a>(scope: &mut Scope<'a>, function: &'a FunC, equation: &EqC) {
+    scope.leave(0);
+    let patterns = equation.pats.as_slice();
+    for at in 0..patterns.len() {
+        if let Some(ty) = function.params.get(at) {
+            enter_pattern(scope, &patterns[at], Known::Declared(ty));
+        }
     }
 }
 
 #[cycle(search_result)]
-fn search_result(search: &mut Search, core: &Core, res: &Res) {
+fn search_result<'a>(search: &mut Search<'a>, core: &'a Core, res: &'a Res) {
     match res {
         Res::Outs(outs) => search_outputs(search, core, outs.as_slice()),
         Res::If(test, when_true, when_false) => {
-            search_expression(search, core, test);
+            let _known = search_expression(search, core, test);
             search_result(search, core, when_true);
             search_result(search, core, when_false);
         }
-        Res::Case(part, ty, arms) => {
-            search.judge_case(core, ty, Alternatives::Results(arms.as_slice()));
-            search_expression(search, core, part);
-            search_results(search, core, arms.as_slice());
+        Res::Case(part, forms, arms) => {
+            let arms = arms.as_slice();
+            judge_case(search, core, part, *forms, Alternatives::Results(arms));
+            let known = with_forms(search_expression(search, core, part), *forms);
+            search_results(search, core, arms, known);
         }
         Res::Let(part, body) => {
-            search_expression(search, core, part);
+            let known = search_expression(search, core, part);
+            let count = search.scope.variables();
+            search.scope.enter(known);
             search_result(search, core, body);
+            search.scope.leave(count);
         }
         Res::Raise(exn, part) => {
             note_raise(search, *exn);
             if let Some(part) = part {
-                search_expression(search, core, part);
+                let _known = search_expression(search, core, part);
             }
         }
     }
 }
 
 #[cycle(search_result)]
-fn search_results(search: &mut Search, core: &Core, arms: &[(PatC, Res)]) {
+fn search_results<'a>(
+    search: &mut Search<'a>,
+    core: &'a Core,
+    arms: &'a [(PatC, Res)],
+    known: Known<'a>,
+) {
+    let count = search.scope.variables();
     for i in 0..arms.len() {
+        enter_pattern(&mut search.scope, &arms[i].0, known);
         search_result(search, core, &arms[i].1);
+        search.scope.leave(count);
     }
 }
 
-fn search_outputs(search: &mut Search, core: &Core, outs: &[Option<Expr>]) {
+fn search_outputs<'a>(search: &mut Search<'a>, core: &'a Core, outs: &'a [Option<Expr>]) {
     for i in 0..outs.len() {
         if let Some(e) = &outs[i] {
-            search_expression(search, core, e);
+            let _known = search_expression(search, core, e);
         }
     }
 }
@@ -255,56 +310,169 @@ fn note_raise(search: &mut Search, exn: u32) {
     }
 }
 
+// The type of the expression.
 #[cycle(search_expression)]
-fn search_expression(search: &mut Search, core: &Core, e: &Expr) {
+fn search_expression<'a>(search: &mut Search<'a>, core: &'a Core, e: &'a Expr) -> Known<'a> {
     match e {
-        Expr::Word(_) | Expr::Var(_) => {}
-        Expr::Con(_, parts) | Expr::Prim(_, _, parts) => search_parts(
-            search,
-            core,
-            parts.as_slice(),
-        ),
-        Expr::Tuple(parts) | Expr::Vect(parts) => search_parts(search, core, parts.as_slice()),
-        Expr::Index(_, first, second) | Expr::Let(first, second) => {
-            search_expression(search, core, first);
-            search_expression(search, core, second);
+        Expr::Word(_) => Known::Literal,
+        Expr::Var(number) => search.scope.variable(*number),
+        Expr::Con(place, parts) => {
+            let fields = search_parts(search, core, parts.as_slice());
+            search.scope.made(*place, fields)
         }
-        Expr::Update(_, first, second, third) | Expr::If(first, second, third) => {
-            search_expression(search, core, first);
-            search_expression(search, core, second);
-            search_expression(search, core, third);
+        Expr::Prim(op, ty, parts) => {
+            let _parts = search_parts(search, core, parts.as_slice());
+            given_by(*op, ty)
         }
-        Expr::Case(part, ty, arms) => {
-            search.judge_case(core, ty, Alternatives::Values(arms.as_slice()));
-            search_expression(search, core, part);
-            search_arms(search, core, arms.as_slice());
+        Expr::Tuple(parts) => search_parts(search, core, parts.as_slice()),
+        Expr::Vect(parts) => {
+            let items = search_parts(search, core, parts.as_slice());
+            let item = search.scope.part_of(items, 0);
+            search.scope.vector(item)
+        }
+        Expr::Index(_, first, second) => {
+            let vector = search_expression(search, core, first);
+            let _place = search_expression(search, core, second);
+            search.scope.item_of(vector)
+        }
+        Expr::Update(_, first, second, third) => {
+            let vector = search_expression(search, core, first);
+            let _place = search_expression(search, core, second);
+            let _item = search_expression(search, core, third);
+            vector
+        }
+        Expr::If(first, second, third) => {
+            let _test = search_expression(search, core, first);
+            let when_true = search_expression(search, core, second);
+            better(when_true, search_expression(search, core, third))
+        }
+        Expr::Case(part, forms, arms) => {
+            let arms = arms.as_slice();
+            judge_case(search, core, part, *forms, Alternatives::Values(arms));
+            let known = with_forms(search_expression(search, core, part), *forms);
+            search_arms(search, core, arms, known)
+        }
+        Expr::Let(first, second) => {
+            let known = search_expression(search, core, first);
+            let count = search.scope.variables();
+            search.scope.enter(known);
+            let body = search_expression(search, core, second);
+            search.scope.leave(count);
+            body
         }
         Expr::Call(function, parts) => {
             search.call(*function);
-            search_parts(search, core, parts.as_slice());
+            let _parts = search_parts(search, core, parts.as_slice());
+            search.scope.given(*function)
         }
-        Expr::Raise(exn, part) => search_raise(search, core, *exn, part),
+        Expr::Raise(exn, part) => {
+            search_raise(search, core, *exn, part);
+            Known::Nothing
+        }
+    }
+}
+
+// What an operation at the type gives.
+fn given_by<'a>(op: Op, ty: &'a Ty) -> Known<'a> {
+    match op {
+        Op::Eq | Op::Ne | Op::Lt | Op::Le | Op::Gt | Op::Ge | Op::Not => Known::Truth,
+        _ => Known::Declared(ty),
     }
 }
 
 #[cycle(search_expression)]
-fn search_raise(search: &mut Search, core: &Core, exn: u32, part: &Option<Box<Expr>>) {
+fn search_raise<'a>(
+    search: &mut Search<'a>,
+    core: &'a Core,
+    exn: u32,
+    part: &'a Option<Box<Expr>>,
+) {
     note_raise(search, exn);
     if let Some(part) = part {
-        search_expression(search, core, part);
+        let _known = search_expression(search, core, part);
     }
 }
 
+// The types of the parts, as one of a tuple.
 #[cycle(search_expression)]
-fn search_parts(search: &mut Search, core: &Core, parts: &[Expr]) {
+fn search_parts<'a>(search: &mut Search<'a>, core: &'a Core, parts: &'a [Expr]) -> Known<'a> {
+    let mut known = Vec::new(search.alloc);
     for i in 0..parts.len() {
-        search_expression(search, core, &parts[i]);
+        let part = search_expression(search, core, &parts[i]);
+        if known.push(part).is_err() {
+            search.failed = true;
+        }
     }
+    search.scope.tuple(known.as_slice())
 }
 
 #[cycle(search_expression)]
-fn search_arms(search: &mut Search, core: &Core, arms: &[(PatC, Expr)]) {
+fn search_arms<'a>(
+    search: &mut Search<'a>,
+    core: &'a Core,
+    arms: &'a [(PatC, Expr)],
+    known: Known<'a>,
+) -> Known<'a> {
+    let count = search.scope.variables();
+    let mut given = Known::Nothing;
     for i in 0..arms.len() {
-        search_expression(search, core, &arms[i].1);
+        enter_pattern(&mut search.scope, &arms[i].0, known);
+        let body = search_expression(search, core, &arms[i].1);
+        search.scope.leave(count);
+        given = better(given, body);
+    }
+    given
+}
+
+// Notes what the alternatives of the next `case` leave out of the values of the part, unless the rule sees that they are complete.
+#[cycle(search_expression)]
+fn judge_case<'a>(
+    search: &mut Search<'a>,
+    core: &'a Core,
+    part: &'a Expr,
+    forms: Forms,
+    alternatives: Alternatives,
+) {
+    search.cases = search.cases.saturating_add(1);
+    if search.quiet || search.is_full() {
+        return;
+    }
+    match alternatives.are_complete_for(search.alloc, &core.types, forms) {
+        Err(_) => search.failed = true,
+        Ok(true) => {}
+        Ok(false) => {
+            let known = known_quietly(search, core, part);
+            note_case(search, core, with_forms(known, forms), alternatives);
+        }
+    }
+}
+
+// The type of the part, of which nothing is noted.
+#[cycle(search_expression)]
+fn known_quietly<'a>(search: &mut Search<'a>, core: &'a Core, part: &'a Expr) -> Known<'a> {
+    let cases = search.cases;
+    search.quiet = true;
+    let known = search_expression(search, core, part);
+    search.quiet = false;
+    search.cases = cases;
+    known
+}
+
+// Notes what the alternatives of the last `case` leave out of the values of the type.
+fn note_case<'a>(
+    search: &mut Search<'a>,
+    core: &'a Core,
+    known: Known<'a>,
+    alternatives: Alternatives,
+) {
+    let case = search.cases;
+    let mut room = MAX_NODES;
+    match tree(search.alloc, &search.scope, known, &mut room) {
+        Err(_) => search.failed = true,
+        Ok(ty) => {
+            let mut guess = Guess::begin(search.alloc, &core.types, search.steps);
+            guess.add(&ty);
+            search.judge(case, &mut guess, alternatives, b"");
+        }
     }
 }

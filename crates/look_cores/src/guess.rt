@@ -9,6 +9,7 @@ const LETTERS: u64 = 97;
 /// A part of the values.
 #[derive(Clone, Copy)]
 pub(crate) struct Part<'a> {
+    /// A tuple of no parts where the type isn't known.
     pub(crate) ty: &'a Ty,
     /// The word, or the place of the constructor, once it is chosen.
     pub(crate) word: Option<u64>,
@@ -30,6 +31,8 @@ pub(crate) struct Guess<'a> {
     used: usize,
     // How many steps may still be made.
     steps: usize,
+    // Whether a part was asked for whose type isn't known.
+    asked: bool,
     failed: bool,
 }
 
@@ -43,6 +46,7 @@ impl<'a> Guess<'a> {
             choices: Vec::new(alloc),
             used: 0,
             steps,
+            asked: false,
             failed: false,
         }
     }
@@ -101,6 +105,22 @@ impl<'a> Guess<'a> {
         }
         self.denied.clear();
         self.used = 0;
+        self.asked = false;
+    }
+
+    /// Whether something rests on a part whose type isn't known.
+    pub(crate) fn has_asked(&self) -> bool {
+        self.asked
+    }
+
+    // Whether the type of the part is known, which is asked for.
+    fn is_known(&mut self, part: &Part) -> bool {
+        let known = match part.ty {
+            Ty::Tuple(parts) => parts.len() > 0,
+            _ => true,
+        };
+        self.asked = self.asked || !known;
+        known
     }
 
     /// Forgets what is to be chosen, too.
@@ -143,6 +163,9 @@ impl<'a> Guess<'a> {
         let Some(part) = self.parts.get(number).copied() else {
             return false;
         };
+        if !self.is_known(&part) {
+            return false;
+        }
         if let Some(known) = part.word {
             return known == word;
         }
@@ -159,6 +182,14 @@ impl<'a> Guess<'a> {
             self.failed = true;
         }
         holds
+    }
+
+    // Whether the part is a tuple.
+    fn is_tuple(&mut self, number: usize) -> bool {
+        match self.parts.get(number).copied() {
+            None => false,
+            Some(part) => self.is_known(&part),
+        }
     }
 
     fn set_word(&mut self, number: usize, word: Option<u64>) {
@@ -270,7 +301,9 @@ pub(crate) fn fits(guess: &mut Guess, pattern: &PatC, part: usize) -> bool {
         PatC::Con(place, patterns) => {
             guess.is_word(part, u64::from(*place)) && parts_fit(guess, patterns.as_slice(), part)
         }
-        PatC::Tuple(patterns) => parts_fit(guess, patterns.as_slice(), part),
+        PatC::Tuple(patterns) => {
+            guess.is_tuple(part) && parts_fit(guess, patterns.as_slice(), part)
+        }
     }
 }
 

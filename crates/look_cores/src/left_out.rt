@@ -23,7 +23,7 @@ pub enum Cause {
     Together,
     /// They leave nothing out, as the one of that number, from 1, fits all values.
     ByOne(usize),
-    /// What they leave out would take too many steps to know.
+    /// What they leave out would take too many steps to know, or rests on parts of an unknown type.
     Unknown,
     /// `raise NoCase` itself.
     Raised,
@@ -36,17 +36,23 @@ pub(crate) fn left_out_by(
     alternatives: Alternatives,
     name: &[u8],
 ) -> Cause {
+    let mut is_open = false;
     for _ in 0..guess.steps() {
         guess.begin_again();
         let all_miss = all_miss(guess, alternatives);
         if guess.is_over() {
             return Cause::Unknown;
         }
-        if all_miss {
+        if all_miss && !guess.has_asked() {
             return Cause::LeavesOut(values_of_guess(alloc, guess, name));
         }
+        is_open = is_open || all_miss;
         if !guess.turn() {
-            return met_by(guess, alternatives);
+            return if is_open {
+                Cause::Unknown
+            } else {
+                met_by(guess, alternatives)
+            };
         }
     }
     Cause::Unknown

@@ -4,7 +4,7 @@ use look_sources::Page;
 
 /// Puts the type.
 #[cycle(put_type)]
-pub(crate) fn put_type(page: &mut Page, types: &Types, ty: &Ty) {
+pub fn put_type(page: &mut Page, types: &Types, ty: &Ty) {
     match ty {
         Ty::Bool => page.put(b"bool"),
         Ty::Char => page.put(b"char"),

@@ -4,13 +4,13 @@ ghost use Rattle.std.specs.Option.{option_map};
 ghost use Rattle.hume_model.specs.declared.core_tree.PatC.{PatC as Pattern};
 ghost use Rattle.hume_model.specs.declared.core_tree.Expr.{Expr as Tree};
 ghost use Rattle.hume_model.specs.declared.core_tree.Expr.TheVariants as expr;
-ghost use Rattle.union_laws.specs.Moving.{moved, moved_type};
+ghost use Rattle.union_laws.specs.Moving.{moved, moved_forms, moved_type};
 
 use crate::numbers::{raised, raised_exn};
 use crate::patterns::copy_pattern;
-use crate::types::move_type;
+use crate::types::{move_forms, move_type};
 use hume_base::{Box, List, Ty};
-use hume_model::{Expr, Op, PatC};
+use hume_model::{Expr, Forms, Op, PatC};
 use std::alloc::{AllocError, Global};
 use union_laws::Moves;
 
@@ -33,7 +33,7 @@ pub(crate) fn move_expression(alloc: Global, moves: Moves, e: &Expr) -> Result<E
         Expr::If(test, when_true, when_false) => {
             move_if(alloc, moves, test, when_true, when_false)
         }
-        Expr::Case(part, ty, arms) => move_case(alloc, moves, part, ty, arms),
+        Expr::Case(part, forms, arms) => move_case(alloc, moves, part, *forms, arms),
         Expr::Let(part, body) => move_let(alloc, moves, part, body),
         Expr::Call(function, parts) => Ok(Expr::Call(
             raised(*function, moves.funs)?,
@@ -113,16 +113,16 @@ fn move_case(
     alloc: Global,
     moves: Moves,
     part: &Box<Expr>,
-    ty: &Ty,
+    forms: Forms,
     arms: &List<(PatC, Expr)>,
 ) -> Result<Expr, AllocError>
-    ensures { IfOk result (λ higher. higher ≡ expr.Case (moved moves part.now) (moved_type moves ty.now)
+    ensures { IfOk result (λ higher. higher ≡ expr.Case (moved moves part.now) (moved_forms moves forms)
         (map (λ (arm : Pattern × Tree). (arm.0, moved moves arm.1)) arms.now)) }
 {
     let part = move_part(alloc, moves, part)?;
-    let ty = move_type(alloc, moves, ty)?;
+    let forms = move_forms(moves, forms)?;
     let arms = move_arms(alloc, moves, arms.as_slice())?;
-    Ok(Expr::Case(part, ty, arms))
+    Ok(Expr::Case(part, forms, arms))
 }
 
 #[cycle(move_expression)]

@@ -4,14 +4,14 @@ ghost use Rattle.std.specs.Option.{option_map};
 ghost use Rattle.hume_model.specs.declared.core_tree.PatC.{PatC as Pattern};
 ghost use Rattle.hume_model.specs.declared.core_tree.Res.{Res as Tree};
 ghost use Rattle.hume_model.specs.declared.core_tree.Res.TheVariants as res;
-ghost use Rattle.union_laws.specs.Moving.{moved, moved_result, moved_type};
+ghost use Rattle.union_laws.specs.Moving.{moved, moved_forms, moved_result};
 
 use crate::expressions::{move_expression, move_maybe};
 use crate::numbers::raised_exn;
 use crate::patterns::copy_pattern;
-use crate::types::move_type;
-use hume_base::{Box, List, Ty};
-use hume_model::{Expr, PatC, Res};
+use crate::types::move_forms;
+use hume_base::{Box, List};
+use hume_model::{Expr, Forms, PatC, Res};
 use std::alloc::{AllocError, Global};
 use union_laws::Moves;
 
@@ -25,7 +25,7 @@ pub(crate) fn move_result(alloc: Global, moves: Moves, given: &Res) -> Result<Re
         Res::If(test, when_true, when_false) => {
             move_if(alloc, moves, test, when_true, when_false)
         }
-        Res::Case(part, ty, arms) => move_case(alloc, moves, part, ty, arms),
+        Res::Case(part, forms, arms) => move_case(alloc, moves, part, *forms, arms),
         Res::Let(part, body) => move_let(alloc, moves, part, body),
         Res::Raise(exn, part) => Ok(Res::Raise(
             raised_exn(moves, *exn)?,
@@ -55,16 +55,16 @@ fn move_case(
     alloc: Global,
     moves: Moves,
     part: &Expr,
-    ty: &Ty,
+    forms: Forms,
     arms: &List<(PatC, Res)>,
 ) -> Result<Res, AllocError>
-    ensures { IfOk result (λ higher. higher ≡ res.Case (moved moves part.now) (moved_type moves ty.now)
+    ensures { IfOk result (λ higher. higher ≡ res.Case (moved moves part.now) (moved_forms moves forms)
         (map (λ (arm : Pattern × Tree). (arm.0, moved_result moves arm.1)) arms.now)) }
 {
     let part = move_expression(alloc, moves, part)?;
-    let ty = move_type(alloc, moves, ty)?;
+    let forms = move_forms(moves, forms)?;
     let arms = move_arms(alloc, moves, arms.as_slice())?;
-    Ok(Res::Case(part, ty, arms))
+    Ok(Res::Case(part, forms, arms))
 }
 
 #[cycle(move_result)]

@@ -1,11 +1,11 @@
 //! Types, data types and exceptions with their numbers moved up.
 ghost use Rattle.std.specs.Prelude.{◌≡◌, map, IfOk};
 ghost use Rattle.std.specs.Option.{option_map};
-ghost use Rattle.union_laws.specs.Moving.{moved_con, moved_data, moved_exception, moved_type};
+ghost use Rattle.union_laws.specs.Moving.{moved_con, moved_data, moved_exception, moved_forms, moved_type};
 
 use crate::numbers::raised;
 use hume_base::{Box, ConDef, List, SumDef, Ty};
-use hume_model::ExnDef;
+use hume_model::{ExnDef, Forms};
 use std::alloc::{AllocError, Global};
 use union_laws::Moves;
 
@@ -38,6 +38,17 @@ pub(crate) fn move_types(alloc: Global, moves: Moves, tys: &[Ty]) -> Result<List
         higher.push(move_type(alloc, moves, ty)?)?;
     }
     Ok(higher)
+}
+
+/// The forms of values with the number of their data type moved up.
+pub(crate) fn move_forms(moves: Moves, forms: Forms) -> Result<Forms, AllocError>
+    ensures { IfOk result (λ higher. higher ≡ moved_forms moves forms) }
+{
+    match forms {
+        Forms::Truths => Ok(Forms::Truths),
+        Forms::Constructors(number) => Ok(Forms::Constructors(raised(number, moves.types)?)),
+        Forms::Others => Ok(Forms::Others),
+    }
 }
 
 pub(crate) fn move_sums(

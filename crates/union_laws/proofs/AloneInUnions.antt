@@ -67,7 +67,7 @@ module _ (moves : Moves) (bound higher : ℕ) (within : (f : ℕ) → nat_lt f b
   level_calls (Expr-F.Index n v k) known = refl
   level_calls (Expr-F.Update n v k e) known = refl
   level_calls (Expr-F.If t a b) known = refl
-  level_calls (Expr-F.Case e ty arms) known = ap (λ ways. e && list_all (λ (arm : PatC × Bool). arm.1) ways) (arms_same arms)
+  level_calls (Expr-F.Case e forms arms) known = ap (λ ways. e && list_all (λ (arm : PatC × Bool). arm.1) ways) (arms_same arms)
   level_calls (Expr-F.Let a b) known = refl
   level_calls (Expr-F.Call f ps) known = ap (λ parts. nat_lt (moves.funs + f) higher && all_true parts) (map-id ps) ∙ call_same f (all_true ps) known
   level_calls (Expr-F.Raise x None) known = refl
@@ -86,7 +86,7 @@ module _ (moves : Moves) (bound higher : ℕ) (within : (f : ℕ) → nat_lt f b
   level_known : (y : Res-F Bool) → known_in bound y ≡ true → known_in higher (moved_result_layer moves (map-Res Bool Bool (λ known. known) y)) ≡ true
   level_known (Res-F.Outs outs) known = outs_calls outs known
   level_known (Res-F.If t a b) known = moved_calls t known
-  level_known (Res-F.Case e ty arms) known = moved_calls e known
+  level_known (Res-F.Case e forms arms) known = moved_calls e known
   level_known (Res-F.Let e b) known = moved_calls e known
   level_known (Res-F.Raise x None) known = refl
   level_known (Res-F.Raise x (Some e)) known = moved_calls e known
@@ -94,7 +94,7 @@ module _ (moves : Moves) (bound higher : ℕ) (within : (f : ℕ) → nat_lt f b
   level_parts : (y : Res-F Bool) → parts_known (moved_result_layer moves (map-Res Bool Bool (λ known. known) y)) ≡ parts_known y
   level_parts (Res-F.Outs outs) = refl
   level_parts (Res-F.If t a b) = refl
-  level_parts (Res-F.Case e ty arms) = ap (λ ways. list_all (λ (arm : PatC × Bool). arm.1) ways) (arms_same arms)
+  level_parts (Res-F.Case e forms arms) = ap (λ ways. list_all (λ (arm : PatC × Bool). arm.1) ways) (arms_same arms)
   level_parts (Res-F.Let e b) = refl
   level_parts (Res-F.Raise x e) = refl
 

@@ -58,7 +58,7 @@ module _ (moves : Moves) (types : Types) (exn : ℕ) (foreign : IsForeign moves 
     level (Expr-F.Index n v k) known = ap seen (not_both _ _ foreign.range)
     level (Expr-F.Update n v k e) known = ap seen (not_both _ _ foreign.range)
     level (Expr-F.If t a b) known = refl
-    level (Expr-F.Case e ty arms) known = ap seen (neither _ _ (arms_quiet arms) (not_both _ _ foreign.no_case))
+    level (Expr-F.Case e forms arms) known = ap seen (neither _ _ (arms_quiet arms) (not_both _ _ foreign.no_case))
     level (Expr-F.Let a b) known = refl
     level (Expr-F.Call f ps) known = ap seen (neither _ _ (all_quiet ps) (calls f known))
     level (Expr-F.Raise x None) known = ap seen (foreign.others x)
@@ -104,7 +104,7 @@ module _ (moves : Moves) (types : Types) (exn : ℕ) (foreign : IsForeign moves 
         → result_raises_step types (raises_with types other exn) exn (moved_result_layer moves (map-Res Bool Bool no y)) ≡ no (calm y)
     result_level (Res-F.Outs outs) known = outs_quiet outs known
     result_level (Res-F.If t a b) known = neither _ _ (expression_quiet t known) refl
-    result_level (Res-F.Case e ty arms) known = neither _ _ (expression_quiet e known) (neither _ _ (ways_quiet arms) (not_both _ _ foreign.no_case))
+    result_level (Res-F.Case e forms arms) known = neither _ _ (expression_quiet e known) (neither _ _ (ways_quiet arms) (not_both _ _ foreign.no_case))
     result_level (Res-F.Let e b) known = neither _ _ (expression_quiet e known) refl
     result_level (Res-F.Raise x e) known = neither _ _ (maybe_quiet e known) (foreign.others x)
 

@@ -38,8 +38,8 @@ module _ (core : Core) (tys : List Ty) where
     results_known (GivesOutputs.outputs {outs = outs} have) = by_form (Res-F.Outs outs) _ (res.rolls-Outs outs) ∙ both _ _ (outs_known have) refl
     results_known (GivesOutputs.choice {test = t} {when_true = a} {when_false = b} test when_true when_false) =
         by_form (Res-F.If t a b) _ (res.rolls-If t a b) ∙ both _ _ (calls_known core test) (both _ _ (results_known when_true) (results_known when_false))
-    results_known (GivesOutputs.alternatives of {part = e} {arms = ways} part arms) =
-        by_form (Res-F.Case e of ways) _ (res.rolls-Case e of ways) ∙ both _ _ (calls_known core part) (arms_known arms)
+    results_known (GivesOutputs.alternatives of {part = e} {forms = forms} {arms = ways} part is_of arms) =
+        by_form (Res-F.Case e forms ways) _ (res.rolls-Case e forms ways) ∙ both _ _ (calls_known core part) (arms_known arms)
     results_known (GivesOutputs.binding of {part = e} {body = b} part body) =
         by_form (Res-F.Let e b) _ (res.rolls-Let e b) ∙ both _ _ (calls_known core part) (results_known body)
     results_known (GivesOutputs.raise_alone number exn known nothing) = by_form (Res-F.Raise number None) _ (res.rolls-Raise number None)

@@ -65,7 +65,7 @@ module _ (moves : Moves) (most : ℕ) (called other : ℕ → Cost) (calls : (f 
   level (Expr-F.Index n v k) known = refl
   level (Expr-F.Update n v k e) known = refl
   level (Expr-F.If t a b) known = refl
-  level (Expr-F.Case e ty arms) known = ap (λ ways. both e (above 1 (one_way (map (arm_way 2) ways)))) (arms_are arms)
+  level (Expr-F.Case e forms arms) known = ap (λ ways. both e (above 1 (one_way (map (arm_way 2) ways)))) (arms_are arms)
   level (Expr-F.Let a b) known = refl
   level (Expr-F.Call f ps) known = λ i. both (in_order (map-id ps i)) (above (length (map-id ps i) + 2) (both (instructions 1) (calls f known i)))
   level (Expr-F.Raise x None) known = refl
@@ -131,7 +131,7 @@ module _ (moves : Moves) (small large : Core) (down : CallsGoDown small)
       → result_bound_step (expression_bound large) (moved_result_layer moves (map-Res Cost Cost (λ c. c) y)) ≡ result_bound_step (expression_bound small) y
   result_level (Res-F.Outs outs) known = ap (λ cs. both (in_order cs) (instructions 1)) (outs_bound outs known)
   result_level (Res-F.If t a b) known = ap (λ c. both c (both (instructions 1) (either a b))) (expression_same t known)
-  result_level (Res-F.Case e ty arms) known = λ i. both (expression_same e known i) (above 1 (one_way (map (arm_way 0) (result_arms_are arms i))))
+  result_level (Res-F.Case e forms arms) known = λ i. both (expression_same e known i) (above 1 (one_way (map (arm_way 0) (result_arms_are arms i))))
   result_level (Res-F.Let e b) known = ap (λ c. both c (above 1 b)) (expression_same e known)
   result_level (Res-F.Raise x None) known = refl
   result_level (Res-F.Raise x (Some e)) known = ap (λ c. raise_bound (Some c)) (expression_same e known)

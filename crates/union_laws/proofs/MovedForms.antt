@@ -5,6 +5,7 @@ use Rattle.hume_base.specs.declared.boxed.Box.{Box}
 use Rattle.hume_base.specs.declared.types.Ty.{Ty, fold-roll-Ty, roll-Ty}
 use Rattle.hume_base.specs.declared.types.Ty.TheOpen.{Ty-F}
 use Rattle.hume_base.specs.declared.types.Ty.TheVariants as shape
+use Rattle.hume_model.specs.declared.core_tree.Forms.{Forms}
 use Rattle.hume_model.specs.declared.core_tree.Op.{Op}
 use Rattle.hume_model.specs.declared.core_tree.PatC.{PatC}
 use Rattle.hume_model.specs.declared.core_tree.Expr.{Expr, fold-roll-Expr, map-Expr, roll-Expr}
@@ -14,7 +15,7 @@ use Rattle.hume_model.specs.declared.core_tree.Res.{Res, fold-roll-Res, map-Res,
 use Rattle.hume_model.specs.declared.core_tree.Res.TheOpen.{Res-F}
 use Rattle.hume_model.specs.declared.core_tree.Res.TheVariants as res
 use Rattle.union_laws.specs.declared.moves.Moves.{Moves}
-use Rattle.union_laws.specs.Moving.{moved, moved_exn, moved_layer, moved_result, moved_result_layer, moved_type, moved_type_layer}
+use Rattle.union_laws.specs.Moving.{moved, moved_exn, moved_forms, moved_layer, moved_result, moved_result_layer, moved_type, moved_type_layer}
 
 pub type_bool : (moves : Moves) → moved_type moves shape.Bool ≡ shape.Bool
 type_bool moves = ap (moved_type moves) (sym shape.rolls-Bool) ∙ fold-roll-Ty Ty (λ x. roll-Ty (moved_type_layer moves x)) Ty-F.Bool ∙ shape.rolls-Bool
@@ -77,8 +78,8 @@ module _ (moves : Moves) where
   pub expr_if : (t a b : Box Expr) → moved moves (expr.If t a b) ≡ expr.If (moved moves t) (moved moves a) (moved moves b)
   expr_if t a b = expr_at (Expr-F.If t a b) _ _ (expr.rolls-If t a b) (expr.rolls-If (moved moves t) (moved moves a) (moved moves b))
 
-  pub expr_case : (e : Box Expr) (ty : Ty) (arms : List (PatC × Expr)) → moved moves (expr.Case e ty arms) ≡ expr.Case (moved moves e) (moved_type moves ty) (map arm_moved arms)
-  expr_case e ty arms = expr_at (Expr-F.Case e ty arms) _ _ (expr.rolls-Case e ty arms) (expr.rolls-Case (moved moves e) (moved_type moves ty) (map arm_moved arms))
+  pub expr_case : (e : Box Expr) (forms : Forms) (arms : List (PatC × Expr)) → moved moves (expr.Case e forms arms) ≡ expr.Case (moved moves e) (moved_forms moves forms) (map arm_moved arms)
+  expr_case e forms arms = expr_at (Expr-F.Case e forms arms) _ _ (expr.rolls-Case e forms arms) (expr.rolls-Case (moved moves e) (moved_forms moves forms) (map arm_moved arms))
 
   pub expr_let : (a b : Box Expr) → moved moves (expr.Let a b) ≡ expr.Let (moved moves a) (moved moves b)
   expr_let a b = expr_at (Expr-F.Let a b) _ _ (expr.rolls-Let a b) (expr.rolls-Let (moved moves a) (moved moves b))
@@ -104,9 +105,9 @@ module _ (moves : Moves) where
   pub result_if : (t : Expr) (a b : Box Res) → moved_result moves (res.If t a b) ≡ res.If (moved moves t) (moved_result moves a) (moved_result moves b)
   result_if t a b = result_at (Res-F.If t a b) _ _ (res.rolls-If t a b) (res.rolls-If (moved moves t) (moved_result moves a) (moved_result moves b))
 
-  pub result_case : (e : Expr) (ty : Ty) (arms : List (PatC × Res))
-      → moved_result moves (res.Case e ty arms) ≡ res.Case (moved moves e) (moved_type moves ty) (map result_arm_moved arms)
-  result_case e ty arms = result_at (Res-F.Case e ty arms) _ _ (res.rolls-Case e ty arms) (res.rolls-Case (moved moves e) (moved_type moves ty) (map result_arm_moved arms))
+  pub result_case : (e : Expr) (forms : Forms) (arms : List (PatC × Res))
+      → moved_result moves (res.Case e forms arms) ≡ res.Case (moved moves e) (moved_forms moves forms) (map result_arm_moved arms)
+  result_case e forms arms = result_at (Res-F.Case e forms arms) _ _ (res.rolls-Case e forms arms) (res.rolls-Case (moved moves e) (moved_forms moves forms) (map result_arm_moved arms))
 
   pub result_let : (e : Expr) (b : Box Res) → moved_result moves (res.Let e b) ≡ res.Let (moved moves e) (moved_result moves b)
   result_let e b = result_at (Res-F.Let e b) _ _ (res.rolls-Let e b) (res.rolls-Let (moved moves e) (moved_result moves b))

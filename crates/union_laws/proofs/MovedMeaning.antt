@@ -187,7 +187,7 @@ module _ (moves : Moves) where
     level_same (Expr-F.If t a b) known env =
         then_same (t env) (λ v. if word_of_value v == 0 then b env else a env) (λ v. if word_of_value v == 0 then out (b env) else out (a env))
         (λ v. truth_same (b env) (a env) (word_of_value v == 0))
-    level_same (Expr-F.Case e ty arms) known env =
+    level_same (Expr-F.Case e forms arms) known env =
         then_same (e env) (λ v. first_arm arms v env) (λ v. first_arm (map arm_like arms) v env) (λ v. arm_same arms v env)
     level_same (Expr-F.Let a b) known env =
         then_same (a env) (λ v. b (env ++ v ∷ [])) (λ v. out (b (env ++ v ∷ []))) (λ v. refl)

@@ -114,7 +114,7 @@ module _ (moves : Moves) (most : ℕ) (small large : Core)
       ∙ then_same (spending_in small t env) (λ v. after (instructions 1) (if word_of_value v == 0 then b env else a env))
       (λ v. after (instructions 1) (if word_of_value v == 0 then up (b env) else up (a env)))
       (λ v. ap (after (instructions 1)) (choice_same (b env) (a env) (word_of_value v == 0)))
-  level_same (Res-F.Case e ty arms) known env =
+  level_same (Res-F.Case e forms arms) known env =
       ap (λ s. then_outputs s (λ v. over 1 (first_result (map arm_like arms) v env))) (spend e known env)
       ∙ then_same (spending_in small e env) (λ v. over 1 (first_result arms v env)) (λ v. over 1 (first_result (map arm_like arms) v env)) (λ v. ap (over 1) (arms_same arms v env))
   level_same (Res-F.Let e b) known env =

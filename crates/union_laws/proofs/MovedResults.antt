@@ -84,7 +84,7 @@ module _ (moves : Moves) (bound : ℕ) (small large : Core)
       ap (λ o. then_outputs o (λ v. if word_of_value v == 0 then outs_of (b env) else outs_of (a env))) (means t known env)
       ∙ then_same (meaning_in small t env) (λ v. if word_of_value v == 0 then b env else a env) (λ v. if word_of_value v == 0 then outs_of (b env) else outs_of (a env))
       (λ v. truth_same (b env) (a env) (word_of_value v == 0))
-  level_same (Res-F.Case e ty arms) known env =
+  level_same (Res-F.Case e forms arms) known env =
       ap (λ o. then_outputs o (λ v. first_result (map arm_like arms) v env)) (means e known env)
       ∙ then_same (meaning_in small e env) (λ v. first_result arms v env) (λ v. first_result (map arm_like arms) v env) (λ v. arms_same arms v env)
   level_same (Res-F.Let e b) known env =

@@ -142,7 +142,7 @@ module _ (moves : Moves) where
         then_same (t env) (λ v. after (instructions 1) (if word_of_value v == 0 then b env else ended 1 (a env)))
         (λ v. after (instructions 1) (if word_of_value v == 0 then lift (b env) else ended 1 (lift (a env))))
         (λ v. ap (after (instructions 1)) (choice_same (a env) (b env) (word_of_value v == 0)))
-    level_same (Expr-F.Case e ty arms) known env =
+    level_same (Expr-F.Case e forms arms) known env =
         then_same (e env) (λ v. over 1 (first_arm arms v env)) (λ v. over 1 (first_arm (map arm_like arms) v env)) (λ v. ap (over 1) (arms_same arms v env))
     level_same (Expr-F.Let a b) known env =
         then_same (a env) (λ v. over 1 (ended 1 (b (env ++ v ∷ [])))) (λ v. over 1 (ended 1 (lift (b (env ++ v ∷ []))))) (λ v. ap (over 1) (ended_same 1 (b (env ++ v ∷ []))))

@@ -8,6 +8,7 @@ use Rattle.hume_base.specs.declared.types.Ty.TheVariants as shape
 use Rattle.hume_base.specs.declared.types.SumDef.{SumDef}
 use Rattle.hume_base.specs.declared.types.Types.{Types}
 use Rattle.hume_base.specs.Holding.{HoldSmaller}
+use Rattle.hume_model.specs.declared.core_tree.Forms.{Forms}
 use Rattle.hume_model.specs.declared.core_tree.Op.{Op}
 use Rattle.hume_model.specs.declared.core_tree.Op.TheVariants.{Add, Sub, Mul, Div, Mod, Neg, Not, Convert, Eq, Ne, Lt, Le, Gt, Ge}
 use Rattle.hume_model.specs.declared.core_tree.PatC.{PatC}
@@ -20,10 +21,11 @@ use Rattle.hume_model.specs.declared.core_tree.ExnDef.{ExnDef}
 use Rattle.hume_model.specs.declared.core_tree.Core.{Core}
 use Rattle.hume_model.specs.Typing.{ArePatterns, ArmsHaveType, EquationsHave, HasType, HaveTypes, IsPattern, is_comparison, is_number_layer, is_number_type, is_ordered_layer, is_scalar_layer}
 use Rattle.hume_model.specs.ResultTyping.{ArmsGiveOutputs, GivesOutputs, OutsHave}
+use Rattle.hume_model.specs.Forms.{forms_of}
 use Rattle.union_laws.specs.declared.moves.Moves.{Moves}
-use Rattle.union_laws.specs.Moving.{moved, moved_con, moved_data, moved_equation, moved_exception, moved_exn, moved_function, moved_result, moved_type, moved_type_layer}
+use Rattle.union_laws.specs.Moving.{moved, moved_con, moved_data, moved_equation, moved_exception, moved_exn, moved_forms, moved_function, moved_result, moved_type, moved_type_layer}
 use Rattle.union_laws.proofs.MovedForms as form
-use Rattle.union_laws.proofs.MovedTypes.{moved_out}
+use Rattle.union_laws.proofs.MovedTypes.{forms_moved, moved_out}
 use Rattle.union_laws.proofs.MovedValues.{TypesStandIn, fields_moved, word_moved}
 use Rattle.union_laws.proofs.Unions.{mapped}
 
@@ -145,6 +147,9 @@ module _ (moves : Moves) (small large : Core) (stands : TreesStandIn moves small
   carries_some : (exn : ExnDef) (ty : Ty) → exn.carries ≡ Some ty → (moved_exception moves exn).carries ≡ Some (up ty)
   carries_some exn ty some = ap (option_map up) some
 
+  forms_up : (of : Ty) {forms : Forms} → forms ≡ forms_of of → moved_forms moves forms ≡ forms_of (up of)
+  forms_up of is_of = ap (moved_forms moves) is_of ∙ sym (forms_moved moves of)
+
   abbrev bool : up shape.Bool ≡ shape.Bool
   bool = form.type_bool moves
 
@@ -181,8 +186,8 @@ module _ (moves : Moves) (small large : Core) (stands : TreesStandIn moves small
         (typed_moved new_item))
     typed_moved (HasType.choice {test = t} {when_true = a} {when_false = b} test when_true when_false) =
         has_as (form.expr_if moves t a b) refl (HasType.choice (at_type bool (typed_moved test)) (typed_moved when_true) (typed_moved when_false))
-    typed_moved (HasType.alternatives of {part = e} {arms = ways} part arms) =
-        has_as (form.expr_case moves e of ways) refl (HasType.alternatives (up of) (typed_moved part) (arms_moved arms))
+    typed_moved (HasType.alternatives of {part = e} {forms = forms} {arms = ways} part is_of arms) =
+        has_as (form.expr_case moves e forms ways) refl (HasType.alternatives (up of) (typed_moved part) (forms_up of is_of) (arms_moved arms))
     typed_moved {vars} (HasType.binding of {part = a} {body = b} part body) =
         has_as (form.expr_let moves a b) refl (HasType.binding (up of) (typed_moved part) (longer vars (of ∷ []) (typed_moved body)))
     typed_moved (HasType.call number function {parts = es} known parts) =
@@ -223,8 +228,8 @@ module _ (moves : Moves) (small large : Core) (stands : TreesStandIn moves small
       results_moved (GivesOutputs.outputs {outs = outs} have) = gives_as (form.result_outs moves outs) (GivesOutputs.outputs (outs_moved have))
       results_moved (GivesOutputs.choice {test = t} {when_true = a} {when_false = b} test when_true when_false) =
           gives_as (form.result_if moves t a b) (GivesOutputs.choice (at_type bool (typed_moved test)) (results_moved when_true) (results_moved when_false))
-      results_moved (GivesOutputs.alternatives of {part = e} {arms = ways} part arms) =
-          gives_as (form.result_case moves e of ways) (GivesOutputs.alternatives (up of) (typed_moved part) (result_arms_moved arms))
+      results_moved (GivesOutputs.alternatives of {part = e} {forms = forms} {arms = ways} part is_of arms) =
+          gives_as (form.result_case moves e forms ways) (GivesOutputs.alternatives (up of) (typed_moved part) (forms_up of is_of) (result_arms_moved arms))
       results_moved {vars} (GivesOutputs.binding of {part = e} {body = b} part body) =
           gives_as (form.result_let moves e b) (GivesOutputs.binding (up of) (typed_moved part) (longer_result vars (of ∷ []) (results_moved body)))
       results_moved (GivesOutputs.raise_alone number exn known nothing) =

@@ -1,11 +1,15 @@
 -- A moved part is as a source may write it where the part is.
-use Rattle.std.proofs.Common.{◌≡◌, ℕ, suc, ◌&&◌, nat_le, Bool, true, List, [], ◌∷◌, length, map, Option, Some, None, refl, ap, sym, ◌∙◌, subst}
+use Rattle.std.proofs.Common.{◌≡◌, ℕ, suc, ◌+◌, ◌&&◌, nat_le, nat_lt, Bool, true, List, [], ◌∷◌, length, map, Option, Some, None, refl, ap, sym, ◌∙◌, subst}
 use Rattle.std.specs.List.{list_all}
 use Rattle.std.specs.Option.{option_map}
 use Rattle.std.proofs.lemmas.Bool.{and_parts}
 use Rattle.hume_base.specs.declared.limits.TheConstants.{MAX_LENGTH, MAX_PARTS}
-use Rattle.hume_base.specs.declared.types.Ty.{Ty}
+use Rattle.hume_base.specs.declared.types.Ty.{Ty, fold-roll-Ty}
+use Rattle.hume_base.specs.declared.types.Ty.TheOpen.{Ty-F}
+use Rattle.hume_base.specs.declared.types.Ty.TheVariants as shape
 use Rattle.hume_base.specs.declared.types.Types.{Types}
+use Rattle.hume_model.specs.declared.core_tree.Forms.{Forms}
+use Rattle.hume_model.specs.declared.core_tree.Forms.TheVariants.{Truths, Constructors, Others}
 use Rattle.hume_model.specs.declared.core_tree.PatC.{PatC}
 use Rattle.hume_model.specs.declared.core_tree.Expr.{Expr, roll-Expr, map-Expr, fold-roll-Expr, ind-Expr}
 use Rattle.hume_model.specs.declared.core_tree.Expr.TheOpen.{Expr-F}
@@ -15,13 +19,24 @@ use Rattle.hume_model.specs.declared.core_tree.EqC.{EqC}
 use Rattle.hume_model.specs.declared.core_tree.HandC.{HandC}
 use Rattle.hume_model.specs.declared.core_tree.RuleC.{RuleC}
 use Rattle.hume_model.specs.Calls.{all_true}
+use Rattle.hume_model.specs.Forms.{are_there}
 use Rattle.hume_model.specs.PartLimits.{are_alternatives, expression_step, is_length, is_written, is_written_equation, is_written_if_there, is_written_pattern, is_written_position, is_written_result, is_written_rule, result_step}
-use Rattle.hume_model.specs.TypeLimits.{is_between, is_type}
+use Rattle.hume_model.specs.TypeLimits.{is_between, is_type, type_step}
 use Rattle.calculus_laws.proofs.CallsKnown.{both}
 use Rattle.union_laws.specs.declared.moves.Moves.{Moves}
-use Rattle.union_laws.specs.Moving.{moved, moved_equation, moved_handler, moved_layer, moved_result, moved_result_layer, moved_rule, moved_type}
+use Rattle.union_laws.specs.Moving.{moved, moved_equation, moved_forms, moved_handler, moved_layer, moved_result, moved_result_layer, moved_rule, moved_type}
+use Rattle.union_laws.proofs.MovedForms.{type_named}
 
 module _ (moves : Moves) (small large : Types) (types : (ty : Ty) → is_type small ty ≡ true → is_type large (moved_type moves ty) ≡ true) where
+  named_there : (all : Types) (number : ℕ) → is_type all (shape.Named number) ≡ nat_lt number (length all.sums)
+  named_there all number = ap (is_type all) (sym (shape.rolls-Named number)) ∙ fold-roll-Ty Bool (type_step (length all.sums)) (Ty-F.Named number)
+
+  forms_up : (forms : Forms) → are_there small forms ≡ true → are_there large (moved_forms moves forms) ≡ true
+  forms_up Truths is = refl
+  forms_up Others is = refl
+  forms_up (Constructors number) is =
+      sym (named_there large (moves.types + number)) ∙ ap (is_type large) (sym (type_named moves number)) ∙ types (shape.Named number) (named_there small number ∙ is)
+
   -- expressions
 
   abbrev Written : Expr → Type 0
@@ -108,10 +123,10 @@ module _ (moves : Moves) (small large : Types) (types : (ty : Ty) → is_type sm
       let parts = and_parts (is_written small t.0) (is_written small a.0 && is_written small b.0) all in
       let rest = and_parts (is_written small a.0) (is_written small b.0) parts.1 in
       both _ _ (t.1 parts.0) (both _ _ (a.1 rest.0) (b.1 rest.1))
-  level (Expr-F.Case e ty arms) all =
-      let parts = and_parts (is_type small ty) (is_written small e.0 && are_alternatives (map old_arm (map arm_of arms))) all in
+  level (Expr-F.Case e forms arms) all =
+      let parts = and_parts (are_there small forms) (is_written small e.0 && are_alternatives (map old_arm (map arm_of arms))) all in
       let rest = and_parts (is_written small e.0) (are_alternatives (map old_arm (map arm_of arms))) parts.1 in
-      both _ _ (types ty parts.0) (both _ _ (e.1 rest.0) (ways_written arms rest.1))
+      both _ _ (forms_up forms parts.0) (both _ _ (e.1 rest.0) (ways_written arms rest.1))
   level (Expr-F.Let a b) all = (let parts = and_parts (is_written small a.0) (is_written small b.0) all in both _ _ (a.1 parts.0) (b.1 parts.1))
   level (Expr-F.Call f ps) all = parts_written ps all
   level (Expr-F.Raise x None) all = refl
@@ -188,10 +203,10 @@ module _ (moves : Moves) (small large : Types) (types : (ty : Ty) → is_type sm
       let parts = and_parts (is_written small t) (is_written_result small a.0 && is_written_result small b.0) all in
       let rest = and_parts (is_written_result small a.0) (is_written_result small b.0) parts.1 in
       both _ _ (expr_written t parts.0) (both _ _ (a.1 rest.0) (b.1 rest.1))
-  result_level (Res-F.Case e ty arms) all =
-      let parts = and_parts (is_type small ty) (is_written small e && are_alternatives (map old_result_arm (map result_arm_of arms))) all in
+  result_level (Res-F.Case e forms arms) all =
+      let parts = and_parts (are_there small forms) (is_written small e && are_alternatives (map old_result_arm (map result_arm_of arms))) all in
       let rest = and_parts (is_written small e) (are_alternatives (map old_result_arm (map result_arm_of arms))) parts.1 in
-      both _ _ (types ty parts.0) (both _ _ (expr_written e rest.0) (result_ways_written arms rest.1))
+      both _ _ (forms_up forms parts.0) (both _ _ (expr_written e rest.0) (result_ways_written arms rest.1))
   result_level (Res-F.Let e b) all = (let parts = and_parts (is_written small e) (is_written_result small b.0) all in both _ _ (expr_written e parts.0) (b.1 parts.1))
   result_level (Res-F.Raise x e) all = maybe_written e all
 

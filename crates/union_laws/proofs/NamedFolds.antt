@@ -1,4 +1,4 @@
--- What a fold makes of a moved expression whose calls and types are known, where each level makes the like of the moved level.
+-- What a fold makes of a moved expression whose calls and forms are known, where each level makes the like of the moved level.
 use Rattle.std.proofs.Common.{◌≡◌, ℕ, ◌&&◌, nat_lt, Bool, true, List, [], ◌∷◌, map, Some, None, refl, ap, sym, ◌∙◌, subst}
 use Rattle.std.specs.Bool.{⊤}
 use Rattle.std.specs.List.{list_all}
@@ -6,19 +6,19 @@ use Rattle.std.proofs.lemmas.Bool.{and_parts}
 use Rattle.hume_model.specs.declared.core_tree.PatC.{PatC}
 use Rattle.hume_model.specs.declared.core_tree.Expr.{Expr, fold-Expr, roll-Expr, map-Expr, fold-roll-Expr, ind-Expr}
 use Rattle.hume_model.specs.declared.core_tree.Expr.TheOpen.{Expr-F}
-use Rattle.hume_base.specs.declared.types.Ty.{Ty}
+use Rattle.hume_model.specs.declared.core_tree.Forms.{Forms}
 use Rattle.hume_model.specs.Calls.{all_true}
 use Rattle.union_laws.specs.inner.Names.{names_below, names_step}
 use Rattle.union_laws.specs.declared.moves.Moves.{Moves}
 use Rattle.union_laws.specs.Moving.{moved, moved_layer}
 
--- a call is of a function of a number below the bound, and the type of a `case` is there
-abbrev pub IsKnown : {X : Type 0} → ℕ → (Ty → Bool) → Expr-F X → Type 0
+-- a call is of a function of a number below the bound, and the forms of a `case` are there
+abbrev pub IsKnown : {X : Type 0} → ℕ → (Forms → Bool) → Expr-F X → Type 0
 IsKnown bound is_there (Expr-F.Call function parts) = nat_lt function bound ≡ true
-IsKnown bound is_there (Expr-F.Case part ty arms) = is_there ty ≡ true
+IsKnown bound is_there (Expr-F.Case part forms arms) = is_there forms ≡ true
 IsKnown bound is_there layer = ⊤
 
-module _ (X : Type 0) (step other : Expr-F X → X) (g : X → X) (moves : Moves) (bound : ℕ) (is_there : Ty → Bool)
+module _ (X : Type 0) (step other : Expr-F X → X) (g : X → X) (moves : Moves) (bound : ℕ) (is_there : Forms → Bool)
     (alike : (y : Expr-F X) → IsKnown bound is_there y → other (moved_layer moves (map-Expr X X g y)) ≡ g (step y)) where
   abbrev of : Expr → X
   of = fold-Expr X step
@@ -92,10 +92,10 @@ module _ (X : Type 0) (step other : Expr-F X → X) (g : X → X) (moves : Moves
       let both = and_parts (names_below bound is_there t.0) (names_below bound is_there a.0 && names_below bound is_there b.0) known in
       let rest = and_parts (names_below bound is_there a.0) (names_below bound is_there b.0) both.1 in
       λ i. Expr-F.If (t.1 both.0 i) (a.1 rest.0 i) (b.1 rest.1 i)
-  step_same (Expr-F.Case e ty arms) known =
-      let all = and_parts (is_there ty) (names_below bound is_there e.0 && list_all (λ (way : PatC × Bool). way.1) (map arm_names (map arm_of arms))) known in
+  step_same (Expr-F.Case e forms arms) known =
+      let all = and_parts (is_there forms) (names_below bound is_there e.0 && list_all (λ (way : PatC × Bool). way.1) (map arm_names (map arm_of arms))) known in
       let both = and_parts (names_below bound is_there e.0) (list_all (λ (way : PatC × Bool). way.1) (map arm_names (map arm_of arms))) all.1 in
-      λ i. moved_layer moves (Expr-F.Case (e.1 both.0 i) ty (arms_same arms both.1 i))
+      λ i. moved_layer moves (Expr-F.Case (e.1 both.0 i) forms (arms_same arms both.1 i))
   step_same (Expr-F.Let a b) known =
       let both = and_parts (names_below bound is_there a.0) (names_below bound is_there b.0) known in
       λ i. Expr-F.Let (a.1 both.0 i) (b.1 both.1 i)
@@ -115,8 +115,8 @@ module _ (X : Type 0) (step other : Expr-F X → X) (g : X → X) (moves : Moves
   layer_known (Expr-F.Index n v k) known = tt
   layer_known (Expr-F.Update n v k e) known = tt
   layer_known (Expr-F.If t a b) known = tt
-  layer_known (Expr-F.Case e ty arms) known =
-      (and_parts (is_there ty) (names_below bound is_there e.0 && list_all (λ (way : PatC × Bool). way.1) (map arm_names (map arm_of arms))) known).0
+  layer_known (Expr-F.Case e forms arms) known =
+      (and_parts (is_there forms) (names_below bound is_there e.0 && list_all (λ (way : PatC × Bool). way.1) (map arm_names (map arm_of arms))) known).0
   layer_known (Expr-F.Let a b) known = tt
   layer_known (Expr-F.Call f ps) known = (and_parts (nat_lt f bound) (all_true (map (names_below bound is_there) (map of_part ps))) known).0
   layer_known (Expr-F.Raise x part) known = tt

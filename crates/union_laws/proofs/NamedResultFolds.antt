@@ -1,8 +1,8 @@
--- What a fold makes of a moved result whose calls and types are known, where each level makes the like of the moved level.
+-- What a fold makes of a moved result whose calls and forms are known, where each level makes the like of the moved level.
 use Rattle.std.proofs.Common.{◌≡◌, ℕ, Bool, true, List, [], ◌∷◌, map, refl, ap, sym, ◌∙◌, subst}
 use Rattle.std.specs.List.{list_all}
 use Rattle.std.proofs.lemmas.Bool.{and_parts}
-use Rattle.hume_base.specs.declared.types.Ty.{Ty}
+use Rattle.hume_model.specs.declared.core_tree.Forms.{Forms}
 use Rattle.hume_model.specs.declared.core_tree.PatC.{PatC}
 use Rattle.hume_model.specs.declared.core_tree.Res.{Res, fold-Res, roll-Res, map-Res, fold-roll-Res, ind-Res}
 use Rattle.hume_model.specs.declared.core_tree.Res.TheOpen.{Res-F}
@@ -11,7 +11,7 @@ use Rattle.union_laws.specs.Moving.{moved_result, moved_result_layer}
 use Rattle.union_laws.specs.inner.Names.{named_in, result_names, result_names_step}
 use Rattle.union_laws.specs.inner.ResultCalls.{parts_known}
 
-module _ (X : Type 0) (step other : Res-F X → X) (g : X → X) (moves : Moves) (bound : ℕ) (is_there : Ty → Bool)
+module _ (X : Type 0) (step other : Res-F X → X) (g : X → X) (moves : Moves) (bound : ℕ) (is_there : Forms → Bool)
     (alike : (y : Res-F X) → named_in bound is_there y ≡ true → other (moved_result_layer moves (map-Res X X g y)) ≡ g (step y)) where
   abbrev of : Res → X
   of = fold-Res X step
@@ -62,14 +62,14 @@ module _ (X : Type 0) (step other : Res-F X → X) (g : X → X) (moves : Moves)
   step_same (Res-F.If t a b) known =
       let both = and_parts (result_names bound is_there a.0) (result_names bound is_there b.0) known in
       λ i. moved_result_layer moves (Res-F.If t (a.1 both.0 i) (b.1 both.1 i))
-  step_same (Res-F.Case e ty arms) known = ap (λ ways. moved_result_layer moves (Res-F.Case e ty ways)) (arms_same arms known)
+  step_same (Res-F.Case e forms arms) known = ap (λ ways. moved_result_layer moves (Res-F.Case e forms ways)) (arms_same arms known)
   step_same (Res-F.Let e b) known = λ i. moved_result_layer moves (Res-F.Let e (b.1 known i))
   step_same (Res-F.Raise x e) known = refl
 
   exprs_known : (y : Res-F Part) → named_in bound is_there (map-Res Res Bool (result_names bound is_there) (layer y)) ≡ true → named_in bound is_there (map-Res Res X of (layer y)) ≡ true
   exprs_known (Res-F.Outs outs) known = known
   exprs_known (Res-F.If t a b) known = known
-  exprs_known (Res-F.Case e ty arms) known = known
+  exprs_known (Res-F.Case e forms arms) known = known
   exprs_known (Res-F.Let e b) known = known
   exprs_known (Res-F.Raise x e) known = known
 

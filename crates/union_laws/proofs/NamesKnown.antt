@@ -10,6 +10,7 @@ use Rattle.hume_model.specs.declared.core_tree.Expr.TheOpen.{Expr-F}
 use Rattle.hume_model.specs.declared.core_tree.Res.{Res, roll-Res, map-Res, fold-roll-Res, ind-Res}
 use Rattle.hume_model.specs.declared.core_tree.Res.TheOpen.{Res-F}
 use Rattle.hume_model.specs.Calls.{all_true, calls_below, calls_step}
+use Rattle.hume_model.specs.Forms.{are_there}
 use Rattle.hume_model.specs.PartLimits.{are_alternatives, expression_step, is_length, is_written, is_written_if_there, is_written_pattern, is_written_result, result_step}
 use Rattle.hume_model.specs.TypeLimits.{is_between, is_type}
 use Rattle.calculus_laws.proofs.CallsKnown.{both}
@@ -18,7 +19,7 @@ use Rattle.union_laws.specs.inner.ResultCalls.{out_calls, result_calls, result_c
 
 module _ (types : Types) (bound : ℕ) where
   abbrev there : Expr → Bool
-  there = names_below bound (is_type types)
+  there = names_below bound (are_there types)
 
   abbrev Named : Expr → Type 0
   Named e = calls_below bound e ≡ true → is_written types e ≡ true → there e ≡ true
@@ -66,7 +67,7 @@ module _ (types : Types) (bound : ℕ) where
   layer y = map-Expr Part Expr of_part y
 
   level : (y : Expr-F Part) → calls_step bound (map-Expr Expr Bool (calls_below bound) (layer y)) ≡ true
-      → expression_step types (map-Expr Expr Bool (is_written types) (layer y)) ≡ true → names_step bound (is_type types) (map-Expr Expr Bool there (layer y)) ≡ true
+      → expression_step types (map-Expr Expr Bool (is_written types) (layer y)) ≡ true → names_step bound (are_there types) (map-Expr Expr Bool there (layer y)) ≡ true
   level (Expr-F.Word w) called written = refl
   level (Expr-F.Var n) called written = refl
   level (Expr-F.Con c ps) called written = parts_named ps called written
@@ -90,9 +91,9 @@ module _ (types : Types) (bound : ℕ) where
       let w = and_parts (is_written types t.0) (is_written types a.0 && is_written types b.0) written in
       let ws = and_parts (is_written types a.0) (is_written types b.0) w.1 in
       both _ _ (t.1 c.0 w.0) (both _ _ (a.1 cs.0 ws.0) (b.1 cs.1 ws.1))
-  level (Expr-F.Case e ty arms) called written =
+  level (Expr-F.Case e forms arms) called written =
       let c = and_parts (calls_below bound e.0) (list_all second (map (arm_with (calls_below bound)) (map arm_of arms))) called in
-      let w = and_parts (is_type types ty) (is_written types e.0 && are_alternatives (map (arm_with (is_written types)) (map arm_of arms))) written in
+      let w = and_parts (are_there types forms) (is_written types e.0 && are_alternatives (map (arm_with (is_written types)) (map arm_of arms))) written in
       let ws = and_parts (is_written types e.0) (are_alternatives (map (arm_with (is_written types)) (map arm_of arms))) w.1 in
       let ways = and_parts (nat_le 1 (length (map (arm_with (is_written types)) (map arm_of arms)))) (list_all is_arm (map (arm_with (is_written types)) (map arm_of arms))) ws.1 in
       both _ _ w.0 (both _ _ (e.1 c.0 ws.0) (arms_named arms c.1 ways.1))
@@ -107,15 +108,15 @@ module _ (types : Types) (bound : ℕ) where
 
   pub expr_named : (e : Expr) → Named e
   expr_named = ind-Expr Named (λ x y is. subst (λ z. Named (roll-Expr z)) is (λ called written.
-      fold-roll-Expr Bool (names_step bound (is_type types)) (layer y)
+      fold-roll-Expr Bool (names_step bound (are_there types)) (layer y)
       ∙ level y (sym (fold-roll-Expr Bool (calls_step bound) (layer y)) ∙ called) (sym (fold-roll-Expr Bool (expression_step types) (layer y)) ∙ written)))
 
-  out_named : (o : Option Expr) → out_calls bound o ≡ true → is_written_if_there types o ≡ true → out_names bound (is_type types) o ≡ true
+  out_named : (o : Option Expr) → out_calls bound o ≡ true → is_written_if_there types o ≡ true → out_names bound (are_there types) o ≡ true
   out_named None called written = refl
   out_named (Some e) called written = expr_named e called written
 
   outs_named : (outs : List (Option Expr)) → list_all (out_calls bound) outs ≡ true → list_all (is_written_if_there types) outs ≡ true
-      → list_all (out_names bound (is_type types)) outs ≡ true
+      → list_all (out_names bound (are_there types)) outs ≡ true
   outs_named [] called written = refl
   outs_named (out ∷ outs) called written =
       let c = and_parts (out_calls bound out) (list_all (out_calls bound) outs) called in
@@ -125,7 +126,7 @@ module _ (types : Types) (bound : ℕ) where
   -- results
 
   abbrev result_there : Res → Bool
-  result_there = result_names bound (is_type types)
+  result_there = result_names bound (are_there types)
 
   abbrev NamedResult : Res → Type 0
   NamedResult r = result_calls bound r ≡ true → is_written_result types r ≡ true → result_there r ≡ true
@@ -155,7 +156,7 @@ module _ (types : Types) (bound : ℕ) where
 
   result_level : (y : Res-F ResultPart) → result_calls_step bound (map-Res Res Bool (result_calls bound) (result_layer y)) ≡ true
       → result_step types (map-Res Res Bool (is_written_result types) (result_layer y)) ≡ true
-      → result_names_step bound (is_type types) (map-Res Res Bool result_there (result_layer y)) ≡ true
+      → result_names_step bound (are_there types) (map-Res Res Bool result_there (result_layer y)) ≡ true
   result_level (Res-F.Outs outs) called written = both _ _ (outs_named outs (and_parts (list_all (out_calls bound) outs) true called).0 written) refl
   result_level (Res-F.If t a b) called written =
       let c = and_parts (calls_below bound t) (result_calls bound a.0 && result_calls bound b.0) called in
@@ -163,9 +164,9 @@ module _ (types : Types) (bound : ℕ) where
       let w = and_parts (is_written types t) (is_written_result types a.0 && is_written_result types b.0) written in
       let ws = and_parts (is_written_result types a.0) (is_written_result types b.0) w.1 in
       both _ _ (expr_named t c.0 w.0) (both _ _ (a.1 cs.0 ws.0) (b.1 cs.1 ws.1))
-  result_level (Res-F.Case e ty arms) called written =
+  result_level (Res-F.Case e forms arms) called written =
       let c = and_parts (calls_below bound e) (list_all second (map (result_arm_with (result_calls bound)) (map result_arm_of arms))) called in
-      let w = and_parts (is_type types ty) (is_written types e && are_alternatives (map (result_arm_with (is_written_result types)) (map result_arm_of arms))) written in
+      let w = and_parts (are_there types forms) (is_written types e && are_alternatives (map (result_arm_with (is_written_result types)) (map result_arm_of arms))) written in
       let ws = and_parts (is_written types e) (are_alternatives (map (result_arm_with (is_written_result types)) (map result_arm_of arms))) w.1 in
       let ways = and_parts (nat_le 1 (length (map (result_arm_with (is_written_result types)) (map result_arm_of arms))))
       (list_all is_arm (map (result_arm_with (is_written_result types)) (map result_arm_of arms))) ws.1 in
@@ -178,5 +179,5 @@ module _ (types : Types) (bound : ℕ) where
 
   pub result_named : (r : Res) → NamedResult r
   result_named = ind-Res NamedResult (λ x y is. subst (λ z. NamedResult (roll-Res z)) is (λ called written.
-      fold-roll-Res Bool (result_names_step bound (is_type types)) (result_layer y)
+      fold-roll-Res Bool (result_names_step bound (are_there types)) (result_layer y)
       ∙ result_level y (sym (fold-roll-Res Bool (result_calls_step bound) (result_layer y)) ∙ called) (sym (fold-roll-Res Bool (result_step types) (result_layer y)) ∙ written)))

@@ -76,8 +76,8 @@ module _ (core : Core) (exn : ℕ) (some : 3 ≤ length core.exns) (past : lengt
           ∙ neither _ _ (silent vec) (neither _ _ (silent place) (neither _ _ (silent new_item) (outside count (see k).literal)))
       silent (HasType.choice {test = t} {when_true = a} {when_false = b} test when_true when_false) =
           by_form (Expr-F.If t a b) _ (expr.rolls-If t a b) ∙ neither _ _ (silent test) (neither _ _ (silent when_true) (silent when_false))
-      silent (HasType.alternatives of {part = e} {arms = ways} part arms) =
-          by_form (Expr-F.Case e of ways) _ (expr.rolls-Case e of ways)
+      silent (HasType.alternatives of {part = e} {forms = forms} {arms = ways} part is_of arms) =
+          by_form (Expr-F.Case e forms ways) _ (expr.rolls-Case e forms ways)
           ∙ neither _ _ (silent part) (neither _ _ (arms_silent arms) (not_both _ _ (other_own NO_CASE (omega arith))))
       silent (HasType.binding of {part = a} {body = b} part body) = by_form (Expr-F.Let a b) _ (expr.rolls-Let a b) ∙ neither _ _ (silent part) (silent body)
       silent (HasType.call number function {parts = es} known parts) =
@@ -132,8 +132,8 @@ module _ (core : Core) (exn : ℕ) (some : 3 ≤ length core.exns) (past : lengt
         result_silent (GivesOutputs.outputs {outs = outs} have) = result_form (Res-F.Outs outs) _ (res.rolls-Outs outs) ∙ outs_silent have
         result_silent (GivesOutputs.choice {test = t} {when_true = a} {when_false = b} test when_true when_false) =
             result_form (Res-F.If t a b) _ (res.rolls-If t a b) ∙ neither _ _ (expression_silent test) (neither _ _ (result_silent when_true) (result_silent when_false))
-        result_silent (GivesOutputs.alternatives of {part = e} {arms = ways} part arms) =
-            result_form (Res-F.Case e of ways) _ (res.rolls-Case e of ways)
+        result_silent (GivesOutputs.alternatives of {part = e} {forms = forms} {arms = ways} part is_of arms) =
+            result_form (Res-F.Case e forms ways) _ (res.rolls-Case e forms ways)
             ∙ neither _ _ (expression_silent part) (neither _ _ (result_arms_silent arms) (not_both _ _ (other_own NO_CASE (omega arith))))
         result_silent (GivesOutputs.binding of {part = e} {body = b} part body) =
             result_form (Res-F.Let e b) _ (res.rolls-Let e b) ∙ neither _ _ (expression_silent part) (result_silent body)

@@ -20,7 +20,7 @@ use Rattle.hume_model.specs.Limits.{IsSmallBox, IsSmallFunction, IsSmallNode}
 use Rattle.hume_model.specs.PartLimits.{is_written_position, is_written_result, is_written_rule}
 use Rattle.hume_model.specs.Raising.{result_may_raise}
 use Rattle.hume_model.specs.ResultTyping.{GivesOutputs}
-use Rattle.hume_model.specs.TypeLimits.{is_type}
+use Rattle.hume_model.specs.Forms.{are_there}
 use Rattle.hume_model.specs.WellFormed.{IsWellFormed}
 use Rattle.union_laws.specs.declared.moves.Moves.{Moves}
 use Rattle.union_laws.specs.Moving.{moved_box, moved_exception, moved_exn, moved_handler, moved_node, moved_result, moved_rule}
@@ -99,7 +99,7 @@ module _ (a b : Core) (first : IsWellFormed a) (second : IsWellFormed b) where
 
   -- the results of the two programs
 
-  left_raise : (r : Res) → result_names (length a.funs) (is_type a.types) r ≡ true → (exn : ℕ) → result_may_raise whole exn r ≡ result_may_raise a exn r
+  left_raise : (r : Res) → result_names (length a.funs) (are_there a.types) r ≡ true → (exn : ℕ) → result_may_raise whole exn r ≡ result_may_raise a exn r
   left_raise r named exn =
       let stands = left_trees a b first.frame second.frame in
       (λ i. result_may_raise whole (sym (exn_unmoved exn) i) (sym (result_same r) i))

@@ -5,6 +5,8 @@ use Rattle.hume_base.specs.declared.types.Ty.{Ty, roll-Ty, map-Ty, fold-roll-Ty,
 use Rattle.hume_base.specs.declared.types.Ty.TheOpen.{Ty-F}
 use Rattle.hume_base.specs.declared.types.ConDef.{ConDef}
 use Rattle.hume_base.specs.declared.types.SumDef.{SumDef}
+use Rattle.hume_model.specs.declared.core_tree.Forms.{Forms}
+use Rattle.hume_model.specs.declared.core_tree.Forms.TheVariants.{Truths, Constructors, Others}
 use Rattle.hume_model.specs.declared.core_tree.PatC.{PatC}
 use Rattle.hume_model.specs.declared.core_tree.Expr.{Expr, roll-Expr, map-Expr, fold-roll-Expr, ind-Expr}
 use Rattle.hume_model.specs.declared.core_tree.Expr.TheOpen.{Expr-F}
@@ -22,7 +24,7 @@ use Rattle.hume_model.specs.declared.core_tree.NodeC.TheVariants.{Rules, From, T
 use Rattle.hume_model.specs.declared.core_tree.WireC.{WireC}
 use Rattle.hume_model.specs.declared.exceptions.TheConstants.{NO_CASE}
 use Rattle.union_laws.specs.declared.moves.Moves.{Moves}
-use Rattle.union_laws.specs.Moving.{moved, moved_box, moved_con, moved_data, moved_equation, moved_exception, moved_exn, moved_function, moved_handler, moved_layer, moved_node, moved_port, moved_result, moved_result_layer, moved_rule, moved_type, moved_type_layer, moved_wire}
+use Rattle.union_laws.specs.Moving.{moved, moved_box, moved_con, moved_data, moved_equation, moved_exception, moved_exn, moved_forms, moved_function, moved_handler, moved_layer, moved_node, moved_port, moved_result, moved_result_layer, moved_rule, moved_type, moved_type_layer, moved_wire}
 
 -- up by nothing
 abbrev pub unmoved : Moves
@@ -67,6 +69,11 @@ module _ where
   pub type_same : (ty : Ty) → SameType ty
   type_same = ind-Ty SameType (λ x y is. subst (λ z. SameType (roll-Ty z)) is
       (fold-roll-Ty Ty (λ z. roll-Ty (moved_type_layer unmoved z)) (map-Ty TypePart Ty of_type y) ∙ ap roll-Ty (type_layer y)))
+
+pub forms_same : (forms : Forms) → moved_forms unmoved forms ≡ forms
+forms_same Truths = refl
+forms_same (Constructors number) = ap Constructors (plus_none number)
+forms_same Others = refl
 
 -- exceptions
 
@@ -113,7 +120,7 @@ module _ where
   expr_layer (Expr-F.Index n v k) = λ i. Expr-F.Index n (v.1 i) (k.1 i)
   expr_layer (Expr-F.Update n v k e) = λ i. Expr-F.Update n (v.1 i) (k.1 i) (e.1 i)
   expr_layer (Expr-F.If t a b) = λ i. Expr-F.If (t.1 i) (a.1 i) (b.1 i)
-  expr_layer (Expr-F.Case e ty arms) = λ i. Expr-F.Case (e.1 i) (type_same ty i) (ways_same arms i)
+  expr_layer (Expr-F.Case e forms arms) = λ i. Expr-F.Case (e.1 i) (forms_same forms i) (ways_same arms i)
   expr_layer (Expr-F.Let a b) = λ i. Expr-F.Let (a.1 i) (b.1 i)
   expr_layer (Expr-F.Call f ps) = λ i. Expr-F.Call (plus_none f i) (exprs_same ps i)
   expr_layer (Expr-F.Raise x None) = ap (λ n. Expr-F.Raise n None) (exn_unmoved x)
@@ -149,7 +156,7 @@ module _ where
       → moved_result_layer unmoved (map-Res Res Res (moved_result unmoved) (map-Res ResultPart Res of_result y)) ≡ map-Res ResultPart Res of_result y
   result_layer (Res-F.Outs outs) = ap (λ os. Res-F.Outs os) (same_list (option_map (moved unmoved)) (same_option (moved unmoved) expr_same) outs)
   result_layer (Res-F.If t a b) = λ i. Res-F.If (expr_same t i) (a.1 i) (b.1 i)
-  result_layer (Res-F.Case e ty arms) = λ i. Res-F.Case (expr_same e i) (type_same ty i) (result_ways_same arms i)
+  result_layer (Res-F.Case e forms arms) = λ i. Res-F.Case (expr_same e i) (forms_same forms i) (result_ways_same arms i)
   result_layer (Res-F.Let e b) = λ i. Res-F.Let (expr_same e i) (b.1 i)
   result_layer (Res-F.Raise x e) = λ i. Res-F.Raise (exn_unmoved x i) (same_option (moved unmoved) expr_same e i)
 

@@ -6,6 +6,8 @@ use Rattle.hume_base.specs.declared.types.Ty.{Ty, fold-Ty, roll-Ty}
 use Rattle.hume_base.specs.declared.types.Ty.TheOpen.{Ty-F}
 use Rattle.hume_base.specs.declared.types.ConDef.{ConDef}
 use Rattle.hume_base.specs.declared.types.SumDef.{SumDef}
+use Rattle.hume_model.specs.declared.core_tree.Forms.{Forms}
+use Rattle.hume_model.specs.declared.core_tree.Forms.TheVariants.{Truths, Constructors, Others}
 use Rattle.hume_model.specs.declared.core_tree.Expr.{Expr, fold-Expr, roll-Expr}
 use Rattle.hume_model.specs.declared.core_tree.Expr.TheOpen.{Expr-F}
 use Rattle.hume_model.specs.declared.core_tree.Res.{Res, fold-Res, roll-Res}
@@ -32,6 +34,12 @@ moved_type_layer moves layer = layer
 abbrev pub moved_type : Moves → Ty → Ty
 moved_type moves = fold-Ty Ty (λ layer. roll-Ty (moved_type_layer moves layer))
 
+-- the forms of values, with their data type moved up
+abbrev pub moved_forms : Moves → Forms → Forms
+moved_forms moves Truths = Truths
+moved_forms moves (Constructors number) = Constructors (moves.types + number)
+moved_forms moves Others = Others
+
 -- the number of an exception; NO_CASE is the last of those that every program has
 abbrev pub moved_exn : Moves → ℕ → ℕ
 moved_exn moves exn = if nat_le exn NO_CASE then exn else moves.exns + exn
@@ -39,7 +47,7 @@ moved_exn moves exn = if nat_le exn NO_CASE then exn else moves.exns + exn
 -- one level of an expression
 abbrev pub moved_layer : {X : Type 0} → Moves → Expr-F X → Expr-F X
 moved_layer moves (Expr-F.Prim op ty parts) = Expr-F.Prim op (moved_type moves ty) parts
-moved_layer moves (Expr-F.Case part ty arms) = Expr-F.Case part (moved_type moves ty) arms
+moved_layer moves (Expr-F.Case part forms arms) = Expr-F.Case part (moved_forms moves forms) arms
 moved_layer moves (Expr-F.Call function parts) = Expr-F.Call (moves.funs + function) parts
 moved_layer moves (Expr-F.Raise exn part) = Expr-F.Raise (moved_exn moves exn) part
 moved_layer moves layer = layer
@@ -52,7 +60,7 @@ moved moves = fold-Expr Expr (λ layer. roll-Expr (moved_layer moves layer))
 abbrev pub moved_result_layer : {X : Type 0} → Moves → Res-F X → Res-F X
 moved_result_layer moves (Res-F.Outs outs) = Res-F.Outs (map (option_map (moved moves)) outs)
 moved_result_layer moves (Res-F.If test when_true when_false) = Res-F.If (moved moves test) when_true when_false
-moved_result_layer moves (Res-F.Case part ty arms) = Res-F.Case (moved moves part) (moved_type moves ty) arms
+moved_result_layer moves (Res-F.Case part forms arms) = Res-F.Case (moved moves part) (moved_forms moves forms) arms
 moved_result_layer moves (Res-F.Let part body) = Res-F.Let (moved moves part) body
 moved_result_layer moves (Res-F.Raise exn part) = Res-F.Raise (moved_exn moves exn) (option_map (moved moves) part)
 

@@ -4,8 +4,7 @@ ghost use Rattle.check_cores.specs.results.Stacks.{top_result};
 
 use crate::Stack;
 use crate::results::{forms, gather};
-use hume_base::Ty;
-use hume_model::{Expr, PatC, Res};
+use hume_model::{Expr, Forms, PatC, Res};
 use std::alloc::{AllocError, Global};
 use std::marker::Model;
 
@@ -123,16 +122,16 @@ impl ResultBuilder {
     pub fn alternatives(
         &mut self,
         alloc: Global,
-        ty: Ty,
+        values: Forms,
         part: (Expr, bool),
         count: usize,
     ) -> Result<(), AllocError>
-        ensures { OnOk result (self.new ≡ (case_result_core ty part (reverse (take count self.old.2)) ∷ self.old.0, self.old.1, drop count self.old.2)) }
+        ensures { OnOk result (self.new ≡ (case_result_core values part (reverse (take count self.old.2)) ∷ self.old.0, self.old.1, drop count self.old.2)) }
     {
         let (part, too_wide) = part;
         let (arms, some_too_wide) = gather::arms(alloc, &mut self.arms, count)?;
         self.results
-            .push((Res::Case(part, ty, arms), too_wide || some_too_wide))?;
+            .push((Res::Case(part, values, arms), too_wide || some_too_wide))?;
         Ok(())
     }
 

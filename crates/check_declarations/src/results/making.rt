@@ -55,9 +55,9 @@ impl<'a> ResultElaboration<'a> {
     fn alternatives(&mut self, alloc: Global, count: usize) -> Result<(), AllocError>
         ensures { OnOk result (self.new ≡ make_step (Alternatives count) self.old) }
     {
-        let ty = self.plain.tree(alloc)?;
+        let forms = self.plain.forms()?;
         let part = self.plain.take_core()?;
-        self.builder.alternatives(alloc, ty, part, count)
+        self.builder.alternatives(alloc, forms, part, count)
     }
 
     fn raise_with(&mut self, exn: u32) -> Result<(), AllocError>

@@ -1,16 +1,18 @@
 ghost use Rattle.std.specs.Prelude.{◌≡◌, ◌<◌, ℕ, List, [], ◌∷◌, ◌++◌, ◌↔◌, IsTrue, length, take, drop, reverse, slice_get, OnOk, OnErr, IfOk, IfSome};
 ghost use Rattle.hume_base.specs.declared.types.Ty.{Ty as TyTree, Tuple as TupleTy, Vector as VectorTy, out-Ty};
 ghost use Rattle.check_scopes.specs.types.Nodes.{type_at, ty_of, level_of, IsWithin};
+ghost use Rattle.hume_model.specs.Forms.{forms_of};
 ghost use Rattle.check_typing.specs.Signatures.{variable_named};
 ghost use Rattle.check_scopes.specs.types.Contexts.{top, below, with_found, shape_of as shape_seen, part_at, item_of};
 
 use crate::types::node::Node;
-use crate::types::shape::{Shape, shape_of_node};
+use crate::types::shape::{Shape, forms_of_node, shape_of_node};
 use crate::types::stack::NumberStack;
 use crate::types::table::TypeTable;
-use crate::types::trees::{number_of, tree};
+use crate::types::trees::{number_of, scalar};
 use crate::types::variables::Variables;
 use hume_base::Ty;
+use hume_model::Forms;
 use std::alloc::{AllocError, Global};
 use std::marker::Model;
 
@@ -139,14 +141,25 @@ impl<'a> Context<'a> {
         Ok(self.types.is_same(last, before))
     }
 
-    /// The last type of the stack as a tree of at most so many nodes; what it takes goes off the room.
-    pub fn tree(&self, alloc: Global, room: &mut usize) -> Result<Ty, AllocError>
+    /// The forms of the values of the last type of the stack.
+    pub fn forms(&self) -> Result<Forms, AllocError>
+        ensures { IfOk result (λ forms. forms ≡ forms_of (top self.now.1)) }
+    {
+        let Some(number) = self.held.last() else {
+            return Err(AllocError);
+        };
+        let forms = forms_of_node(self.types.node(number));
+        Ok(forms)
+    }
+
+    /// The last type of the stack, one of numbers, `char` or `bool`, as a tree. Any other is answered with want of memory.
+    pub fn scalar(&self) -> Result<Ty, AllocError>
         ensures { IfOk result (λ ty. ty ≡ top self.now.1) }
     {
         let Some(number) = self.held.last() else {
             return Err(AllocError);
         };
-        let ty = tree(alloc, &self.types, number, room)?;
+        let ty = scalar(&self.types, number)?;
         Ok(ty)
     }
 

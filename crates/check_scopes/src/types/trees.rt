@@ -1,27 +1,16 @@
-ghost use Rattle.std.specs.Prelude.{◌≡◌, ◌≤◌, ◌<◌, length, map, IfOk};
+ghost use Rattle.std.specs.Prelude.{◌≡◌, ◌<◌, length, map, IfOk};
 ghost use Rattle.check_scopes.specs.types.Nodes.{type_at, all_below, Grows};
 
 use crate::types::node::Node;
 use crate::types::table::TypeTable;
-use hume_base::{Box, List, Ty};
+use hume_base::Ty;
 use std::alloc::{AllocError, Global};
 
-/// The type of a number as a tree of at most so many nodes; the room that it takes goes off.
-#[cycle(tree)]
+/// The type of a number as a tree, if it is one of numbers, `char` or `bool`. Any other is answered with want of memory.
 #[tactic(auto, using(crate::proofs::types_lemmas::TreeSteps::tree_steps))]
-pub(crate) fn tree(
-    alloc: Global,
-    types: &TypeTable,
-    number: u32,
-    room: &mut usize,
-) -> Result<Ty, AllocError>
-    ensures room { room.new ≤ room.old }
-    ensures is { IfOk result (λ ty. ty ≡ type_at types.now number) }
+pub(crate) fn scalar(types: &TypeTable, number: u32) -> Result<Ty, AllocError>
+    ensures { IfOk result (λ ty. ty ≡ type_at types.now number) }
 {
-    if *room == 0 {
-        return Err(AllocError);
-    }
-    *room -= 1;
     let Some(node) = types.get(number) else {
         return Err(AllocError);
     };
@@ -30,36 +19,8 @@ pub(crate) fn tree(
         Node::Char => Ok(Ty::Char),
         Node::Int(bits) => Ok(Ty::Int(*bits)),
         Node::Nat(bits) => Ok(Ty::Nat(*bits)),
-        Node::Tuple(parts) => {
-            let parts = trees(alloc, types, parts.as_slice(), room)?;
-            Ok(Ty::Tuple(parts))
-        }
-        Node::Vector(count, item) => {
-            let item = tree(alloc, types, *item, room)?;
-            let item = Box::new(alloc, item)?;
-            Ok(Ty::Vector(*count, item))
-        }
-        Node::Named(number) => Ok(Ty::Named(*number)),
+        _ => Err(AllocError),
     }
-}
-
-#[cycle(tree)]
-#[tactic(auto, using(crate::proofs::types_lemmas::TreeSteps::tree_steps))]
-fn trees(
-    alloc: Global,
-    types: &TypeTable,
-    numbers: &[u32],
-    room: &mut usize,
-) -> Result<List<Ty>, AllocError>
-    ensures room { room.new ≤ room.old }
-    ensures is { IfOk result (λ tys. tys ≡ map (type_at types.now) numbers.now) }
-{
-    let mut tys = List::new(alloc);
-    for number in numbers {
-        let ty = tree(alloc, types, *number, room)?;
-        tys.push(ty)?;
-    }
-    Ok(tys)
 }
 
 /// The number of a type that is a tree.

@@ -4,6 +4,7 @@ use Rattle.hume_base.specs.declared.types.Ty.{Ty, Bool as BoolTy}
 use Rattle.hume_ast.specs.declared.tree.Pat.{Pat}
 use Rattle.hume_ast.specs.declared.tree.Exp.{Exp, fold-Exp, map-Exp}
 use Rattle.hume_ast.specs.declared.tree.Exp.TheOpen.{Exp-F}
+use Rattle.hume_model.specs.Forms.{forms_of}
 use Rattle.check_typing.specs.Partial.{given}
 use Rattle.check_typing.specs.Signatures.{Scope, exn_named}
 use Rattle.check_typing.specs.Patterns.{pattern}
@@ -86,7 +87,7 @@ arms_result signatures scope of (arm ∷ arms) tys =
 
 abbrev pub case_result_walk : Signatures → Walk → Walk → List (Pat × ResultWalk) → ResultWalk
 case_result_walk signatures w a arms = followed_walk w (λ scope tys.
-    given (a.own scope) (λ part. given (arms_result signatures scope part.0 arms tys) (λ all. Some (case_result_core part.0 part.1 all))))
+    given (a.own scope) (λ part. given (arms_result signatures scope part.0 arms tys) (λ all. Some (case_result_core (forms_of part.0) part.1 all))))
 
 -- one level of an expression of which the other walk finds w
 abbrev pub result_walk_form : Signatures → Walk → Exp-F ResultWalk → ResultWalk

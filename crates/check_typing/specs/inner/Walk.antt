@@ -13,6 +13,7 @@ use Rattle.hume_model.specs.declared.core_tree.Op.{Op}
 use Rattle.hume_model.specs.declared.core_tree.Op.TheVariants as op
 use Rattle.hume_model.specs.declared.core_tree.ExnDef.{ExnDef}
 use Rattle.hume_model.specs.Typing.{is_number_type, is_comparison}
+use Rattle.hume_model.specs.Forms.{forms_of}
 use Rattle.check_typing.specs.Partial.{given, when}
 use Rattle.check_typing.specs.Signatures.{Scope, Constructor, exn_named, fun_named, con_named, variable_named}
 use Rattle.check_typing.specs.WrittenTypes.{written}
@@ -119,9 +120,9 @@ arm_walks_open (arm ∷ arms) = arm.1.is_open && arm_walks_open arms
 abbrev pub case_walk : Signatures → Walk → List (Pat × Walk) → Walk
 case_walk signatures a arms = record {
   is_open = arm_walks_open arms;
-  own = λ scope. given (a.own scope) (λ part. given (arms_own signatures scope part.0 arms) (λ all. Some (all.0, case_core part.0 part.1 all.1)));
+  own = λ scope. given (a.own scope) (λ part. given (arms_own signatures scope part.0 arms) (λ all. Some (all.0, case_core (forms_of part.0) part.1 all.1)));
   against = λ scope ty. given (a.own scope) (λ part.
-      given (arms_against signatures scope part.0 arms ty) (λ all. Some (case_core part.0 part.1 all)));
+      given (arms_against signatures scope part.0 arms ty) (λ all. Some (case_core (forms_of part.0) part.1 all)));
 }
 
 abbrev pub carries_none : ℕ → Option Ty → Option ℕ

@@ -16,7 +16,7 @@ out_calls bound out = if_there (option_map (calls_below bound) out)
 abbrev pub known_in : {X : Type 0} → ℕ → Res-F X → Bool
 known_in bound (Res-F.Outs outs) = list_all (out_calls bound) outs
 known_in bound (Res-F.If test when_true when_false) = calls_below bound test
-known_in bound (Res-F.Case part ty arms) = calls_below bound part
+known_in bound (Res-F.Case part forms arms) = calls_below bound part
 known_in bound (Res-F.Let part body) = calls_below bound part
 known_in bound (Res-F.Raise exn part) = out_calls bound part
 
@@ -24,7 +24,7 @@ known_in bound (Res-F.Raise exn part) = out_calls bound part
 abbrev pub parts_known : Res-F Bool → Bool
 parts_known (Res-F.Outs outs) = true
 parts_known (Res-F.If test when_true when_false) = when_true && when_false
-parts_known (Res-F.Case part ty arms) = list_all (λ (arm : PatC × Bool). arm.1) arms
+parts_known (Res-F.Case part forms arms) = list_all (λ (arm : PatC × Bool). arm.1) arms
 parts_known (Res-F.Let part body) = body
 parts_known (Res-F.Raise exn part) = true
 

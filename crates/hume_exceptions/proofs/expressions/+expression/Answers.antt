@@ -83,8 +83,8 @@ expression_set-returns-in-Case t c = record {
       (c.or-in-Case.ensures exn ∙ or_two _ _ _ _
       (c.arms_set.ensures.each exn low ∙ ap (list_any (λ (arm : PatC × Expr). R arm.1)) c.as_slice-arms.ensures)
       (c.only_if-in-Case.ensures exn low
-      ∙ ap (λ b. (exn == NO_CASE) && not b) (c.are_complete-complete.ensures ∙ ap (λ (arms : List (PatC × Expr)). are_complete c.args.types.now c.in-Case.ty (filter_map (λ (arm : PatC × Expr). Some arm.0) arms)) c.as_slice-arms.ensures)))
-      ∙ sym (ap R c.in-Case.is ∙ raises-case c.args.types.now called exn c.in-Case.part c.in-Case.ty c.in-Case.arms);
+      ∙ ap (λ b. (exn == NO_CASE) && not b) (c.are_complete-complete.ensures ∙ ap (λ (arms : List (PatC × Expr)). are_complete c.args.types.now c.in-Case.forms (filter_map (λ (arm : PatC × Expr). Some arm.0) arms)) c.as_slice-arms.ensures)))
+      ∙ sym (ap R c.in-Case.is ∙ raises-case c.args.types.now called exn c.in-Case.part c.in-Case.forms c.in-Case.arms);
 }
 
 pub expression_set-returns-in-Call : goal.expression_set-returns-in-Call

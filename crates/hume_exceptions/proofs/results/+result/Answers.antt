@@ -30,6 +30,6 @@ result_may_raise-returns-in-Case t c = record {
       (c.or-in-Case.ensures exn ∙ or_two _ _ _ _
       (c.arms_set.ensures.each exn low ∙ ap (list_any (λ (arm : PatC × Res). R arm.1)) c.as_slice-arms.ensures)
       (c.only_if.ensures exn low
-      ∙ ap (λ b. (exn == NO_CASE) && not b) (c.are_complete-complete.ensures ∙ ap (λ (arms : List (PatC × Res)). are_complete c.args.core.now.types c.in-Case.ty (filter_map (λ (arm : PatC × Res). Some arm.0) arms)) c.as_slice-arms.ensures)))
-      ∙ sym (ap R c.in-Case.is ∙ raises-arms c.args.core.now exn c.in-Case.part c.in-Case.ty c.in-Case.arms);
+      ∙ ap (λ b. (exn == NO_CASE) && not b) (c.are_complete-complete.ensures ∙ ap (λ (arms : List (PatC × Res)). are_complete c.args.core.now.types c.in-Case.forms (filter_map (λ (arm : PatC × Res). Some arm.0) arms)) c.as_slice-arms.ensures)))
+      ∙ sym (ap R c.in-Case.is ∙ raises-arms c.args.core.now exn c.in-Case.part c.in-Case.forms c.in-Case.arms);
 }

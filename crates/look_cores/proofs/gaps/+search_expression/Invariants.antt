@@ -16,3 +16,9 @@ decreases-search_parts l = 3 * most size-Expr l.parts.now + 1
 
 abbrev pub decreases-search_raise : goal.decreases-search_raise
 decreases-search_raise l = 3 * part_size l.part.now + 1
+
+abbrev pub decreases-judge_case : goal.decreases-judge_case
+decreases-judge_case l = 3 * size-Expr l.part.now + 2
+
+abbrev pub decreases-known_quietly : goal.decreases-known_quietly
+decreases-known_quietly l = 3 * size-Expr l.part.now + 1
