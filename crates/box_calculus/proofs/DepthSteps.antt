@@ -1,9 +1,10 @@
 -- A depth is within another one where the depths of all parts are.
-use Rattle.std.proofs.Common.{◌≡◌, ℕ, zero, suc, ◌+◌, ◌-◌, ◌<◌, nat_le, ◌&&◌, Bool, true, false, max, List, Option, map, refl, ap, sym, ◌∙◌, arith}
+use Rattle.std.proofs.Common.{◌≡◌, ℕ, zero, suc, ◌+◌, ◌-◌, ◌<◌, ◌≤◌, nat_le, ◌&&◌, Bool, true, false, max, List, Option, map, refl, ap, sym, ◌∙◌, arith}
 use Rattle.std.proofs.lemmas.Bool.{leb-false, leb-true}
 use Rattle.std.proofs.lemmas.Grind.{common_steps}
 use Rattle.hume_base.specs.declared.types.Ty.{Ty}
 use Rattle.hume_base.specs.Sizes.{greatest}
+use Rattle.hume_model.specs.declared.core_tree.Forms.{Forms}
 use Rattle.hume_model.specs.declared.core_tree.Op.{Op}
 use Rattle.hume_model.specs.declared.core_tree.PatC.{PatC}
 use Rattle.hume_model.specs.declared.core_tree.Expr.{Expr, roll-Expr, map-Expr, fold-roll-Expr}
@@ -48,7 +49,23 @@ two_deeper a b n some = one_deeper (max a b) n some ∙ both_within a b (n - 1)
 pub three_deeper : (a b c n : ℕ) → 0 < n → nat_le (1 + max a (max b c)) n ≡ (nat_le a (n - 1) && (nat_le b (n - 1) && nat_le c (n - 1)))
 three_deeper a b c n some = two_deeper a (max b c) n some ∙ ap (λ x. nat_le a (n - 1) && x) (both_within b c (n - 1))
 
-depth_form : (e : Expr) (x : Expr-F Expr) → roll-Expr x ≡ e → expression_depth e ≡ 1 + deepest_part (map-Expr Expr ℕ expression_depth x)
+pub too_many_lets : (lets d n : ℕ) → n < lets → nat_le (lets + d) n ≡ false
+too_many_lets lets d n many = by (nat_le (lets + d) n) refl
+  where
+    by : (x : Bool) → nat_le (lets + d) n ≡ x → x ≡ false
+    by true p = (let hp = leb-true _ _ p in absurd (omega (arith, hp, many)))
+    by false p = refl
+
+pub below_lets : (lets d n : ℕ) → lets ≤ n → nat_le (lets + d) n ≡ nat_le d (n - lets)
+below_lets lets d n few = by (nat_le (lets + d) n) refl (nat_le d (n - lets)) refl
+  where
+    by : (x : Bool) → nat_le (lets + d) n ≡ x → (y : Bool) → nat_le d (n - lets) ≡ y → x ≡ y
+    by true p true q = refl
+    by true p false q = (let hp = leb-true _ _ p in let hq = leb-false _ _ q in absurd (omega (arith, hp, hq, few)))
+    by false p true q = (let hp = leb-false _ _ p in let hq = leb-true _ _ q in absurd (omega (arith, hp, hq, few)))
+    by false p false q = refl
+
+pub depth_form : (e : Expr) (x : Expr-F Expr) → roll-Expr x ≡ e → expression_depth e ≡ 1 + deepest_part (map-Expr Expr ℕ expression_depth x)
 depth_form e x is = ap expression_depth (sym is) ∙ fold-roll-Expr ℕ depth_step x
 
 within : (e : Expr) (n d : ℕ) → 0 < n → expression_depth e ≡ 1 + d → nat_le (expression_depth e) n ≡ nat_le d (n - 1)
@@ -70,15 +87,15 @@ prim_within op ty es n some = within _ n (greatest (map expression_depth es)) so
 pub call_within : (f : ℕ) (es : List Expr) (n : ℕ) → 0 < n → nat_le (expression_depth (expr.Call f es)) n ≡ nat_le (greatest (map expression_depth es)) (n - 1)
 call_within f es n some = within _ n (greatest (map expression_depth es)) some (depth_form _ (Expr-F.Call f es) (expr.rolls-Call f es))
 
-pub case_within : (e : Expr) (ty : Ty) (arms : List (PatC × Expr)) (n : ℕ) → 0 < n
-    → nat_le (expression_depth (expr.Case e ty arms)) n
+pub case_within : (e : Expr) (forms : Forms) (arms : List (PatC × Expr)) (n : ℕ) → 0 < n
+    → nat_le (expression_depth (expr.Case e forms arms)) n
     ≡ (nat_le (expression_depth e) (n - 1) && nat_le (deepest_arm (map (λ (arm : PatC × Expr). (arm.0, expression_depth arm.1)) arms)) (n - 1))
-case_within e ty arms n some =
+case_within e forms arms n some =
     let inside = map (λ (arm : PatC × Expr). (arm.0, expression_depth arm.1)) arms in
-    within _ n (max (expression_depth e) (deepest_arm inside)) some (depth_form _ (Expr-F.Case e ty arms) (expr.rolls-Case e ty arms))
+    within _ n (max (expression_depth e) (deepest_arm inside)) some (depth_form _ (Expr-F.Case e forms arms) (expr.rolls-Case e forms arms))
     ∙ both_within (expression_depth e) (deepest_arm inside) (n - 1)
 
-result_form : (r : Res) (x : Res-F Res) → roll-Res x ≡ r → result_depth r ≡ 1 + deepest_in_result (map-Res Res ℕ result_depth x)
+pub result_form : (r : Res) (x : Res-F Res) → roll-Res x ≡ r → result_depth r ≡ 1 + deepest_in_result (map-Res Res ℕ result_depth x)
 result_form r x is = ap result_depth (sym is) ∙ fold-roll-Res ℕ result_depth_step x
 
 result_within : (r : Res) (n d : ℕ) → 0 < n → result_depth r ≡ 1 + d → nat_le (result_depth r) n ≡ nat_le d (n - 1)
@@ -87,15 +104,17 @@ result_within r n d some is = ap (λ a. nat_le a n) is ∙ one_deeper d n some
 pub outs_within : (outs : List (Option Expr)) (n : ℕ) → 0 < n → nat_le (result_depth (res.Outs outs)) n ≡ nat_le (greatest (map out_depth outs)) (n - 1)
 outs_within outs n some = result_within _ n (greatest (map out_depth outs)) some (result_form _ (Res-F.Outs outs) (res.rolls-Outs outs))
 
-pub ways_within : (e : Expr) (ty : Ty) (arms : List (PatC × Res)) (n : ℕ) → 0 < n
-    → nat_le (result_depth (res.Case e ty arms)) n
+pub ways_within : (e : Expr) (forms : Forms) (arms : List (PatC × Res)) (n : ℕ) → 0 < n
+    → nat_le (result_depth (res.Case e forms arms)) n
     ≡ (nat_le (expression_depth e) (n - 1) && nat_le (deepest_arm (map (λ (arm : PatC × Res). (arm.0, result_depth arm.1)) arms)) (n - 1))
-ways_within e ty arms n some =
+ways_within e forms arms n some =
     let inside = map (λ (arm : PatC × Res). (arm.0, result_depth arm.1)) arms in
-    result_within _ n (max (expression_depth e) (deepest_arm inside)) some (result_form _ (Res-F.Case e ty arms) (res.rolls-Case e ty arms))
+    result_within _ n (max (expression_depth e) (deepest_arm inside)) some (result_form _ (Res-F.Case e forms arms) (res.rolls-Case e forms arms))
     ∙ both_within (expression_depth e) (deepest_arm inside) (n - 1)
 
 pub ruleset depth_steps = (common_steps, both_within, one_deeper, none_deeper, two_deeper, three_deeper)
+
+pub ruleset added_steps = (common_steps, too_many_lets, below_lets)
 
 pub ruleset expression_steps = (depth_steps, con_within, tuple_within, vect_within, prim_within, call_within, case_within)
 

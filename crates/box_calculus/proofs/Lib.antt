@@ -2,7 +2,9 @@ pub mod Counted
 pub mod Cuts
 pub mod DepthSteps
 pub mod Digits
+pub mod Grown
 pub mod KeptByLines
+pub mod KnownSteps
 pub mod OnRules
 pub mod PartForms
 pub mod ScriptLines

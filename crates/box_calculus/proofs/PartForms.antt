@@ -4,6 +4,7 @@ use Rattle.std.specs.List.{sum}
 use Rattle.std.proofs.lemmas.Grind.{common_steps}
 use Rattle.std.proofs.lemmas.List.Sums.{sum_by-cons}
 use Rattle.hume_base.specs.declared.types.Ty.{Ty}
+use Rattle.hume_model.specs.declared.core_tree.Forms.{Forms}
 use Rattle.hume_model.specs.declared.core_tree.Op.{Op}
 use Rattle.hume_model.specs.declared.core_tree.PatC.{PatC}
 use Rattle.hume_model.specs.declared.core_tree.Expr.{Expr, roll-Expr, map-Expr, fold-roll-Expr}
@@ -14,7 +15,7 @@ use Rattle.hume_model.specs.declared.core_tree.Res.TheOpen.{Res-F}
 use Rattle.hume_model.specs.declared.core_tree.Res.TheVariants as res
 use Rattle.calculus_laws.specs.Parts.{expression_parts, out_parts, parts_in_arms, parts_inside, parts_inside_result, parts_step, result_parts, result_parts_step}
 
-form : (e : Expr) (x : Expr-F Expr) → roll-Expr x ≡ e → expression_parts e ≡ 1 + parts_inside (map-Expr Expr ℕ expression_parts x)
+pub form : (e : Expr) (x : Expr-F Expr) → roll-Expr x ≡ e → expression_parts e ≡ 1 + parts_inside (map-Expr Expr ℕ expression_parts x)
 form e x is = ap expression_parts (sym is) ∙ fold-roll-Expr ℕ parts_step x
 
 pub con_parts : (c : ℕ) (es : List Expr) → expression_parts (expr.Con c es) ≡ 1 + sum (map expression_parts es)
@@ -32,19 +33,19 @@ prim_parts op ty es = form _ (Expr-F.Prim op ty es) (expr.rolls-Prim op ty es)
 pub call_parts : (f : ℕ) (es : List Expr) → expression_parts (expr.Call f es) ≡ 1 + sum (map expression_parts es)
 call_parts f es = form _ (Expr-F.Call f es) (expr.rolls-Call f es)
 
-pub case_parts : (e : Expr) (ty : Ty) (arms : List (PatC × Expr))
-    → expression_parts (expr.Case e ty arms) ≡ 1 + (expression_parts e + parts_in_arms (map (λ (arm : PatC × Expr). (arm.0, expression_parts arm.1)) arms))
-case_parts e ty arms = form _ (Expr-F.Case e ty arms) (expr.rolls-Case e ty arms)
+pub case_parts : (e : Expr) (forms : Forms) (arms : List (PatC × Expr))
+    → expression_parts (expr.Case e forms arms) ≡ 1 + (expression_parts e + parts_in_arms (map (λ (arm : PatC × Expr). (arm.0, expression_parts arm.1)) arms))
+case_parts e forms arms = form _ (Expr-F.Case e forms arms) (expr.rolls-Case e forms arms)
 
-result_form : (r : Res) (x : Res-F Res) → roll-Res x ≡ r → result_parts r ≡ 1 + parts_inside_result (map-Res Res ℕ result_parts x)
+pub result_form : (r : Res) (x : Res-F Res) → roll-Res x ≡ r → result_parts r ≡ 1 + parts_inside_result (map-Res Res ℕ result_parts x)
 result_form r x is = ap result_parts (sym is) ∙ fold-roll-Res ℕ result_parts_step x
 
 pub outs_parts : (outs : List (Option Expr)) → result_parts (res.Outs outs) ≡ 1 + sum (map out_parts outs)
 outs_parts outs = result_form _ (Res-F.Outs outs) (res.rolls-Outs outs)
 
-pub ways_parts : (e : Expr) (ty : Ty) (arms : List (PatC × Res))
-    → result_parts (res.Case e ty arms) ≡ 1 + (expression_parts e + parts_in_arms (map (λ (arm : PatC × Res). (arm.0, result_parts arm.1)) arms))
-ways_parts e ty arms = result_form _ (Res-F.Case e ty arms) (res.rolls-Case e ty arms)
+pub ways_parts : (e : Expr) (forms : Forms) (arms : List (PatC × Res))
+    → result_parts (res.Case e forms arms) ≡ 1 + (expression_parts e + parts_in_arms (map (λ (arm : PatC × Res). (arm.0, result_parts arm.1)) arms))
+ways_parts e forms arms = result_form _ (Res-F.Case e forms arms) (res.rolls-Case e forms arms)
 
 module _ {X : Type 0} (parts : X → ℕ) where
   next : (xs : List X) (i : ℕ) (x : X) → i < length xs → sum (map parts (drop i xs)) ≡ parts (get_or xs i x) + sum (map parts (drop (i + 1) xs))

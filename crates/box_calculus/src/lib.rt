@@ -15,8 +15,10 @@
 //! It knows cores, steps and their lines. It doesn't know sources, where a script comes from, or who asks for it.
 #![tactic(auto)]
 
+mod added;
 mod apart;
 mod depths;
+mod known;
 mod laws;
 mod lines;
 mod names;
@@ -26,6 +28,7 @@ mod output;
 mod parts;
 mod rewriting;
 mod scripts;
+mod sizes;
 mod swap;
 mod unfold;
 mod variables;

@@ -14,7 +14,7 @@ use std::alloc::AllocError;
 /// How many parts the expression has.
 #[cycle(count_parts)]
 #[tactic(auto, using(crate::proofs::PartForms::expression_forms))]
-fn count_parts(e: &Expr) -> Result<u32, AllocError>
+pub(crate) fn count_parts(e: &Expr) -> Result<u32, AllocError>
     ensures { IfOk result (λ count. count ≡ expression_parts e.now) }
 {
     match e {

@@ -1,12 +1,16 @@
 //! The call that makes a step.
 ghost use Rattle.std.specs.Prelude.{◌≡◌, ◌⊎◌, ◌<◌, IfOk, IfErr, IfSome, OnOk, None, Some, length, slice_get, slice_set};
+ghost use Rattle.std.specs.Option.{option_map};
 ghost use Rattle.calculus_laws.specs.declared.step.CalcError.TheVariants.{NoMemory};
 ghost use Rattle.calculus_laws.specs.Boxes.{box_at, with_box};
 ghost use Rattle.calculus_laws.specs.Naming.{calling_box, named_function, named_output, output_at, output_refusal, variables};
 ghost use Rattle.calculus_laws.specs.Swapping.{swap_refusal, swapped_box};
 ghost use Rattle.calculus_laws.specs.Steps.{IsOnRule, refusal, rewritten};
+ghost use Rattle.box_calculus.specs.inner.Known.{IsKnown};
 
+use crate::known::{Known, expected_size, known_most};
 use crate::naming::name_output;
+use crate::sizes::Size;
 use crate::swap::swap_rules;
 use crate::unfold::{unfold_rule, variable_count};
 use calculus_laws::{CalcError, Step};
@@ -21,22 +25,56 @@ pub fn rewrite(alloc: Global, core: Core, step: &Step) -> Result<Core, CalcError
     ensures allowed { OnOk result (refusal core step.now ≡ None) }
     ensures refused { IfErr result (λ error. (error ≡ NoMemory) ⊎ (refusal core step.now ≡ Some error)) }
 {
+    let (new, _) = rewrite_known(alloc, core, step, None)?;
+    Ok(new)
+}
+
+/// The same, where something is known of the result of a rule: a step that unfolds a call in it then looks only at what it changes. It
+/// gives what is known after the step.
+pub(crate) fn rewrite_known(
+    alloc: Global,
+    core: Core,
+    step: &Step,
+    known: Option<Known>,
+) -> Result<(Core, Option<Known>), CalcError>
+    requires step { IsOnRule core step.now }
+    requires known { IfSome known (IsKnown core) }
+    ensures new { IfOk result (λ made. made.0 ≡ rewritten core step.now) }
+    ensures known { IfOk result (λ made. IfSome made.1 (IsKnown made.0)) }
+    ensures allowed { OnOk result (refusal core step.now ≡ None) }
+    ensures refused { IfErr result (λ error. (error ≡ NoMemory) ⊎ (refusal core step.now ≡ Some error)) }
+{
     match step {
-        Step::Unfold { node, rule } => unfold_in(alloc, core, *node, *rule),
-        Step::Swap { node, rule } => swap_in(alloc, core, *node, *rule),
-        Step::Name { node, rule, name } => name_in(alloc, core, *node, *rule, name),
+        Step::Unfold { node, rule } => unfold_in(alloc, core, *node, *rule, known),
+        Step::Swap { node, rule } => {
+            let new = swap_in(alloc, core, *node, *rule)?;
+            Ok((new, None))
+        }
+        Step::Name { node, rule, name } => {
+            let new = name_in(alloc, core, *node, *rule, name)?;
+            Ok((new, None))
+        }
     }
 }
 
 #[tactic(auto, using(crate::proofs::Unfolded::unfold_steps))]
-fn unfold_in(alloc: Global, core: Core, node: u32, rule: u32) -> Result<Core, CalcError>
-    requires { IsOnRule core (Step.Unfold node rule) }
-    ensures new { IfOk result (λ new. new ≡ rewritten core (Step.Unfold node rule)) }
+fn unfold_in(
+    alloc: Global,
+    core: Core,
+    node: u32,
+    rule: u32,
+    known: Option<Known>,
+) -> Result<(Core, Option<Known>), CalcError>
+    requires step { IsOnRule core (Step.Unfold node rule) }
+    requires known { IfSome known (IsKnown core) }
+    ensures new { IfOk result (λ made. made.0 ≡ rewritten core (Step.Unfold node rule)) }
+    ensures known { IfOk result (λ made. IfSome made.1 (IsKnown made.0)) }
     ensures allowed { OnOk result (refusal core (Step.Unfold node rule) ≡ None) }
     ensures refused { IfErr result (λ error.
         (error ≡ NoMemory) ⊎ (refusal core (Step.Unfold node rule) ≡ Some error)) }
 {
     let scope = rule_scope(alloc, &core, node, rule)?;
+    let most = known_most(core.funs.as_slice(), known)?;
     let Core {
         types,
         exns,
@@ -45,17 +83,40 @@ fn unfold_in(alloc: Global, core: Core, node: u32, rule: u32) -> Result<Core, Ca
         wires,
     } = core;
     let mut nodes = nodes.into_vec();
-    match &mut nodes[node as usize] {
-        NodeC::Rules(b) => unfold_rule(alloc, funs.as_slice(), b, rule, scope)?,
+    let size = match &mut nodes[node as usize] {
+        NodeC::Rules(b) => unfold_rule(
+            alloc,
+            funs.as_slice(),
+            b,
+            rule,
+            scope,
+            expected_size(known, node, rule),
+        )?,
         _ => unreachable!(),
-    }
-    Ok(Core {
+    };
+    let new = Core {
         types,
         exns,
         funs,
         nodes: List::from_vec(nodes),
         wires,
-    })
+    };
+    Ok((new, known_after(node, rule, size, most)))
+}
+
+// What is known of a rule whose result is within the size, if it is known how much a function adds.
+fn known_after(node: u32, rule: u32, size: Size, most: Option<Size>) -> Option<Known>
+    ensures { result ≡ option_map (λ most. record { node = node; rule = rule; size = size; most = most }) most }
+{
+    match most {
+        None => None,
+        Some(most) => Some(Known {
+            node,
+            rule,
+            size,
+            most,
+        }),
+    }
 }
 
 // How many variables the rule has.

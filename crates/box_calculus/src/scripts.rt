@@ -3,9 +3,11 @@ ghost use Rattle.std.specs.Prelude.{◌≡◌, ◌⊎◌, ◌≤◌, ◌<◌, �
 ghost use Rattle.std.specs.List.{position};
 ghost use Rattle.box_calculus.specs.declared.scripts.ScriptError.TheVariants.{NoMemory as OutOfMemory};
 ghost use Rattle.box_calculus.specs.Scripts.{is_newline, line_scripted, script_lines, scripted};
+ghost use Rattle.box_calculus.specs.inner.Known.{IsKnown};
 
+use crate::known::Known;
 use crate::lines::{StepError, read_step};
-use crate::rewriting::rewrite;
+use crate::rewriting::rewrite_known;
 use calculus_laws::CalcError;
 use hume_base::limits::MAX_NODES;
 use hume_model::Core;
@@ -37,11 +39,12 @@ pub fn run_script(alloc: Global, mut core: Core, script: &[u8]) -> Result<Core, 
     ensures new { IfOk result (λ new. scripted core script.now ≡ Ok new) }
     ensures refused { IfErr result (λ error. (error ≡ OutOfMemory) ⊎ (scripted core script.now ≡ Err error)) }
 {
+    let mut known = None;
     let mut number = 1;
     let mut rest = script;
     'lines: while !rest.is_empty() {
         let (line, after) = first_line(rest);
-        core = make_line(alloc, core, number, line)?;
+        (core, known) = make_line(alloc, core, number, line, known)?;
         number += 1;
         rest = after;
     }
@@ -77,13 +80,21 @@ fn is_too_much(number: u32, line: &[u8]) -> bool
     number > MAX_SCRIPT_LINES || line.len() > MAX_SCRIPT_LINE_BYTES
 }
 
-// The core that the step of one line makes.
+// The core that the step of one line makes, and what is known of it.
 #[tactic(auto, using(crate::proofs::OnRules::on_rule, crate::proofs::KeptByLines::line_nodes))]
-fn make_line(alloc: Global, core: Core, number: u32, line: &[u8]) -> Result<Core, ScriptError>
-    requires { length core.nodes ≤ MAX_NODES }
-    ensures new { IfOk result (λ new. line_scripted number core line.now ≡ Ok new) }
+fn make_line(
+    alloc: Global,
+    core: Core,
+    number: u32,
+    line: &[u8],
+    known: Option<Known>,
+) -> Result<(Core, Option<Known>), ScriptError>
+    requires nodes { length core.nodes ≤ MAX_NODES }
+    requires known { IfSome known (IsKnown core) }
+    ensures new { IfOk result (λ made. line_scripted number core line.now ≡ Ok made.0) }
+    ensures known { IfOk result (λ made. IfSome made.1 (IsKnown made.0)) }
     ensures few { OnOk result (number ≤ MAX_SCRIPT_LINES) }
-    ensures nodes { IfOk result (λ new. length new.nodes ≤ MAX_NODES) }
+    ensures nodes { IfOk result (λ made. length made.0.nodes ≤ MAX_NODES) }
     ensures refused { IfErr result (λ error. (error ≡ OutOfMemory) ⊎ (line_scripted number core line.now ≡ Err error)) }
 {
     if is_too_much(number, line) {
@@ -94,8 +105,8 @@ fn make_line(alloc: Global, core: Core, number: u32, line: &[u8]) -> Result<Core
         Err(StepError::Bad) => return Err(ScriptError::Bad { line: number }),
         Err(StepError::NoMemory) => return Err(ScriptError::NoMemory),
     };
-    match rewrite(alloc, core, &step) {
-        Ok(new) => Ok(new),
+    match rewrite_known(alloc, core, &step, known) {
+        Ok(made) => Ok(made),
         Err(CalcError::NoMemory) => Err(ScriptError::NoMemory),
         Err(cause) => Err(ScriptError::Refused {
             cause,

@@ -2,21 +2,22 @@
 ghost use Rattle.std.specs.Prelude.{◌≡◌, ◌⊎◌, ◌<◌, IfOk, IfErr, IfSome, OnOk, Some, None, length, slice_get, slice_set};
 ghost use Rattle.calculus_laws.specs.declared.step.CalcError.TheVariants.{NoMemory as OutOfMemory};
 ghost use Rattle.calculus_laws.specs.Naming.{variables};
-ghost use Rattle.calculus_laws.specs.Unfolding.{has_room, unfold_refusal};
+ghost use Rattle.calculus_laws.specs.Unfolding.{unfold_refusal};
 ghost use Rattle.calculus_unfolding.specs.inner.Changes.{alone, result_changed};
+ghost use Rattle.box_calculus.specs.inner.Sizes.{IsWithin};
 ghost use Rattle.box_calculus.specs.inner.Unfolded.{result_refusal, rule_changed};
 
-use crate::depths::result_is_within;
-use crate::parts::count_result_parts;
+use crate::sizes::{Size, allowed_size};
 use crate::variables::rule_variables;
-use calculus_laws::{CalcError, MAX_RESULT_DEPTH, MAX_RESULT_PARTS};
+use calculus_laws::CalcError;
 use calculus_unfolding::{count, unfold_result};
 use hume_base::{List, Types};
 use hume_model::{BoxC, FunC, Res};
 use std::alloc::{AllocError, Global};
 use std::mem;
 
-/// Unfolds the first call that can be unfolded in the result of a rule with `scope` variables. A refusal may leave the rule changed.
+/// Unfolds the first call that can be unfolded in the result of a rule with `scope` variables, where the new result is within what is
+/// expected, if anything is. It gives a size that the new result is within. A refusal may leave the rule changed.
 #[tactic(auto, using(crate::proofs::Unfolded::refusal_steps))]
 pub(crate) fn unfold_rule(
     alloc: Global,
@@ -24,18 +25,29 @@ pub(crate) fn unfold_rule(
     b: &mut BoxC,
     rule: u32,
     scope: u32,
-) -> Result<(), CalcError>
-    requires { rule < length b.old.rules }
+    expected: Option<Size>,
+) -> Result<Size, CalcError>
+    requires rule { rule < length b.old.rules }
+    requires expected { IfSome expected (λ size. IfSome (slice_get b.old.rules rule) (λ old. IfSome (rule_changed (alone funs.now) scope old) (λ new.
+        IsWithin size new.result))) }
     ensures new { OnOk result (IfSome (slice_get b.old.rules rule) (λ old. IfSome (rule_changed (alone funs.now) scope old) (λ new.
         b.new ≡ record b.old { rules = slice_set b.old.rules rule new }))) }
     ensures allowed { OnOk result (IfSome (slice_get b.old.rules rule) (λ old. unfold_refusal (rule_changed (alone funs.now) scope old) ≡ None)) }
+    ensures within { IfOk result (λ size. IfSome (slice_get b.old.rules rule) (λ old. IfSome (rule_changed (alone funs.now) scope old) (λ new.
+        IsWithin size new.result))) }
     ensures refused { IfErr result (λ error. (error ≡ OutOfMemory)
         ⊎ IfSome (slice_get b.old.rules rule) (λ old. unfold_refusal (rule_changed (alone funs.now) scope old) ≡ Some error)) }
 {
     let mut rules = mem::replace(&mut b.rules, List::new(alloc)).into_vec();
-    unfold_allowed(alloc, funs, &mut rules[rule as usize].result, scope)?;
+    let size = unfold_allowed(
+        alloc,
+        funs,
+        &mut rules[rule as usize].result,
+        scope,
+        expected,
+    )?;
     b.rules = List::from_vec(rules);
-    Ok(())
+    Ok(size)
 }
 
 // Unfolds the first call of the result that can be unfolded.
@@ -44,27 +56,22 @@ fn unfold_allowed(
     funs: &[FunC],
     given: &mut Res,
     scope: u32,
-) -> Result<(), CalcError>
+    expected: Option<Size>,
+) -> Result<Size, CalcError>
+    requires { IfSome expected (λ size. IfSome (result_changed (alone funs.now) scope given.old) (IsWithin size)) }
     ensures new { OnOk result (result_changed (alone funs.now) scope given.old ≡ Some given.new) }
     ensures allowed { OnOk result (result_refusal (result_changed (alone funs.now) scope given.old) ≡ None) }
+    ensures within { IfOk result (λ size. IsWithin size given.new) }
     ensures refused { IfErr result (λ error.
         (error ≡ OutOfMemory) ⊎ (result_refusal (result_changed (alone funs.now) scope given.old) ≡ Some error)) }
 {
-    if unfold_result(alloc, funs, given, scope)? && has_room(given)? {
-        Ok(())
-    } else {
-        Err(CalcError::CannotUnfold)
+    if !unfold_result(alloc, funs, given, scope)? {
+        return Err(CalcError::CannotUnfold);
     }
-}
-
-// Whether the result is no deeper than is allowed, and has no more parts. Depth first: a count goes through all of its levels.
-fn has_room(given: &Res) -> Result<bool, AllocError>
-    ensures { IfOk result (λ room. room ≡ has_room given.now) }
-{
-    if !result_is_within(given, MAX_RESULT_DEPTH) {
-        return Ok(false);
+    match allowed_size(given, expected)? {
+        None => Err(CalcError::CannotUnfold),
+        Some(size) => Ok(size),
     }
-    Ok(count_result_parts(given)? <= MAX_RESULT_PARTS)
 }
 
 /// How many variables a rule has.

@@ -1,39 +1,70 @@
-use Rattle.std.proofs.Common.{◌≡◌, None, sym, ◌∙◌, rules}
+use Rattle.std.proofs.Common.{◌≡◌, None, sym, ◌∙◌, rules, subst}
+use Rattle.std.specs.Prelude.{IfSome}
 use Rattle.std.proofs.lemmas.Result.{err_from_is_err_and}
+use Rattle.box_calculus.specs.inner.Sizes.{AddWithin}
+use Rattle.box_calculus.proofs.KnownSteps.{expected_holds, known_after, most_holds}
 use Rattle.box_calculus.proofs.Unfolded.{box_there, placed, refusal_is, refused_is, rewritten_is, rule_within}
 use Rattle.box_calculus.proofs.rewriting.unfold_in.Goals as goal
 
 pub returns-clause-allowed : goal.returns-clause-allowed
 returns-clause-allowed c =
     let b = c.in-Rules.b in
-    let same : c.as_slice.result.now ≡ c.args.core.funs = search rules in
+    let same : c.as_slice-in-Rules.result.now ≡ c.args.core.funs = search rules in
     let there =
-    box_there c.args.core c.args.node c.requires.b b c.into_vec-nodes.result.items c.index_mut.result.now c.requires.there (search rules) c.index_mut.ensures.value
+    box_there c.args.core c.args.node c.requires.step.b b c.into_vec-nodes.result.items c.index_mut.result.now c.requires.step.there (search rules) c.index_mut.ensures.value
     c.in-Rules.is in
-    let within = rule_within c.args.core c.args.node c.args.rule c.requires.b b c.requires.there there c.requires.rule in
-    refusal_is c.args.core c.args.node c.args.rule c.in_ok-scope.scope b c.as_slice.result.now same None there within c.in_ok-scope.ensures
-    c.in_ok-unfold_rule-in-Rules.ensures.allowed
+    let within = rule_within c.args.core c.args.node c.args.rule c.requires.step.b b c.requires.step.there there c.requires.step.rule in
+    refusal_is c.args.core c.args.node c.args.rule c.in_ok-scope.scope b c.as_slice-in-Rules.result.now same None there within c.in_ok-scope.ensures
+    c.in_ok-size-in-Rules.ensures.allowed
 
 pub returns-clause-new : goal.returns-clause-new
 returns-clause-new c =
     let b = c.in-Rules.b in
-    let same : c.as_slice.result.now ≡ c.args.core.funs = search rules in
+    let same : c.as_slice-in-Rules.result.now ≡ c.args.core.funs = search rules in
     let there =
-    box_there c.args.core c.args.node c.requires.b b c.into_vec-nodes.result.items c.index_mut.result.now c.requires.there (search rules) c.index_mut.ensures.value
+    box_there c.args.core c.args.node c.requires.step.b b c.into_vec-nodes.result.items c.index_mut.result.now c.requires.step.there (search rules) c.index_mut.ensures.value
     c.in-Rules.is in
-    let within = rule_within c.args.core c.args.node c.args.rule c.requires.b b c.requires.there there c.requires.rule in
+    let within = rule_within c.args.core c.args.node c.args.rule c.requires.step.b b c.requires.step.there there c.requires.step.rule in
     placed c.args.core c.args.node c.unfold_rule.new.b _ _ _ _ _ (search rules) (search rules) (search rules) (search rules) (search rules)
-    ∙ sym (rewritten_is c.args.core c.args.node c.args.rule c.in_ok-scope.scope b c.as_slice.result.now same c.unfold_rule.new.b there within c.in_ok-scope.ensures
-    c.in_ok-unfold_rule-in-Rules.ensures.allowed c.in_ok-unfold_rule-in-Rules.ensures.new)
+    ∙ sym (rewritten_is c.args.core c.args.node c.args.rule c.in_ok-scope.scope b c.as_slice-in-Rules.result.now same c.unfold_rule.new.b there within c.in_ok-scope.ensures
+    c.in_ok-size-in-Rules.ensures.allowed c.in_ok-size-in-Rules.ensures.new)
 
-pub returns-in_err-unfold_rule-in-Rules-clause-refused : goal.returns-in_err-unfold_rule-in-Rules-clause-refused
-returns-in_err-unfold_rule-in-Rules-clause-refused c =
-    let p = err_from_is_err_and c.from_residual-in_err-unfold_rule-in-Rules.result c.from_residual-in_err-unfold_rule-in-Rules.ensures.1 in
+pub returns-in_err-size-in-Rules-clause-refused : goal.returns-in_err-size-in-Rules-clause-refused
+returns-in_err-size-in-Rules-clause-refused c =
+    let p = err_from_is_err_and c.from_residual-in_err-size-in-Rules.result c.from_residual-in_err-size-in-Rules.ensures.1 in
     let b = c.in-Rules.b in
-    let same : c.as_slice.result.now ≡ c.args.core.funs = search rules in
+    let same : c.as_slice-in-Rules.result.now ≡ c.args.core.funs = search rules in
     let there =
-    box_there c.args.core c.args.node c.requires.b b c.into_vec-nodes.result.items c.index_mut.result.now c.requires.there (search rules) c.index_mut.ensures.value
+    box_there c.args.core c.args.node c.requires.step.b b c.into_vec-nodes.result.items c.index_mut.result.now c.requires.step.there (search rules) c.index_mut.ensures.value
     c.in-Rules.is in
-    let within = rule_within c.args.core c.args.node c.args.rule c.requires.b b c.requires.there there c.requires.rule in
-    rw (p.1, p.2) (refused_is c.args.core c.args.node c.args.rule c.in_ok-scope.scope b c.as_slice.result.now same c.in_err-unfold_rule-in-Rules.field-0.0 there
-    within c.in_ok-scope.ensures c.in_err-unfold_rule-in-Rules.ensures.refused)
+    let within = rule_within c.args.core c.args.node c.args.rule c.requires.step.b b c.requires.step.there there c.requires.step.rule in
+    rw (p.1, p.2) (refused_is c.args.core c.args.node c.args.rule c.in_ok-scope.scope b c.as_slice-in-Rules.result.now same c.in_err-size-in-Rules.field-0.0 there
+    within c.in_ok-scope.ensures c.in_err-size-in-Rules.ensures.refused)
+
+pub known_most-requires : goal.known_most-requires
+known_most-requires c =
+    let same : c.as_slice.result.now ≡ c.args.core.funs = search rules in
+    most_holds c.args.core c.as_slice.result.now c.args.known same c.requires.known
+
+pub unfold_rule-requires-clause-expected : goal.unfold_rule-requires-clause-expected
+unfold_rule-requires-clause-expected c =
+    let b = c.in-Rules.b in
+    let same : c.as_slice-in-Rules.result.now ≡ c.args.core.funs = search rules in
+    let there =
+    box_there c.args.core c.args.node c.requires.step.b b c.into_vec-nodes.result.items c.index_mut.result.now c.requires.step.there (search rules) c.index_mut.ensures.value
+    c.in-Rules.is in
+    expected_holds c.as_slice-in-Rules.result.now c.args.node c.args.rule c.in_ok-scope.scope c.args.core b c.args.known c.expected_size.result same there
+    c.requires.known c.expected_size.ensures
+
+pub returns-clause-known : goal.returns-clause-known
+returns-clause-known c =
+    let b = c.in-Rules.b in
+    let first : c.as_slice.result.now ≡ c.args.core.funs = search rules in
+    let there =
+    box_there c.args.core c.args.node c.requires.step.b b c.into_vec-nodes.result.items c.index_mut.result.now c.requires.step.there (search rules) c.index_mut.ensures.value
+    c.in-Rules.is in
+    let within = rule_within c.args.core c.args.node c.args.rule c.requires.step.b b c.requires.step.there there c.requires.step.rule in
+    known_after c.as_slice-in-Rules.result.now c.args.node c.args.rule c.in_ok-scope.scope c.args.core _ b c.unfold_rule.new.b c.in_ok-size-in-Rules.size there
+    (placed c.args.core c.args.node c.unfold_rule.new.b _ _ _ _ _ (search rules) (search rules) (search rules) (search rules) (search rules))
+    c.in_ok-most.most c.known_after.result c.known_after.ensures (subst (λ fs. IfSome c.in_ok-most.most (λ it. AddWithin it fs)) first c.in_ok-most.ensures)
+    within c.in_ok-size-in-Rules.ensures.allowed c.in_ok-size-in-Rules.ensures.new c.in_ok-size-in-Rules.ensures.within

@@ -1,0 +1,26 @@
+-- What is known of the result of a rule.
+use Rattle.std.specs.Prelude.{ℕ, ◌+◌, ◌==◌, ◌&&◌, Option, Some, None, slice_get, IfSome, if◌then◌else◌}
+use Rattle.hume_model.specs.declared.core_tree.RuleC.{RuleC}
+use Rattle.hume_model.specs.declared.core_tree.BoxC.{BoxC}
+use Rattle.hume_model.specs.declared.core_tree.Core.{Core}
+use Rattle.calculus_laws.specs.Boxes.{box_at}
+use Rattle.box_calculus.specs.declared.sizes.Size.{Size}
+use Rattle.box_calculus.specs.declared.known.Known.{Known}
+use Rattle.box_calculus.specs.inner.Sizes.{AddWithin, IsWithin}
+
+-- the rule of a box that may be there has a result within the size, if there is such a rule
+abbrev pub RuleWithin : ℕ → Size → BoxC → Type 0
+RuleWithin rule size b = IfSome (slice_get b.rules rule) (λ (old : RuleC). IsWithin size old.result)
+
+-- the rule's result is within its size, and no function adds more than is known
+pub record IsKnown (core : Core) (known : Known) : Type 0 where
+  pub size : IfSome (box_at core known.node) (RuleWithin known.rule known.size)
+  pub most : AddWithin known.most core.funs
+
+-- both sizes together
+abbrev pub sum_of : Size → Size → Size
+sum_of first second = record { parts = first.parts + second.parts; depth = first.depth + second.depth }
+
+-- the size that the rule's result has at most after a step, if the rule is the known one
+abbrev pub grown : ℕ → ℕ → Known → Option Size
+grown node rule known = if known.node == node && known.rule == rule then Some (sum_of known.size known.most) else None

@@ -1,0 +1,48 @@
+//! What is known of the result of a rule that a step has just changed.
+ghost use Rattle.std.specs.Prelude.{◌≡◌, ◌+◌, IfOk, IfSome, Some};
+ghost use Rattle.std.specs.Option.{option_and_then};
+ghost use Rattle.box_calculus.specs.inner.Known.{grown};
+ghost use Rattle.box_calculus.specs.inner.Sizes.{AddWithin};
+
+use crate::added::most_added;
+use crate::sizes::Size;
+use hume_model::FunC;
+use std::alloc::AllocError;
+
+/// The result of the rule is within `size`, and an unfolded call adds no more than `most`.
+#[derive(Clone, Copy)]
+pub(crate) struct Known {
+    pub node: u32,
+    pub rule: u32,
+    pub size: Size,
+    pub most: Size,
+}
+
+/// The size that the rule's result has at most after a call in it is unfolded, if something is known of it.
+pub(crate) fn expected_size(known: Option<Known>, node: u32, rule: u32) -> Option<Size>
+    ensures { IfSome result (λ size. option_and_then (grown node rule) known ≡ Some size) }
+{
+    match known {
+        Some(known) if known.node == node && known.rule == rule => sum(known.size, known.most),
+        _ => None,
+    }
+}
+
+fn sum(first: Size, second: Size) -> Option<Size>
+    ensures { IfSome result (λ size. (size.parts ≡ first.parts + second.parts) × (size.depth ≡ first.depth + second.depth)) }
+{
+    let parts = first.parts.checked_add(second.parts)?;
+    let depth = first.depth.checked_add(second.depth)?;
+    Some(Size { parts, depth })
+}
+
+/// A size that no function adds more than, as it is known or as the functions say.
+pub(crate) fn known_most(funs: &[FunC], known: Option<Known>) -> Result<Option<Size>, AllocError>
+    requires { IfSome known (λ it. AddWithin it.most funs.now) }
+    ensures { IfOk result (λ most. IfSome most (λ size. AddWithin size funs.now)) }
+{
+    match known {
+        Some(known) => Ok(Some(known.most)),
+        None => most_added(funs),
+    }
+}
