@@ -3,16 +3,20 @@
 
 usage: bench/threads.py [--tool TOOL] [--calls N] [--halves A,B,..] [NET ..]
        bench/threads.py [--tool TOOL] [--calls N] unions
+       bench/threads.py [--tool TOOL] [--calls N] copies
 
-The nets are named in `NETS` and `OTHERS`; without a name all are timed. Those of `NETS` have boxes whose half step takes about 0.05, 0.2, 1,
-10 and 100 microseconds: HALVES picks among them, by their places from 0. Those of `OTHERS` are the demo and the controllers of examples/,
+The nets are named in `NETS` and `OTHERS`; without a name all are timed. Those of `NETS` have boxes whose half step takes about 0.1, 0.4, 1.5,
+25 and 200 microseconds: HALVES picks among them, by their places from 0. Those of `OTHERS` are the demo and the controllers of examples/,
 whose inputs are repeated. TOOL is the program of dist/ by default.
 
-Each time is the least of N calls (3), which are made in turn, and the time of a twentieth of the supersteps is taken off. `gain` is how many
-times faster so many workers are than one. Beside the nets of `NETS` stands the C program `threads.c` (pthreads, gcc -O2), with as many boxes
-in rings, a half step that takes as long, and a barrier behind each half superstep; `ahead` is how many times longer it takes.
+Each time is the least of N calls (5), which are made in turn, and the time of a twentieth of the supersteps is taken off. `gain` is how many
+times faster so many workers are than one. `worked` is how many workers worked in the second round: this script counts the threads that are
+started in it. `groups` and `crossing` are what the program `trials` tells of so many workers: groups of nodes, and wires between them.
+Beside the nets of `NETS` stands the C program `threads.c` (pthreads, gcc -O2), with as many boxes in rings, a half step that takes as long,
+and a barrier behind each half superstep; `ahead` is how many times longer it takes.
 
-`unions` times a superstep of a union of eight nets of 24 boxes beside one of a net alone.
+`unions` times a superstep of a union of eight nets of 24 boxes beside one of a net alone. `copies` says what the machine's processors give:
+how many times more supersteps 1, 2 and 4 calls of one worker make that run side by side.
 """
 import os
 import random
@@ -24,7 +28,8 @@ import time
 TOP = os.path.dirname(os.path.dirname(os.path.abspath(__file__)))
 WORKERS = 1, 2, 4, 8
 DOUBLINGS = 1, 3, 5, 9, 12
-SECONDS = 0.25
+SECONDS = 0.1
+ROUND = 64
 
 
 def functions(doublings):
@@ -106,36 +111,73 @@ CONTROLLERS = "traffic_lights", "lift", "debouncer", "crc8", "back_pressure", "v
 OTHERS = ("demo", *CONTROLLERS)
 
 
+# Writes a byte to the file STARTED for each thread that a program starts.
+COUNTER = r"""
+#define _GNU_SOURCE
+#include <dlfcn.h>
+#include <fcntl.h>
+#include <pthread.h>
+#include <stdlib.h>
+#include <unistd.h>
+int pthread_create(pthread_t *thread, const pthread_attr_t *how, void *(*work)(void *), void *given) {
+    int (*real)(pthread_t *, const pthread_attr_t *, void *(*)(void *), void *) = dlsym(RTLD_NEXT, "pthread_create");
+    int file = open(getenv("STARTED"), O_WRONLY | O_CREAT | O_APPEND, 0600);
+    if (file < 0 || write(file, ".", 1) != 1 || close(file) != 0) abort();
+    return real(thread, how, work, given);
+}
+"""
+
+
 class Timer:
     """Calls that are timed in a folder of their own."""
 
     def __init__(self, tool, calls, room):
         self.tool, self.calls, self.room = tool, calls, room
 
-    def seconds(self, words):
+    def seconds(self, words, **more):
         begun = time.perf_counter()
-        done = subprocess.run(words, cwd=self.room, stdout=subprocess.DEVNULL, stdin=subprocess.DEVNULL, check=False)
+        done = subprocess.run(words, cwd=self.room, stdout=subprocess.DEVNULL, stdin=subprocess.DEVNULL, check=False, **more)
         took = time.perf_counter() - begun
         if done.returncode not in (0, 3):
             sys.exit(f"{words} ended with {done.returncode}")
         return took
 
-    def least(self, calls, steps):
+    def least(self, calls, most):
         """For each call, a function of the supersteps, the least seconds a superstep."""
-        few = max(steps // 20, 1)
+        steps = [self.steps_for(call, most) for call in calls]
         shorts, longs = [[] for _ in calls], [[] for _ in calls]
         for _ in range(self.calls):
-            for call, short, long in zip(calls, shorts, longs):
+            for call, many, short, long in zip(calls, steps, shorts, longs):
+                few = max(many // 20, 1)
                 short.append(self.seconds(call(few)))
-                long.append(self.seconds(call(few + steps)))
-        return [max(min(long) - min(short), 1e-12) / steps for short, long in zip(shorts, longs)]
+                long.append(self.seconds(call(few + many)))
+        return [max(min(long) - min(short), 1e-12) / many for many, short, long in zip(steps, shorts, longs)]
 
     def steps_for(self, call, most):
-        """So many supersteps that one worker takes about a quarter of a second."""
+        """So many supersteps that the call takes about a tenth of a second."""
         steps = 20
         while steps < most and self.seconds(call(steps)) < SECONDS:
-            steps = min(steps * 4, most)
+            steps = min(steps * 3, most)
         return steps
+
+    def worked(self, call):
+        """How many workers worked in the second round of a call: one, and each thread that was started in it."""
+        told = os.path.join(self.room, "started")
+        counts = []
+        for steps in (ROUND, 2 * ROUND):
+            with open(told, "wb"):
+                pass
+            self.seconds(call(steps), env={**os.environ, "LD_PRELOAD": "./started.so", "STARTED": told})
+            counts.append(os.path.getsize(told))
+        return 1 + counts[1] - counts[0]
+
+    def groups(self, source, workers):
+        """Groups of nodes for so many workers, and the wires between them."""
+        trials = os.path.join(TOP, "crates", "trials", "out", "trials")
+        if workers == 1 or source is None or not os.path.exists(trials):
+            return "", ""
+        said = subprocess.run([trials, "groups", source, str(workers)], cwd=self.room, capture_output=True, text=True, check=True).stdout
+        return said.split()[1], said.split()[3]
 
 
 def native_rounds(timer, boxes, half):
@@ -145,12 +187,14 @@ def native_rounds(timer, boxes, half):
     return max(int(rounds * half * boxes / took), 1)
 
 
-def row(timer, name, half, calls, natives, steps):
-    times = timer.least(calls, steps)
-    beside = timer.least(natives, steps) if natives else [None] * len(times)
-    for workers, took, native in zip(WORKERS, times, beside):
+def row(timer, name, half, source, calls, natives, most):
+    times = timer.least([*calls, *natives], most)
+    beside = times[len(calls):] or [None] * len(calls)
+    for workers, call, took, native in zip(WORKERS, calls, times, beside):
         last = f" {native * 1e6:.2f} | {native / took:.2f} |" if native else "  |  |"
-        print(f"| {name} | {half} | {workers} | {took * 1e6:.2f} | {times[0] / took:.2f} |{last}", flush=True)
+        worked = timer.worked(call)
+        groups, crossing = timer.groups(source, worked)
+        print(f"| {name} | {half} | {workers} | {took * 1e6:.2f} | {times[0] / took:.2f} | {worked} | {groups} | {crossing} |{last}", flush=True)
 
 
 def net_rows(timer, name, halves):
@@ -160,20 +204,21 @@ def net_rows(timer, name, halves):
         with open(os.path.join(timer.room, "p"), "w", encoding="ascii") as file:
             file.write(net(DOUBLINGS[place], links))
         calls = [lambda steps, workers=workers: [timer.tool, "run", str(steps), str(workers), "p"] for workers in WORKERS]
-        steps = timer.steps_for(calls[0], 900_000)
-        half = timer.least(calls[:1], steps)[0] / boxes
+        half = timer.least(calls[:1], 900_000)[0] / boxes
         rounds = native_rounds(timer, boxes, half)
         natives = [lambda steps, workers=workers: ["./native", str(boxes), str(rounds), str(steps), str(workers)] for workers in WORKERS]
-        row(timer, name, f"{half * 1e6:.2f} us", calls, natives, steps)
+        row(timer, name, f"{half * 1e6:.2f} us", "p", calls, natives, 900_000)
 
 
 def other_row(timer, name):
     if name == "demo":
         calls = [lambda steps, workers=workers: [timer.tool, "demo", "7", str(steps), str(workers)] for workers in WORKERS]
+        source = None
     else:
         words = copied(timer.room, name)
         calls = [lambda steps, workers=workers: [timer.tool, "run", str(steps), str(workers), *words] for workers in WORKERS]
-    row(timer, name, "", calls, [], timer.steps_for(calls[0], 400_000))
+        source = words[0]
+    row(timer, name, "", source, calls, [], 400_000)
 
 
 def copied(room, name):
@@ -200,27 +245,49 @@ def unions(timer):
                 file.write(net(doublings, rings(24, 8)))
         run = [lambda steps, workers=workers: [timer.tool, "run", str(steps), str(workers), "p"] for workers in (1, 4)]
         union = [lambda steps, workers=workers: [timer.tool, "union", str(steps), str(workers), "8", *names] for workers in (1, 4)]
-        steps = timer.steps_for(union[0], 900_000)
-        one, four, eight, four_eight = timer.least([*run, *union], steps)
+        one, four, eight, four_eight = timer.least([*run, *union], 900_000)
         print(f"| {one / 24 * 1e6:.2f} us | {one * 1e6:.2f} us | {eight * 1e6:.2f} us | {eight / one / 8:.2f} | {four * 1e6:.2f} us "
               f"| {four_eight * 1e6:.2f} us | {four_eight / four / 4:.2f} |", flush=True)
 
 
+def copies(timer):
+    """Prints how many times more supersteps of the demo so many calls make side by side than one alone."""
+    call = [timer.tool, "demo", "7", "20000", "1"]
+
+    def side_by_side(count):
+        begun = time.perf_counter()
+        for each in [subprocess.Popen(call, stdout=subprocess.DEVNULL, stdin=subprocess.DEVNULL) for _ in range(count)]:
+            each.wait()
+        return time.perf_counter() - begun
+
+    took = {count: min(side_by_side(count) for _ in range(timer.calls)) for count in (1, 2, 4)}
+    print("| calls side by side | supersteps, times one call's |\n|---|---|")
+    for count, seconds in took.items():
+        print(f"| {count} | {count * took[1] / seconds:.2f} |")
+
+
+def build_counter(room):
+    with open(os.path.join(room, "started.c"), "w", encoding="ascii") as file:
+        file.write(COUNTER)
+    subprocess.run(["gcc", "-O2", "-shared", "-fPIC", "-o", "started.so", "started.c"], cwd=room, check=True)
+
+
 def main(words):
-    options = {"--tool": os.path.join(TOP, "dist", "hume-x86_64-linux"), "--calls": "3", "--halves": "0,1,2,3,4"}
+    options = {"--tool": os.path.join(TOP, "dist", "hume-x86_64-linux"), "--calls": "5", "--halves": "0,1,2,3,4"}
     while len(words) > 1 and words[0] in options:
         options[words[0]] = words[1]
         words = words[2:]
     names = words or [*NETS, *OTHERS]
-    if not all(name in NETS or name in OTHERS or name == "unions" for name in names):
+    if not all(name in NETS or name in OTHERS or name in ("unions", "copies") for name in names):
         sys.exit(__doc__)
     with tempfile.TemporaryDirectory() as room:
         timer = Timer(os.path.abspath(options["--tool"]), int(options["--calls"]), room)
         subprocess.run(["gcc", "-O2", "-pthread", "-o", os.path.join(room, "native"), os.path.join(TOP, "bench", "threads.c")], check=True)
-        if names == ["unions"]:
-            return unions(timer)
-        print(f"{len(os.sched_getaffinity(0))} processors.\n\n| net | half step | workers | us a superstep | gain | barrier, us | ahead |")
-        print("|---|---|---|---|---|---|---|")
+        if names in (["unions"], ["copies"]):
+            return unions(timer) if names == ["unions"] else copies(timer)
+        build_counter(room)
+        print(f"{len(os.sched_getaffinity(0))} processors.\n\n| net | half step | workers | us a superstep | gain | worked | groups | crossing | barrier, us | ahead |")
+        print("|---|---|---|---|---|---|---|---|---|---|")
         for name in names:
             if name in NETS:
                 net_rows(timer, name, [int(place) for place in options["--halves"].split(",")])

@@ -39,13 +39,34 @@ pub fn partition(
     let group_of = pack(alloc, pieces.work.as_slice(), pieces.count, count)?;
     let load = group_work(alloc, &pieces, group_of.as_slice(), count)?;
     let first = first_groups(alloc, load.as_slice(), workers)?;
-    let group = node_groups(
-        alloc,
-        plan.nodes,
-        pieces.of.as_slice(),
-        group_of.as_slice(),
-        count,
-    )?;
+    let numbers = node_numbers(alloc, plan.nodes, pieces.of.as_slice(), group_of.as_slice())?;
+    let group = node_groups(alloc, plan.nodes, numbers.as_slice(), count)?;
+    let groups = Grouping::of(alloc, plan, group, count)?;
+    let heaviest = heaviest_share(load.as_slice(), first.as_slice());
+    Ok(WorkerGroups {
+        groups,
+        first,
+        heaviest,
+    })
+}
+
+/// Makes groups by numbers that are given: a node's group is what its number leaves by `count`. All groups weigh the same. It takes memory.
+pub fn grouping_by(
+    alloc: Global,
+    plan: &Plan,
+    numbers: &[u32],
+    count: u32,
+    workers: u32,
+) -> Result<WorkerGroups, AllocError>
+    requires plan { IsPlan plan.now × (wires_of plan.now < 2 ^ 32) }
+    requires workers { (0 < workers) × (workers ≤ 2 ^ 16) }
+    requires count { 0 < count }
+    ensures groups { IfOk result (λ made. IsGrouping plan.now made.groups) }
+    ensures few { IfOk result (λ made. made.groups.count ≡ count) }
+{
+    let load = Vec::from_elem(alloc, 1u64, count as usize)?;
+    let first = first_groups(alloc, load.as_slice(), workers)?;
+    let group = node_groups(alloc, plan.nodes, numbers, count)?;
     let groups = Grouping::of(alloc, plan, group, count)?;
     let heaviest = heaviest_share(load.as_slice(), first.as_slice());
     Ok(WorkerGroups {
@@ -70,11 +91,24 @@ fn group_work(
 }
 
 // The group of each node: that of its piece.
-fn node_groups(
+fn node_numbers(
     alloc: Global,
     nodes: u32,
     piece_of: &[u32],
     group_of: &[u32],
+) -> Result<Vec<u32>, AllocError> {
+    let mut numbers = Vec::new(alloc);
+    for node in 0..nodes {
+        numbers.push(number_at(group_of, number_at(piece_of, node)))?;
+    }
+    Ok(numbers)
+}
+
+// Each number's remainder, so that it is below the count.
+fn node_groups(
+    alloc: Global,
+    nodes: u32,
+    numbers: &[u32],
     count: u32,
 ) -> Result<List<u32>, AllocError>
     requires { 0 < count }
@@ -82,8 +116,7 @@ fn node_groups(
 {
     let mut group = List::new(alloc);
     for node in 0..nodes {
-        // the remainder is the group itself, and shows that it is below the count
-        group.push(number_at(group_of, number_at(piece_of, node)) % count)?;
+        group.push(number_at(numbers, node) % count)?;
     }
     Ok(group)
 }

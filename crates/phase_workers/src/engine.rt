@@ -1,11 +1,12 @@
 //! An engine: the cells of a core's net, which makes supersteps by rounds.
-ghost use Rattle.std.specs.Prelude.{◌≡◌, ◌≤◌, ◌<◌, ◌*◌, ◌^◌, max, ℕ, List, [], ◌∷◌, length, map, slice_get, slice_set, Some, None, IfOk, OnOk, OnErr, IsErrOf};
+ghost use Rattle.std.specs.Prelude.{◌≡◌, ◌≤◌, ◌<◌, ◌*◌, ◌^◌, max, ℕ, List, [], ◌∷◌, length, map, slice_get, slice_set, Some, None, IfOk, IfSome, OnOk, OnErr, IsErrOf};
 ghost use Rattle.hume_base.specs.Flat.{flat};
 ghost use Rattle.hume_base.specs.Least.{IsLeast};
 ghost use Rattle.hume_base.specs.Sizes.{size_of};
 ghost use Rattle.hume_model.specs.declared.core_tree.WireC.{WireC as AnyWire};
 ghost use Rattle.hume_net.specs.Lockstep.{lockstep};
 ghost use Rattle.hume_net.specs.Nodes.{IsInputStream, IsOutputStream};
+ghost use Rattle.hume_net.specs.Plan.{plan_of};
 ghost use Rattle.hume_net.specs.Sides.{on_wire, part_of};
 ghost use Rattle.hume_net.specs.StatePlaces.{BoxesHandleAll};
 ghost use Rattle.hume_net.specs.Start.{start, no_values};
@@ -17,6 +18,7 @@ ghost use Rattle.hume_streams.specs.places.LineWrites.{line_writes};
 ghost use Rattle.hume_text.specs.Chunks.{bytes_in, room_of};
 ghost use Rattle.port_acts.specs.Acts.{write_each};
 ghost use Rattle.port_acts.specs.Ends.{Ends, never};
+ghost use Rattle.superstep_core.specs.Groups.{IsGrouping};
 ghost use Rattle.wiring_check.specs.Wires.{IsWiringOf};
 ghost use Rattle.box_costs.specs.CostRules.{BreaksCosts};
 ghost use Rattle.net_costs.specs.Steps.{peaks};
@@ -44,6 +46,7 @@ use std::alloc::{AllocError, Global};
 use std::marker::Model;
 use std::thread::Threads;
 use step_turns::{Gate, Sides};
+use superstep_core::Grouping;
 use wire_cells::WireCell;
 use wiring_check::Wiring;
 
@@ -200,6 +203,28 @@ impl Engine {
         begin_nodes(&mut self.nodes);
         begin_wires(&mut self.home);
         self.seen = self.seen.then(&Deed::Stepped(&self.core, steps));
+    }
+
+    /// Rounds by so many workers go by groups that are given: a node's is what its number leaves by `count`. A round gives the same by any
+    /// groups, and calls that compare this are what it is for. It takes memory.
+    pub fn divide(&mut self, numbers: &[u32], count: u32, workers: u32) -> Result<(), AllocError>
+        requires count { (0 < count) × (count ≤ 2 ^ 16) }
+        requires workers { (0 < workers) × (workers ≤ 2 ^ 16) }
+        ensures { self.new ≡ self.old }
+    {
+        let alloc = *self.nodes.allocator();
+        self.paths
+            .divide_by(alloc, &self.bare, numbers, count, workers)
+    }
+
+    /// The groups by which several workers go or went last, if any did.
+    pub fn groups(&self) -> Option<&Grouping>
+        ensures { IfSome result (λ groups. IsGrouping (plan_of (core_of self.now)) groups.now) }
+    {
+        match &self.paths.division {
+            Some(division) => Some(&division.groups),
+            None => None,
+        }
     }
 
     /// Writes each value that the output stream has taken as a line to the port at that place, by a write of its own, and then forgets

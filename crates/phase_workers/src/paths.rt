@@ -10,7 +10,7 @@ ghost use Rattle.turn_workers.specs.Divisions.{IsDivision};
 use crate::policy::Policy;
 use hume_model::Core;
 use hume_net::find_plan;
-use net_groups::partition;
+use net_groups::{grouping_by, partition};
 use std::alloc::{AllocError, Global};
 use step_turns::Sides;
 use turn_workers::Division;
@@ -54,6 +54,29 @@ impl Paths {
         let workers = self.policy.choose(alloc, core, steps, most);
         self.divide(alloc, core, workers);
         workers
+    }
+
+    /// Divides the net for so many workers by numbers that are given: a node's group is what its number leaves by `count`. It takes memory;
+    /// if there is none, nothing changes.
+    pub(crate) fn divide_by(
+        &mut self,
+        alloc: Global,
+        core: &Core,
+        numbers: &[u32],
+        count: u32,
+        workers: u32,
+    ) -> Result<(), AllocError>
+        requires plan { IsPlan (plan_of core.now) × (items_of (plan_of core.now) + 2 ^ 18 < 2 ^ 32) }
+        requires count { (0 < count) × (count ≤ 2 ^ 16) }
+        requires workers { (0 < workers) × (workers ≤ 2 ^ 16) }
+        requires paths { ArePaths core.now self.old }
+        ensures { ArePaths core.now self.new }
+    {
+        let plan = find_plan(alloc, core)?;
+        let made = grouping_by(alloc, &plan, numbers, count, workers)?;
+        let division = Division::make(alloc, plan, made.groups, made.first)?;
+        self.division = Some(division);
+        Ok(())
     }
 
     // Divides the net for so many workers, unless it is divided for so many.

@@ -1,4 +1,5 @@
 use crate::call::Call;
+use crate::groups::Groups;
 use crate::held_gate::Hold;
 
 /// What the words of the program ask for.
@@ -22,11 +23,18 @@ pub(crate) enum Form<'a> {
         source: &'a str,
         words: &'a [String],
     },
-    /// `round FIRST SECOND SOURCE STEPS WORKERS`: a round of an engine by itself, whose gate holds boxes.
+    /// `round FIRST SECOND SOURCE STEPS WORKERS [GROUPS SEED]`: a round of an engine by itself, whose gate holds boxes; by so many groups
+    /// of nodes that are chosen at random, if the last two are there.
     HeldRound {
         hold: Hold,
         source: &'a str,
         steps: u32,
+        workers: u32,
+        groups: Option<Groups>,
+    },
+    /// `groups SOURCE WORKERS`: how many groups the engine makes for so many workers, and how many wires lead from one into another.
+    Groups {
+        source: &'a str,
         workers: u32,
     },
     /// `claims`: claims of a node and its wire.
@@ -46,6 +54,7 @@ pub(crate) fn read_form(words: &[String]) -> Option<Form<'_>> {
         "net" => read_net(more),
         "held" => read_held_call(more),
         "round" => read_held_round(more),
+        "groups" => read_groups_of(more),
         "claims" if more.is_empty() => Some(Form::Claims),
         "text" if more.is_empty() => Some(Form::Text),
         _ => None,
@@ -84,13 +93,36 @@ fn read_held_call(words: &[String]) -> Option<Form<'_>> {
 }
 
 fn read_held_round(words: &[String]) -> Option<Form<'_>> {
-    let [first, second, source, steps, workers] = words else {
+    let [first, second, source, steps, workers, groups @ ..] = words else {
         return None;
     };
     Some(Form::HeldRound {
         hold: read_hold(first, second)?,
         source: source.as_str(),
         steps: number(steps)?,
+        workers: number(workers)?,
+        groups: read_groups(groups)?,
+    })
+}
+
+// The outer one is none where the words are wrong, and the inner one where there are none.
+fn read_groups(words: &[String]) -> Option<Option<Groups>> {
+    match words {
+        [] => Some(None),
+        [count, seed] => Some(Some(Groups {
+            count: number(count)?,
+            seed: number(seed)?,
+        })),
+        _ => None,
+    }
+}
+
+fn read_groups_of(words: &[String]) -> Option<Form<'_>> {
+    let [source, workers] = words else {
+        return None;
+    };
+    Some(Form::Groups {
+        source: source.as_str(),
         workers: number(workers)?,
     })
 }

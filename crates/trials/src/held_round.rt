@@ -6,6 +6,7 @@ ghost use Rattle.phase_workers.specs.Engines.{core_of, span_of, state_of};
 ghost use Rattle.trials.specs.inner.Sources.{IsOfSource};
 
 use crate::error::TrialError;
+use crate::groups::{Groups, divided, tell_groups};
 use crate::held_gate::{HeldGate, Hold};
 use box_compile::compile;
 use hume_front::Accepted;
@@ -14,6 +15,7 @@ use phase_workers::Engine;
 use std::alloc::{AllocError, Global};
 use std::io;
 use std::thread::Threads;
+use turn_workers::OpenGate;
 
 // More workers are never asked for.
 const MOST_WORKERS: u32 = 65_536;
@@ -28,13 +30,61 @@ pub(crate) fn hold_round<R: Threads + Sync>(
     accepted: Accepted,
     steps: u32,
     workers: u32,
+    groups: Option<Groups>,
 ) -> Result<(), TrialError>
     requires { IsOfSource accepted }
 {
     let gate = HeldGate::new(hold);
-    let engine = new_engine(alloc, accepted, steps)?;
+    let engine = divided_engine(alloc, accepted, steps, workers, groups)?;
     make_round(rt, threads, engine, steps, workers, &gate)?;
     Ok(())
+}
+
+/// Tells the groups of a round of no superstep by so many workers.
+pub(crate) fn show_groups<R: Threads + Sync>(
+    rt: &HostRuntime,
+    threads: &R,
+    alloc: Global,
+    accepted: Accepted,
+    workers: u32,
+) -> Result<(), TrialError>
+    requires { IsOfSource accepted }
+{
+    let engine = new_engine(alloc, accepted, 0)?;
+    divide_and_tell(rt, threads, engine, workers)?;
+    Ok(())
+}
+
+fn divide_and_tell<R: Threads + Sync>(
+    rt: &HostRuntime,
+    threads: &R,
+    mut engine: Engine,
+    workers: u32,
+) -> io::Result<()>
+    requires begun { state_of engine ≡ start (core_of engine) (no_values (core_of engine)) }
+{
+    engine.round(threads, 0, workers.min(MOST_WORKERS), &OpenGate);
+    tell_groups(rt, &engine)
+}
+
+// A new engine, which goes by groups that are chosen at random where some are asked for.
+fn divided_engine(
+    alloc: Global,
+    accepted: Accepted,
+    steps: u32,
+    workers: u32,
+    groups: Option<Groups>,
+) -> Result<Engine, AllocError>
+    requires { IsOfSource accepted }
+    ensures span { IfOk result (λ engine. span_of engine ≡ steps) }
+    ensures begun { IfOk result (λ engine. state_of engine ≡ start (core_of engine) (no_values (core_of engine))) }
+    ensures core { IfOk result (λ engine. core_of engine ≡ accepted.core) }
+{
+    let engine = new_engine(alloc, accepted, steps)?;
+    match groups {
+        None => Ok(engine),
+        Some(groups) => divided(alloc, engine, groups, workers),
+    }
 }
 
 // The first round of an engine, and what it leaves.

@@ -18,6 +18,7 @@ mod code;
 mod error;
 mod files;
 mod form;
+mod groups;
 mod held_call;
 mod held_gate;
 mod held_round;
@@ -32,7 +33,7 @@ use crate::code::tell_code;
 use crate::error::TrialError;
 use crate::form::{Form, read_form};
 use crate::held_call::hold_call;
-use crate::held_round::hold_round;
+use crate::held_round::{hold_round, show_groups};
 use crate::net::step_net;
 use crate::source::accepted_source;
 use std::alloc::{AllocError, Global};
@@ -80,10 +81,15 @@ fn run<R: Threads + Sync>(rt: &HostRuntime, threads: &R) -> Result<(), TrialErro
                 source,
                 steps,
                 workers,
+                groups,
             },
         ) => {
             let accepted = accepted_source(rt, alloc, source)?;
-            hold_round(rt, threads, alloc, hold, accepted, steps, workers)
+            hold_round(rt, threads, alloc, hold, accepted, steps, workers, groups)
+        }
+        Some(Form::Groups { source, workers }) => {
+            let accepted = accepted_source(rt, alloc, source)?;
+            show_groups(rt, threads, alloc, accepted, workers)
         }
         Some(Form::Claims) => tell_claims(rt, alloc),
         Some(Form::Text) => tell_text(rt, alloc),

@@ -15,7 +15,7 @@ use Rattle.turn_locker.specs.declared.view.View.{View}
 use Rattle.turn_locker.specs.Closing.{AreHome}
 use Rattle.turn_locker.specs.Held.{items_of, held_at, has_pair}
 use Rattle.turn_locker.specs.Rule.{Whereabouts, home, held, clock_of, AreTied, IsThere, IsSeated, KeepsTurns}
-use Rattle.turn_locker.specs.Views.{held_at_first, passed_by, total_share, newcomer, kept_half, new_half, both_shares, spent, HoldsNothing}
+use Rattle.turn_locker.specs.Views.{held_at_first, passed_by, total_share, newcomer, kept_share, new_share, both_shares, spent, HoldsNothing}
 use Rattle.turn_locker.proofs.Clocks.{executed_alone, asserted_alone}
 use Rattle.turn_locker.proofs.Moved.{reviewed}
 use Rattle.turn_locker.proofs.Updates.{held_here, held_else, set_mine, total_set, passed_same}
@@ -114,9 +114,9 @@ module _ {T : Type 0} (number_of time_of : T → ℕ) (right : T → Type 0) (pl
     times = λ w lt. record { time = refl; not_behind = omega arith; not_ahead = omega arith };
   }
 
-  pub splits : (id : ℕ) (v : View) → 2 ≤ v.share → Splits K id v (kept_half v) (new_half v)
+  pub splits : (id : ℕ) (v : View) → 2 ≤ v.share → Splits K id v (kept_share v) (new_share v)
   splits id v share s r at =
-      let old = r.each_seat id v at in let left : View = kept_half v in let right_view : View = new_half v in let vs = set s.views id left in
+      let old = r.each_seat id v at in let left : View = kept_share v in let right_view : View = new_share v in let vs = set s.views id left in
       let plans : v.plan ≡ plan = old.plans (omega arith) in
       reviewed number_of time_of right plan s r (vs ++ right_view ∷ [])
       (λ j u e i t h. dite (ℕ_discrete j id)

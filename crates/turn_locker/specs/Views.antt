@@ -1,5 +1,5 @@
 -- What a seat knows, and what its steps make of that.
-use Rattle.std.specs.Prelude.{◌≡◌, ℕ, zero, suc, Bool, false, ◌||◌, nat_lt, ◌+◌, ◌-◌, ◌/◌, List, [], ◌∷◌, None, Some, if◌then◌else◌}
+use Rattle.std.specs.Prelude.{◌≡◌, ℕ, zero, suc, Bool, false, ◌||◌, nat_lt, ◌+◌, ◌-◌, List, [], ◌∷◌, None, Some, if◌then◌else◌}
 use Rattle.hume_net.specs.declared.plan.Plan.{Plan}
 use Rattle.hume_net.specs.Times.{mover}
 use Rattle.turn_locker.specs.declared.view.View.{View}
@@ -53,12 +53,12 @@ passed_with plan item time pairs =
 abbrev pub passes : Plan → ℕ → ℕ → View → View
 passes plan item time v = record v { held = without item v.held; passed = passed_with plan item time v.passed; out = None; seen = None }
 
--- a split gives the new seat the lesser half of the share
-abbrev pub kept_half : View → View
-kept_half v = record v { share = v.share - v.share / 2 }
+-- a split gives the new seat a share of one
+abbrev pub kept_share : View → View
+kept_share v = record v { share = v.share - 1 }
 
-abbrev pub new_half : View → View
-new_half v = record { plan = v.plan; share = v.share / 2; held = []; passed = []; out = None; seen = None }
+abbrev pub new_share : View → View
+new_share v = record { plan = v.plan; share = 1; held = []; passed = []; out = None; seen = None }
 
 -- a join adds the shares
 abbrev pub both_shares : View → View → View

@@ -14,7 +14,7 @@ ghost use Rattle.turn_locker.specs.Held.{held_at, items_of};
 ghost use Rattle.turn_locker.specs.Plays.{claimed, looked, passed_on, released};
 ghost use Rattle.turn_locker.specs.Rule.{AreTied, KeepsTurns, held_word, home_word};
 ghost use Rattle.turn_locker.specs.Seats.{outs_of};
-ghost use Rattle.turn_locker.specs.Views.{HoldsNothing, both_shares, kept_half, new_half, spent};
+ghost use Rattle.turn_locker.specs.Views.{HoldsNothing, both_shares, kept_share, new_share, spent};
 
 use crate::timed::Timed;
 
@@ -38,7 +38,7 @@ pub fn steps_keep_the_rule<T: Timed>()
         → Allows (KeepsTurns T.number_of T.time_of T.right plan) slots id me item (λ _. home_word (T.time_of value))
         (λ _. passed_on (step slots item (home_word (T.time_of value)) 0 none) me (home_word (T.time_of value))) }
     ensures split { (plan : Plan) (id : ℕ) (v : View) → 2 ≤ v.share
-        → Splits (KeepsTurns T.number_of T.time_of T.right plan) id v (kept_half v) (new_half v) }
+        → Splits (KeepsTurns T.number_of T.time_of T.right plan) id v (kept_share v) (new_share v) }
     ensures join { (plan : Plan) (id other : ℕ) (v w : View) → 0 < v.share → HoldsNothing w
         → Joins (KeepsTurns T.number_of T.time_of T.right plan) id v other w (both_shares v w) spent }
 {}

@@ -6,12 +6,12 @@ ghost use Rattle.turn_locker.specs.Closing.{AreHome};
 ghost use Rattle.turn_locker.specs.Held.{held_at, items_of};
 ghost use Rattle.turn_locker.specs.Rule.{home_word, held_word};
 ghost use Rattle.turn_locker.specs.Seats.{IsSeatOf, view_of};
-ghost use Rattle.turn_locker.specs.Views.{HoldsNothing, both_shares, claims, kept_half, looks, new_half, newcomer, passes, puts_back, whole_share};
+ghost use Rattle.turn_locker.specs.Views.{HoldsNothing, both_shares, claims, kept_share, looks, new_share, newcomer, passes, puts_back, whole_share};
 ghost use Rattle.turn_locker.specs.Plays.{with_slot};
 ghost use Rattle.hume_net.specs.Plan.{IsPlan};
 
 use crate::closing::take_all;
-use crate::plays::{Claim, Grasp, Halves, Look, Pass, Release};
+use crate::plays::{Claim, Grasp, Look, Pass, Release, Shares};
 use crate::rule::InTurn;
 use crate::timed::Timed;
 use crate::view::View;
@@ -141,15 +141,15 @@ impl<T: Timed> Locker<T> {
             .store::<Pass>(seat, item as usize, word + 1);
     }
 
-    /// A new seat with the lesser half of the share, and the seat with the rest.
+    /// The seat with its share but for one, and a new seat with a share of one.
     pub fn split(&self, mut seat: Seat<T>) -> (Seat<T>, Seat<T>)
         requires own { IsSeatOf self.now seat }
         requires share { 2 ≤ (view_of seat).share }
         requires free { HoldsNothing (view_of seat) }
-        ensures kept { IsSeatOf self.now result.0 × (view_of result.0 ≡ kept_half (view_of seat)) }
-        ensures new { IsSeatOf self.now result.1 × (view_of result.1 ≡ new_half (view_of seat)) }
+        ensures kept { IsSeatOf self.now result.0 × (view_of result.0 ≡ kept_share (view_of seat)) }
+        ensures new { IsSeatOf self.now result.1 × (view_of result.1 ≡ new_share (view_of seat)) }
     {
-        let other = self.table.shared.split_seat::<Halves>(&mut seat);
+        let other = self.table.shared.split_seat::<Shares>(&mut seat);
         (seat, other)
     }
 
@@ -160,7 +160,7 @@ impl<T: Timed> Locker<T> {
         ensures own { IsSeatOf self.now result }
         ensures view { view_of result ≡ both_shares (view_of seat) (view_of other) }
     {
-        self.table.shared.join_seat::<Halves>(&mut seat, other);
+        self.table.shared.join_seat::<Shares>(&mut seat, other);
         seat
     }
 

@@ -40,18 +40,18 @@ impl<T: Timed> Play<Option<T>, View> for Pass {
     ghost then = { passed_on };
 }
 
-// A share is cut in two, or two are added.
-pub(crate) struct Halves;
+// One is taken off a share, or two shares are added.
+pub(crate) struct Shares;
 
-impl Split<View> for Halves {
-    ghost use Rattle.turn_locker.specs.Views.{kept_half, new_half};
+impl Split<View> for Shares {
+    ghost use Rattle.turn_locker.specs.Views.{kept_share, new_share};
 
-    ghost left = { kept_half };
+    ghost left = { kept_share };
 
-    ghost right = { new_half };
+    ghost right = { new_share };
 }
 
-impl Join<View> for Halves {
+impl Join<View> for Shares {
     ghost use Rattle.turn_locker.specs.Views.{both_shares};
     ghost use Rattle.turn_locker.specs.Views.{spent as spent_view};
 

@@ -173,7 +173,8 @@ fn share_over<O: Opens, R: Threads + Sync, G: Gate>(
     );
 }
 
-// So many workers from a number on, each in a thread of its own but one.
+// So many workers from a number on, each in a thread of its own but the last one. This thread starts them all: one that is started by a
+// new thread waits on some systems until that one has ended.
 fn run_all<O: Opens, R: Threads + Sync, G: Gate>(
     rt: &R,
     core: &Core,
@@ -196,39 +197,56 @@ fn run_all<O: Opens, R: Threads + Sync, G: Gate>(
     ensures share { (view_of result).share ≡ (view_of seat).share }
 {
     if workers <= 1 {
-        let share = own_share(division, number as usize);
-        return work(core, sides, gate, division, locker, seat, steps, share);
+        return run_one(core, sides, gate, division, locker, seat, steps, number);
     }
-    let half = workers / 2;
-    let rest = workers - half;
-    let middle = number + rest;
-    let (left, right) = locker.split(seat);
+    let (rest, one) = locker.split(seat);
+    let next = number + 1;
+    let others = workers - 1;
     let (a, b) = join(
         rt,
         move || -> Seat<Item<O>>
-            requires { IsSync R.row × IsSync G.row × IsShared O.opened O.plan O.grouping O.steps core.now locker.now
+            requires { IsSync G.row × IsShared O.opened O.plan O.grouping O.steps core.now locker.now
                 × (division.now.groups ≡ O.grouping) × (steps ≡ O.steps)
-                × (number + rest ≤ 2 ^ 16) × ((room : ℕ) × AreSides core.now room sides.now) × AreWays locker.now.plan division.now.ways
-                × IsIdle locker.now left × (rest ≤ (view_of left).share) }
-            ensures { IsIdle locker.entry.now result × ((view_of result).share ≡ (view_of left).share) }
-        {
-            run_all::<O, R, G>(
-                rt, core, sides, gate, division, locker, left, steps, number, rest,
-            )
-        },
+                × (number ≤ 2 ^ 16) × ((room : ℕ) × AreSides core.now room sides.now) × AreWays locker.now.plan division.now.ways
+                × IsIdle locker.now one }
+            ensures { IsIdle locker.entry.now result × ((view_of result).share ≡ (view_of one).share) }
+        { run_one(core, sides, gate, division, locker, one, steps, number) },
         move || -> Seat<Item<O>>
             requires { IsSync R.row × IsSync G.row × IsShared O.opened O.plan O.grouping O.steps core.now locker.now
                 × (division.now.groups ≡ O.grouping) × (steps ≡ O.steps)
-                × (middle + half ≤ 2 ^ 16) × ((room : ℕ) × AreSides core.now room sides.now) × AreWays locker.now.plan division.now.ways
-                × IsIdle locker.now right × (half ≤ (view_of right).share) }
-            ensures { IsIdle locker.entry.now result × ((view_of result).share ≡ (view_of right).share) }
+                × (next + others ≤ 2 ^ 16) × ((room : ℕ) × AreSides core.now room sides.now) × AreWays locker.now.plan division.now.ways
+                × IsIdle locker.now rest × (others ≤ (view_of rest).share) }
+            ensures { IsIdle locker.entry.now result × ((view_of result).share ≡ (view_of rest).share) }
         {
             run_all::<O, R, G>(
-                rt, core, sides, gate, division, locker, right, steps, middle, half,
+                rt, core, sides, gate, division, locker, rest, steps, next, others,
             )
         },
     );
-    locker.join(a, b)
+    locker.join(b, a)
+}
+
+// The worker of that number, in this thread.
+fn run_one<O: Opens, G: Gate>(
+    core: &Core,
+    sides: &Sides,
+    gate: &G,
+    division: &Division,
+    locker: &Locker<Item<O>>,
+    seat: Seat<Item<O>>,
+    steps: u32,
+    number: u32,
+) -> Seat<Item<O>>
+    requires shared { IsShared O.opened O.plan O.grouping O.steps core.now locker.now }
+    requires shape { (division.now.groups ≡ O.grouping) × (steps ≡ O.steps) }
+    requires sides { ((room : ℕ) × AreSides core.now room sides.now) × AreWays locker.now.plan division.now.ways }
+    requires number { number ≤ 2 ^ 16 }
+    requires idle { IsIdle locker.now seat }
+    ensures idle { IsIdle locker.now result }
+    ensures share { (view_of result).share ≡ (view_of seat).share }
+{
+    let share = own_share(division, number as usize);
+    work(core, sides, gate, division, locker, seat, steps, share)
 }
 
 // The share of a worker.
