@@ -41,26 +41,31 @@ def label_of(wire, widest):
     return quoted(ends + (f" @ {wire.depth}" if wire.depth > 1 else "") + "\n" + widest)
 
 
-def loop_lines(number, box, label, place):
+def places_of(ends):
+    """For each wire, by the nodes that it joins, its place among several loops at one box. Any other has none, as `dot` draws it well."""
+    return [ends[:n].count(it) if it and it[0] == it[1] and ends.count(it) > 1 else None for n, it in enumerate(ends)]
+
+
+def loop_lines(box, node, place, attributes, marks=""):
     """A wire from a box to itself, through a node that has its label: the first one stands above the box, the second one below, and each
     further one beside it. An edge names the upper node first, since that keeps it there."""
-    node = quoted(f"wire {number}")
-    text = f"{node} [id = wire{number}, class = wire{number}, shape = plaintext, fontsize = 10, style = solid, label = {label}];"
-    yield f"  {{ rank = same; {box}; {text} }}" if place < 2 else f"  {text}"
+    text = f"{node} [{attributes}];"
+    yield f'  {{ rank="same"; {box}; {text} }}' if place < 2 else f"  {text}"
     edge = f"{node} -> {box}" if place == 0 else f"{box} -> {node}"
-    yield f"  {edge} [class = wire{number}, dir = none];"
-    yield f"  {edge} [class = wire{number}, dir = {'back' if place else 'forward'}];"
+    yield f'  {edge} [{marks}dir="none"];'
+    yield f'  {edge} [{marks}dir="{"back" if place else "forward"}"];'
 
 
 def wire_lines(net, widest):
-    """All wires. `dot` draws several loops at one box over their labels, so there each has a node of its own."""
+    """All wires."""
     ends = [(node_of(it.start), node_of(it.finish)) for it in net.wires]
-    for n, (start, finish) in enumerate(ends):
-        label = label_of(net.wires[n], widest[n])
-        if start == finish and ends.count(ends[n]) > 1:
-            yield from loop_lines(n, start, label, ends[:n].count(ends[n]))
+    for n, ((start, finish), place) in enumerate(zip(ends, places_of(ends))):
+        marks, label = f"class = wire{n}, ", label_of(net.wires[n], widest[n])
+        if place is None:
+            yield f"  {start} -> {finish} [id = wire{n}, {marks}label = {label}];"
         else:
-            yield f"  {start} -> {finish} [id = wire{n}, class = wire{n}, label = {label}];"
+            shown = f"id = wire{n}, {marks}shape = plaintext, fontsize = 10, style = solid, label = {label}"
+            yield from loop_lines(start, quoted(f"wire {n}"), place, shown, marks)
 
 
 def graph(net, bounds, widest):
@@ -73,18 +78,23 @@ def graph(net, bounds, widest):
     return "\n".join(lines) + "\n}\n"
 
 
-def picture(text, kind="svg"):
+def run_dot(dot, text, seconds=None):
+    """Has `dot` draw the text, within a time if one is given; its status, and what it writes."""
+    with started([dot, "-Tsvg"], stdin=subprocess.PIPE, stdout=subprocess.PIPE, stderr=subprocess.DEVNULL) as process:
+        drawn, _ = process.communicate(text.encode("latin-1"), seconds)
+    return process.returncode, drawn
+
+
+def picture(text):
     """What `dot` makes of the text, as bytes; nothing where it isn't installed, fails, or takes too long."""
     dot = shutil.which("dot")
     if not dot:
         return b""
-    streams = {"stdin": subprocess.PIPE, "stdout": subprocess.PIPE, "stderr": subprocess.DEVNULL}
     try:
-        with started([dot, f"-T{kind}"], **streams) as process:
-            drawn, _ = process.communicate(text.encode("latin-1"), MOST_SECONDS)
+        status, drawn = run_dot(dot, text, MOST_SECONDS)
     except (OSError, subprocess.TimeoutExpired):
         return b""
-    return b"" if process.returncode else drawn
+    return b"" if status else drawn
 
 
 def browser():

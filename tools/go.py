@@ -82,7 +82,10 @@ def may_write(name):
 def note(outputs, before, known):
     """Notes the files that the run has written, and no others."""
     after = marks(outputs)
-    known |= {it: sum_of(it) for it in after if after[it] != before.get(it)}
+    written = {it: sum_of(it) for it in after if after[it] != before.get(it)}
+    if not written:
+        return
+    known |= written
     os.makedirs(FOLDER, exist_ok=True)
     with open(NOTES, "w", encoding="utf-8", errors="surrogateescape") as file:
         file.writelines(f"{total} {name}\n" for name, total in sorted(known.items()))

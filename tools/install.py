@@ -24,14 +24,11 @@ def install(prefix):
     for link, target in links(prefix):
         if os.path.lexists(link) and not is_ours(link, target):
             raise Usage(f"'{link}' is there, and is no link to '{target}': nothing is installed")
-    try:
-        for link, target in links(prefix):
-            os.makedirs(os.path.dirname(link), exist_ok=True)
-            if not os.path.lexists(link):
-                os.symlink(target, link)
-            print(f"{link} -> {target}")
-    except OSError as error:
-        raise Usage(f"{error.filename2 or error.filename}: {error.strerror}") from None
+    for link, target in links(prefix):
+        os.makedirs(os.path.dirname(link), exist_ok=True)
+        if not os.path.lexists(link):
+            os.symlink(target, link)
+        print(f"{link} -> {target}")
 
 
 def uninstall(prefix):

@@ -18,6 +18,7 @@ WORDS = {
     "vcd": "waves",
     "waves": "waves",
     "page": "page",
+    "net": "net",
     "server": "server",
     "install": "install",
     "uninstall": "install",
@@ -28,7 +29,7 @@ CAUSES = {errno.EBADF: "it is closed", errno.ENOSPC: "no space left", errno.EFBI
 def cause(error):
     """What failed, and why: a file, or where none is named a write to the standard output."""
     if error.filename is not None:
-        return f"{error.filename!r}: {error.strerror}"
+        return f"{error.filename2 or error.filename!r}: {error.strerror}"
     return f"can't write the standard output: {CAUSES[error.errno]}" if error.errno in CAUSES else error.strerror or str(error)
 
 

@@ -114,4 +114,6 @@ def read_source(path):
 
 
 def report(text):
-    print(f"hume: {text}", file=sys.stderr)
+    """Tells one line on the standard error, whatever names are in it."""
+    line = re.sub(r"[\x00-\x1f\x7f]", lambda it: repr(it[0])[1:-1], str(text))
+    print(f"hume: {line}", file=sys.stderr)

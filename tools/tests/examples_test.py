@@ -1,7 +1,12 @@
 """hume test: what it says of an example that is right, of one that is wrong, and what --bless writes."""
+import os
 import unittest
 
-from setting import InRoom
+from setting import TOP, InRoom
+
+from examples import examples_below
+from program import is_number
+from room import words_of
 
 SOURCE = """box b in (x :: int 32) out (y :: int 32)
 match (x) -> (x + 1) ;
@@ -10,6 +15,8 @@ stream t to "o" ;
 wire s to b.x ;
 wire b.y to t ;
 """
+# which word behind the first is STEPS
+STEPS_AT = {"demo": 1, "run": 0, "trace": 0, "calc": 0, "union": 0, "record": 0, "verify": 0}
 NOT_COUNTED = ["not counted: 1 example, no run, trace or record of an accepted source", "no rule is counted"]
 
 
@@ -34,6 +41,16 @@ class Examples(InRoom):
         self.example("all/a", "2\n3\n")
         self.example("all/b", "2\n3\n")
         self.assertEqual(self.call("test", "all")[:2], (0, "passed: all/a\npassed: all/b\n2 passed, 0 failed\n"))
+
+    def test_no_example_makes_many_supersteps(self):
+        made = {word: [0] for word in STEPS_AT}
+        for folder in examples_below([os.path.join(TOP, "examples")]):
+            word, *numbers = words_of(folder)
+            steps = numbers[STEPS_AT.get(word, 0) :][:1]
+            if word in made and steps and is_number(steps[0]):
+                made[word].append(int(steps[0]))
+        self.assertLessEqual(sum(made.pop("demo")), 25_000)
+        self.assertLessEqual(max(map(max, made.values())), 1000)
 
     def test_a_file_too_many_and_one_too_few(self):
         self.example("few", "2\n3\n")

@@ -44,13 +44,13 @@ class Failures(InRoom):
         return status, told.rstrip("\n")
 
     def test_an_output_that_takes_nothing(self):
-        for words in (["watch", "3"], ["cover", "3"], ["vcd", "3"], ["page", "3"]):
-            with open("/dev/full", "wb") as full:
-                wanted = (4, "hume: can't write the standard output: no space left")
-                self.assertEqual(self.told(*words, "add.hume", "numbers", "totals", stdout=full), wanted)
-            with open(os.devnull, "rb") as closed:
-                wanted = (4, "hume: can't write the standard output: it is closed")
-                self.assertEqual(self.told(*words, "add.hume", "numbers", "totals", stdout=closed), wanted)
+        self.put("trace", "step 1\nwire s to t 1\n")
+        runs = [[word, "3", "add.hume", "numbers", "totals"] for word in ("watch", "cover", "vcd", "page")]
+        for words in (*runs, ["waves", "trace"], ["install", "there"], ["uninstall", "there"]):
+            for place, way, cause in (("/dev/full", "wb", "no space left"), (os.devnull, "rb", "it is closed")):
+                self.call("install", "there")
+                with open(place, way) as output:
+                    self.assertEqual(self.told(*words, stdout=output), (4, f"hume: can't write the standard output: {cause}"))
 
     def test_numbers_that_are_none(self):
         for word in ("watch", "cover", "vcd", "page", "go"):
@@ -69,6 +69,13 @@ class Failures(InRoom):
         self.put(".hume", "mine\n")
         status, told = self.told("go", "add.hume", stdout=subprocess.DEVNULL)
         self.assertEqual((status, told), (4, "hume: '.hume': File exists"))
+
+    def test_a_newline_in_a_name(self):
+        for words in (["watch", "3"], ["cover", "3"], ["vcd", "3"], ["page", "3"], ["go"], ["live"], ["waves"]):
+            self.assertEqual(self.told(*words, "a\nb"), (1, r"hume: a\nb: No such file or directory"))
+        self.assertEqual(self.told("test", "a\nb"), (1, r"hume: there is no folder 'a\nb'"))
+        status, told = self.told("watch", "3", "add.hume", "numbers", "totals", "-w", "a\nb")
+        self.assertEqual((status, told.split(";")[0]), (1, r"hume: no wire begins or ends at 'a\nb'"))
 
     def test_a_trace_that_is_none(self):
         self.put("other", "step 1\nwire s to t 1\nstep 2\nwire u to t 1\n")
@@ -89,8 +96,8 @@ class Failures(InRoom):
             self.assertIn(b"box add" if word == "cover" else b"totals", shown)
 
     def test_a_source_an_input_and_a_trace_that_never_end(self):
-        for word in ("watch", "cover", "vcd", "page"):
-            with self.started(word, "4", "/dev/zero", stdout=subprocess.PIPE) as process:
+        for words in (["watch", "4"], ["cover", "4"], ["vcd", "4"], ["page", "4"], ["go"], ["live"]):
+            with self.started(*words, "/dev/zero", stdout=subprocess.PIPE) as process:
                 shown, told = process.communicate()
             self.assertEqual((process.returncode, (shown + told).split(b"\n")[0]), (2, b"refused 70 line 1"))
         status, told = self.told("waves", "/dev/zero")

@@ -62,6 +62,7 @@ class Go(InRoom):
         os.mkdir(os.path.join(self.room, "out/numbers"))
         self.assertEqual(self.call("go", "out/add.hume", "--force")[0], 4)
         self.assertEqual(self.read("out/totals"), "mine\n")
+        self.assertFalse(os.path.exists(os.path.join(self.room, "out/.hume")))
         os.rmdir(os.path.join(self.room, "out/numbers"))
         self.put("out/numbers", "5\n10\n")
         self.assertEqual(self.call("go", "out/add.hume")[0], 1)

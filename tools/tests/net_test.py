@@ -1,13 +1,16 @@
 """hume net SOURCE --svg, and the net of a page: no wire is drawn over the name of another one."""
+import io
 import os
 import re
 import shutil
 import subprocess
 import unittest
 import xml.etree.ElementTree as ElementTree
+from unittest import mock
 
 from setting import TOP, InRoom, sources
 
+import net
 from drawing import graph, picture
 from source import read_net
 
@@ -68,6 +71,11 @@ def crossings(svg):
     return [text for text, x, y, width, height in names_in(picture_of) if any(abs(a - x) < width / 2 and y - height < b < y for a, b in points)]
 
 
+def told(done):
+    """The status of a call, and what it wrote."""
+    return done.returncode, done.stdout, done.stderr
+
+
 class Nets(InRoom):
     def svg(self, path, drawing=None):
         """What `./hume net --svg` writes of a source, by another `dot` if one is given."""
@@ -84,6 +92,31 @@ class Nets(InRoom):
         self.assertEqual(drawn.splitlines(keepends=True), [*lines[:-2], *loops, *lines[-2:]])
         self.assertEqual(len(plain.splitlines()), len(lines) + 3)
 
+    def test_a_picture_that_cannot_be_drawn(self):
+        path = self.put("loops.hume", LOOPS)
+        os.chmod(self.put("bin/dot", "#!/bin/sh\nexit 3\n"), 0o755)
+        wanted = (4, b"", b"hume: can't draw the picture: dot failed\n")
+        self.assertEqual(told(self.svg(path, os.path.join(self.room, "bin"))), wanted)
+        with mock.patch("shutil.which", return_value=None), mock.patch("sys.stderr", io.StringIO()) as shown:
+            self.assertEqual(net.main("net", [path, "--svg"]), 1)
+        self.assertEqual(shown.getvalue(), "hume: dot is missing, which draws the picture (apt-get install graphviz)\n")
+
+    def test_an_output_that_takes_no_picture(self):
+        path = self.put("loops.hume", LOOPS)
+        os.chmod(self.put("bin/dot", "#!/bin/sh\ncat\n"), 0o755)
+        environment = os.environ | {"PATH": f"{self.room}/bin:{os.environ['PATH']}"}
+        for place, cause in (("/dev/full", "no space left"), (os.devnull, "it is closed")):
+            with open(place, "wb" if cause == "no space left" else "rb") as output:
+                words = [os.path.join(TOP, "hume"), "net", path, "--svg"]
+                done = subprocess.run(words, stdout=output, stderr=subprocess.PIPE, env=environment)
+            self.assertEqual((done.returncode, done.stderr.decode()), (4, f"hume: can't write the standard output: {cause}\n"))
+
+    def test_a_source_that_is_refused_is_answered_as_without_a_picture(self):
+        for path in (self.put("bad.hume", "f :: bool -> bool ;\nf x = y ;\n"), os.path.join(self.room, "missing")):
+            plain = subprocess.run([os.path.join(TOP, "hume"), "net", path], capture_output=True)
+            self.assertNotEqual(plain.returncode, 0)
+            self.assertEqual(told(self.svg(path)), told(plain))
+
     def test_no_wire_goes_through_the_name_of_another_one(self):
         if not shutil.which("dot"):
             self.skipTest("there is no dot (apt-get install graphviz)")
@@ -93,8 +126,8 @@ class Nets(InRoom):
                 self.assertEqual((done.returncode, done.stderr), (0, b""))
                 self.assertEqual(crossings(done.stdout), [])
                 with open(path, "rb") as file:
-                    net = read_net(file.read())
-                self.assertEqual(crossings(picture(graph(net, {}, ["(100, 100)"] * len(net.wires)))), [])
+                    found = read_net(file.read())
+                self.assertEqual(crossings(picture(graph(found, {}, ["(100, 100)"] * len(found.wires)))), [])
 
 
 if __name__ == "__main__":

@@ -1,18 +1,25 @@
 //! The program `look`: `look why SOURCE`, `look bounds SOURCE`, `look net SOURCE` or `look hints SOURCE`, where SOURCE names a
-//! file, or is `std_in`. It prints to the standard output.
+//! file, or is `std_in`; and `look told`, which tells why a call of the tool failed. It prints to the standard output.
 //!
-//! It ends with 0 where the source is accepted, with 1 where the words have no form, 2 where the source is refused, 4 where a file
-//! can't be read or the output can't be written, and 5 where memory runs out.
+//! The words of the latter are `look told STATUS [WHY PORT].. -- WORD..`: the status and the words of the call, and before them, of each
+//! port of which the shell knows it, why the port can't be used.
+//!
+//! It ends with 0 where the source is accepted or the failure told, with 1 where the words have no form, 2 where the source is refused,
+//! 4 where a file can't be read or the output can't be written, and 5 where memory runs out.
 //!
 //! Proved: nothing beyond safety.
 #![tactic(auto)]
 
+mod files;
+
+use crate::files::HostDisk;
 use hume_base::limits::MAX_SOURCE_BYTES;
-use hume_look::{look, read_word};
-use hume_ports::{FilePort, Port, StdIn, StdOut, fill_at, finish_at, write_at};
+use hume_look::{look, read_word, told};
+use hume_ports::{Port, StdOut, finish_at, write_at};
+use look_told::Disk;
 use std::alloc::{AllocError, Global};
 use std::env;
-use std::io::ErrorKind;
+use std::io::{ErrorKind, IsTerminal};
 use std::process::ExitCode;
 
 const USAGE: u8 = 1;
@@ -33,13 +40,36 @@ fn main(rt: HostRuntime) -> ExitCode {
 fn run(rt: &HostRuntime) -> Result<u8, AllocError> {
     let alloc = rt.alloc();
     let words = words_of_command(rt, alloc)?;
-    let Some(word) = read_word(&words) else {
+    match words.split_first() {
+        Some((word, rest)) if word.as_str() == "told" => tell(rt, alloc, rest),
+        _ => show(rt, alloc, &words),
+    }
+}
+
+// Tells why a call failed.
+fn tell(rt: &HostRuntime, alloc: Global, words: &[String]) -> Result<u8, AllocError> {
+    let disk = HostDisk { rt };
+    let Some(text) = told(&disk, alloc, words, rt.stdout().is_terminal())? else {
+        return Ok(USAGE);
+    };
+    Ok(if print(rt, alloc, text.as_slice())? {
+        0
+    } else {
+        FAULT
+    })
+}
+
+// Shows what is asked of a source.
+fn show(rt: &HostRuntime, alloc: Global, words: &[String]) -> Result<u8, AllocError> {
+    let Some(word) = read_word(words) else {
         return Ok(USAGE);
     };
     let Some(name) = words.get(1) else {
         return Ok(USAGE);
     };
-    let Some(text) = read_source(rt, alloc, name)? else {
+    let disk = HostDisk { rt };
+    // A byte past the greatest length shows that the source is too long.
+    let Some(text) = disk.text(alloc, name, MAX_SOURCE_BYTES + 1)? else {
         return Ok(FAULT);
     };
     let shown = look(alloc, word, name.as_bytes(), text.as_slice())?;
@@ -47,27 +77,6 @@ fn run(rt: &HostRuntime) -> Result<u8, AllocError> {
         return Ok(FAULT);
     }
     Ok(if shown.accepted { 0 } else { REFUSED })
-}
-
-// The source's bytes, at most one more than a source may have; none where it can't be read.
-fn read_source(rt: &HostRuntime, alloc: Global, name: &str) -> Result<Option<Vec<u8>>, AllocError> {
-    let mut ports: Vec<Box<dyn Port>> = Vec::new(alloc);
-    if name == "std_in" {
-        ports.push(Box::new(alloc, StdIn::make(rt, alloc, name)?)?)?;
-    } else {
-        ports.push(Box::new(alloc, FilePort::make(rt, alloc, name)?)?)?;
-    }
-    let mut text = vec![in alloc; 0u8; MAX_SOURCE_BYTES + 1]?;
-    if ports.is_empty() {
-        return Ok(None);
-    }
-    match fill_at(&mut ports, 0, &mut text) {
-        Ok(count) => {
-            text.truncate(count);
-            Ok(Some(text))
-        }
-        Err(_) => Ok(None),
-    }
 }
 
 // Whether the bytes were written.
