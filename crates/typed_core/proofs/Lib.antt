@@ -1,0 +1,6 @@
+pub mod Shown
+pub mod Erased
+pub mod Typed
+pub mod TypedResults
+pub mod PartsTyped
+pub mod ResultPartsTyped
