@@ -6,8 +6,9 @@ usage: bench/threads.py [--tool TOOL] [--calls N] [--halves A,B,..] [NET ..]
        bench/threads.py [--tool TOOL] [--calls N] copies
 
 The nets are named in `NETS` and `OTHERS`; without a name all are timed. Those of `NETS` have boxes whose half step takes about 0.1, 0.4, 1.5,
-25 and 200 microseconds: HALVES picks among them, by their places from 0. Those of `OTHERS` are the demo and the controllers of examples/,
-whose inputs are repeated. TOOL is the program of dist/ by default.
+25 and 200 microseconds, or, where the name ends in `seldom`, would take as long if they did all that they may: HALVES picks among them, by
+their places from 0. Those of `OTHERS` are the demo and the controllers of examples/, whose inputs are repeated. TOOL is the program of dist/
+by default.
 
 Each time is the least of N calls (5), which are made in turn, and the time of a twentieth of the supersteps is taken off. `gain` is how many
 times faster so many workers are than one. `worked` is how many workers worked in the second round: this script counts the threads that are
@@ -28,7 +29,7 @@ import time
 TOP = os.path.dirname(os.path.dirname(os.path.abspath(__file__)))
 WORKERS = 1, 2, 4, 8
 DOUBLINGS = 1, 3, 5, 9, 12
-SECONDS = 0.1
+SECONDS = 0.3
 ROUND = 64
 
 
@@ -40,8 +41,9 @@ def functions(doublings):
     return lines
 
 
-def net(doublings, links, first_outputs=None):
-    """Boxes that compute with their first input, and pass the others on. A link is (box, output, box, input)."""
+def net(doublings, links, seldom=False):
+    """Boxes that compute with their first input, and pass the others on. A link is (box, output, box, input). Where boxes compute but seldom
+    they compute for no value that comes, so what they may do at most is far more than what they do."""
     inputs, outputs = {}, {}
     for at, output, to, given in links:
         outputs.setdefault(at, set()).add(output)
@@ -50,7 +52,8 @@ def net(doublings, links, first_outputs=None):
     for number in sorted(inputs):
         taken = [f"x{i}" for i in sorted(inputs[number])]
         put = [f"y{i}" for i in sorted(outputs[number])]
-        values = [f"f{doublings} {taken[0]}"] + [taken[i % len(taken)] for i in range(1, len(put))]
+        first = f"if {taken[0]} == -1 then f{doublings} {taken[0]} else {taken[0]}" if seldom else f"f{doublings} {taken[0]}"
+        values = [first] + [taken[i % len(taken)] for i in range(1, len(put))]
         lines.append(f"box b{number} in ({', '.join(f'{name} :: int 64' for name in taken)}) "
                      f"out ({', '.join(f'{name} :: int 64' for name in put)}) "
                      f"match ({', '.join(taken)}) -> ({', '.join(values)}) ;")
@@ -106,6 +109,7 @@ NETS = {
     "star of 9": star(8),
     "grid of 14 by 14": grid(14),
     "200 at random": at_random(200),
+    "200 at random, seldom": at_random(200),
 }
 CONTROLLERS = "traffic_lights", "lift", "debouncer", "crc8", "back_pressure", "vending_machine"
 OTHERS = ("demo", *CONTROLLERS)
@@ -154,7 +158,7 @@ class Timer:
         return [max(min(long) - min(short), 1e-12) / many for many, short, long in zip(steps, shorts, longs)]
 
     def steps_for(self, call, most):
-        """So many supersteps that the call takes about a tenth of a second."""
+        """So many supersteps that the call takes about three tenths of a second."""
         steps = 20
         while steps < most and self.seconds(call(steps)) < SECONDS:
             steps = min(steps * 3, most)
@@ -202,7 +206,7 @@ def net_rows(timer, name, halves):
     boxes = 1 + max(link[0] for link in links)
     for place in halves:
         with open(os.path.join(timer.room, "p"), "w", encoding="ascii") as file:
-            file.write(net(DOUBLINGS[place], links))
+            file.write(net(DOUBLINGS[place], links, name.endswith("seldom")))
         calls = [lambda steps, workers=workers: [timer.tool, "run", str(steps), str(workers), "p"] for workers in WORKERS]
         half = timer.least(calls[:1], 900_000)[0] / boxes
         rounds = native_rounds(timer, boxes, half)

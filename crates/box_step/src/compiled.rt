@@ -1,5 +1,5 @@
 //! A box as code, with all that it works on.
-ghost use Rattle.std.specs.Prelude.{◌≡◌, ◌<◌, length, map, Some, None, IfOk, MatchOption};
+ghost use Rattle.std.specs.Prelude.{◌≡◌, ◌<◌, ◌≤◌, length, map, Some, None, IfOk, MatchOption};
 ghost use Rattle.std.specs.Option.{is_some};
 ghost use Rattle.hume_base.specs.Sizes.{HaveTheirSizes, written_size, size_of};
 ghost use Rattle.hume_model.specs.declared.core_tree.BoxC.{BoxC as AnyBox};
@@ -29,8 +29,15 @@ pub struct CompiledBox {
     pub(crate) stack: BoxStack,
     pub(crate) outputs: OutBuf,
     pub(crate) pending: bool,
-    pub(crate) work: u32,
+    pub(crate) effort: Effort,
     pub(crate) plain: bool,
+}
+
+/// How many instructions the last execute step ran, and how many those before it, of which contracts see nothing.
+#[derive(Clone, Copy)]
+pub struct Effort {
+    pub(crate) last: u32,
+    pub(crate) earlier: u64,
 }
 
 impl Model for CompiledBox {
@@ -50,7 +57,7 @@ impl Model for CompiledBox {
       stack = box.stack;
       sizes = sizes_in box.outputs;
       pending = pending_in box.pending box.outputs;
-      work = box.work;
+      work = box.effort.last;
       plain = box.plain;
     } };
 }
@@ -81,7 +88,10 @@ impl CompiledBox {
             stack,
             outputs,
             pending: false,
-            work: 0,
+            effort: Effort {
+                last: 0,
+                earlier: 0,
+            },
             plain: is_plain(b),
         })
     }
@@ -150,7 +160,14 @@ impl CompiledBox {
     pub fn work(&self) -> u32
         ensures { result ≡ self.now.work }
     {
-        self.work
+        self.effort.last
+    }
+
+    /// How many instructions all its execute steps ran. What is made of the number is a guess, so no more is said of it.
+    pub fn ran(&self) -> u64
+        ensures { self.now.work ≤ result }
+    {
+        self.effort.earlier.saturating_add(self.effort.last as u64)
     }
 }
 

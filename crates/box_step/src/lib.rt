@@ -30,7 +30,7 @@ pub mod nodes;
 pub mod runs;
 mod stepping;
 
-pub use compiled::CompiledBox;
+pub use compiled::{CompiledBox, Effort};
 pub use laws::{
     boxes_run_by_their_bare_forms, pending_words_are_those_of_pending_values,
     programs_of_boxes_take_little,

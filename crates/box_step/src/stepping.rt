@@ -49,7 +49,8 @@ impl CompiledBox {
             → map without_values after ≡ map without_values ins }
         ensures others { AreOthersKept side.now home.old home.new }
     {
-        self.work = 0;
+        self.effort.earlier = self.ran();
+        self.effort.last = 0;
         if self.pending {
             return None;
         }
@@ -99,7 +100,7 @@ impl CompiledBox {
             &mut self.heap,
             &mut self.stack,
             &mut self.outputs,
-            &mut self.work,
+            &mut self.effort.last,
         );
         put_last(&mut self.order, b.fair, number);
         self.pending = true;

@@ -189,7 +189,9 @@ impl Engine {
         ensures stack { (n : ℕ) → stack_peak_at self.new n ≡ max (stack_peak_at self.old n) (peaks (core_of self.old) (state_of self.old) steps n).stack }
     {
         let alloc = *self.nodes.allocator();
-        let workers = self.paths.choose_workers(alloc, &self.bare, steps, workers);
+        let workers = self
+            .paths
+            .choose_workers(alloc, &self.bare, self.nodes.as_slice(), steps, workers);
         step_all(
             rt,
             &self.bare,

@@ -11,8 +11,9 @@
 //! the supersteps of the meaning, with peaks of heap and stack that are exactly the most that the steps took. It shares the half
 //! steps among workers, and its clauses hold whatever their number, their shares of the net and the interleaving of their steps. If
 //! there is no memory for what they share, or a worker leaves early, the calling thread makes the half steps that are left, and no
-//! clause changes. The first round has all workers that it may have, but no more than nodes, and later ones as many as an estimate
-//! says that it pays: any number is right, so no clause speaks of it.
+//! clause changes. The first round has all workers that it may have, but no more than nodes, and later ones as many as an estimate by
+//! what was run says that it pays: any number is right, so no clause speaks of it. `Engine::divide` lets rounds go by groups that are
+//! given, and changes nothing that a contract sees; what `Engine::groups` gives is a grouping of the net.
 //! `Engine::execute` makes all execute steps of a superstep, and gives a `Halfway` at the state `mid` of the meaning; `super_step`
 //! makes all super steps, and gives an engine at `up` of that state. `Engine::rebind` lets an input stream go on with another port: the
 //! values to come stay, and all else that was read of the old port is forgotten, so that the queue is right for every text of the new

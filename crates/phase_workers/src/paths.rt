@@ -8,6 +8,7 @@ ghost use Rattle.turn_locker.specs.Held.{items_of};
 ghost use Rattle.turn_workers.specs.Divisions.{IsDivision};
 
 use crate::policy::Policy;
+use box_step::nodes::BoxCell;
 use hume_model::Core;
 use hume_net::find_plan;
 use net_groups::{grouping_by, partition};
@@ -20,6 +21,8 @@ use turn_workers::Division;
 pub(crate) struct Paths {
     pub sides: Sides,
     pub division: Option<Division>,
+    // the division was given, so that it stays
+    pub is_given: bool,
     pub policy: Policy,
 }
 
@@ -33,15 +36,18 @@ impl Paths {
         Paths {
             sides,
             division: None,
+            is_given: false,
             policy,
         }
     }
 
-    /// Divides the net for some workers, and gives their number. It takes memory; if there is none, the net isn't divided.
+    /// Divides the net for some workers, by what its cells ran, and gives their number. It takes memory; if there is none, the net isn't
+    /// divided.
     pub(crate) fn choose_workers(
         &mut self,
         alloc: Global,
         core: &Core,
+        nodes: &[BoxCell],
         steps: u32,
         most: u32,
     ) -> u32
@@ -51,6 +57,7 @@ impl Paths {
         ensures paths { ArePaths core.now self.new }
         ensures workers { result ≤ 2 ^ 16 }
     {
+        self.look(nodes, most);
         let workers = self.policy.choose(alloc, core, steps, most);
         self.divide(alloc, core, workers);
         workers
@@ -76,7 +83,17 @@ impl Paths {
         let made = grouping_by(alloc, &plan, numbers, count, workers)?;
         let division = Division::make(alloc, plan, made.groups, made.first)?;
         self.division = Some(division);
+        self.is_given = true;
         Ok(())
+    }
+
+    // A division by work that is known better now is forgotten.
+    fn look(&mut self, nodes: &[BoxCell], most: u32)
+        ensures { (core : AnyCore) → ArePaths core self.old → ArePaths core self.new }
+    {
+        if most > 1 && self.policy.look(nodes) && !self.is_given {
+            self.division = None;
+        }
     }
 
     // Divides the net for so many workers, unless it is divided for so many.

@@ -4,6 +4,7 @@ ghost use Rattle.hume_net.specs.Plan.{IsPlan, plan_of};
 ghost use Rattle.turn_locker.specs.Held.{items_of};
 
 use box_code::BoxProgram;
+use box_step::nodes::BoxCell;
 use hume_base::List;
 use hume_model::{Core, NodeC};
 use hume_net::find_plan;
@@ -22,16 +23,22 @@ const THREAD: u64 = 40_000;
 // Workers wait for each other where wires cross.
 const MEETING: u64 = 1_600;
 
-// To hand on a crossing wire, twice a superstep.
-const CROSSING: u64 = 120;
+// To hand on a crossing wire, twice a superstep, and to look whether it is there. More workers don't share this: they wait for more.
+const CROSSING: u64 = 90;
+
+// The work that was run is looked at behind the first round, and then each time that so many times as many rounds were made.
+const LATER: u32 = 8;
 
 /// What is known of a net's rounds before they are made.
 #[derive(Drop)]
 pub(crate) struct Policy {
-    // for each node its work in a superstep, as far as it is known
+    // for each node its work in a superstep: at most its bound, and later as the rounds before ran it
     pub work: Vec<u64>,
-    // a round was made
-    pub begun: bool,
+    // the rounds and the supersteps that were made
+    pub rounds: u32,
+    pub steps: u64,
+    // the number of rounds at which the work that was run is looked at
+    pub next_look: u32,
     pub offers: Option<Offers>,
 }
 
@@ -65,9 +72,22 @@ impl Policy {
         }
         Ok(Policy {
             work,
-            begun: false,
+            rounds: 0,
+            steps: 0,
+            next_look: 1,
             offers: None,
         })
+    }
+
+    /// Looks at what the cells ran, if it is time for it. Answers whether it did, so that the work may be another one.
+    pub(crate) fn look(&mut self, nodes: &[BoxCell]) -> bool {
+        if self.rounds < self.next_look {
+            return false;
+        }
+        self.next_look = self.next_look.saturating_mul(LATER);
+        self.offers = None;
+        see_work(&mut self.work, nodes, self.steps.max(1));
+        true
     }
 
     /// The number of workers for a round: in the first one all that there may be, and later as many as pay, but never more than nodes. It
@@ -78,12 +98,19 @@ impl Policy {
         ensures { result ≤ most }
     {
         let useful = useful_workers(most, self.work.len());
-        if !self.begun {
-            self.begun = true;
+        let is_first = self.rounds == 0;
+        self.count(steps);
+        if is_first || useful <= 1 {
             return useful;
         }
         self.compare(alloc, core, useful);
         self.best_workers(steps).min(useful)
+    }
+
+    // One more round, of so many supersteps.
+    fn count(&mut self, steps: u32) {
+        self.rounds = self.rounds.saturating_add(1);
+        self.steps = self.steps.saturating_add(steps as u64);
     }
 
     // Finds what at most so many workers make of the net, unless it is known.
@@ -154,7 +181,7 @@ fn time_of(offer: Offer, steps: u32) -> u64 {
     let meeting = if offer.crossing == 0 {
         0
     } else {
-        MEETING.saturating_add(offer.crossing.saturating_mul(2 * CROSSING) / workers)
+        MEETING.saturating_add(offer.crossing.saturating_mul(CROSSING))
     };
     offer
         .heaviest
@@ -208,6 +235,17 @@ fn node_work(node: &NodeC, program: Option<&BoxProgram>) -> u64 {
     match (node, program) {
         (NodeC::Rules(_), Some(program)) => HALF_STEPS + program.work as u64,
         _ => HALF_STEPS,
+    }
+}
+
+// For each node its work in a superstep, as it was run in so many.
+fn see_work(work: &mut Vec<u64>, nodes: &[BoxCell], steps: u64)
+    requires { 1 ≤ steps }
+{
+    for (place, node) in nodes.iter().enumerate() {
+        if place < work.len() {
+            work[place] = (node.ran() / steps).saturating_add(HALF_STEPS);
+        }
     }
 }
 

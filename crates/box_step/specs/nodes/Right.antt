@@ -86,3 +86,9 @@ abbrev pub stack_peak_of : Kind → ℕ
 stack_peak_of (Coded box) = box.value.stack.peak
 stack_peak_of (Queued queue) = 0
 stack_peak_of (Logged log) = 0
+
+-- the instructions of a box's last execute step
+abbrev pub work_of : Kind → ℕ
+work_of (Coded box) = box.value.work
+work_of (Queued queue) = 0
+work_of (Logged log) = 0

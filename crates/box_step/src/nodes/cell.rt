@@ -1,5 +1,5 @@
 //! The cell of a node.
-ghost use Rattle.std.specs.Prelude.{◌≡◌, ◌%◌, ◌/◌};
+ghost use Rattle.std.specs.Prelude.{◌≡◌, ◌≤◌, ◌%◌, ◌/◌};
 
 use crate::compiled::CompiledBox;
 use hume_streams::{InQueue, OutLog};
@@ -22,7 +22,7 @@ pub struct BoxCell {
 
 impl BoxCell {
     ghost use Rattle.box_step.specs.nodes.Openings.{Opening, opening_after};
-    ghost use Rattle.box_step.specs.nodes.Right.{IsRightNode, heap_peak_of, stack_peak_of};
+    ghost use Rattle.box_step.specs.nodes.Right.{IsRightNode, heap_peak_of, stack_peak_of, work_of};
 
     pub fn number(&self) -> u32
         ensures { result ≡ self.now.number }
@@ -64,6 +64,17 @@ impl BoxCell {
     {
         match &self.kind {
             Kind::Coded(compiled) => compiled.stack_peak(),
+            Kind::Queued(_) => 0,
+            Kind::Logged(_) => 0,
+        }
+    }
+
+    /// How many instructions all execute steps of the box ran, and 0 of a stream.
+    pub fn ran(&self) -> u64
+        ensures { work_of self.now.kind ≤ result }
+    {
+        match &self.kind {
+            Kind::Coded(compiled) => compiled.ran(),
             Kind::Queued(_) => 0,
             Kind::Logged(_) => 0,
         }
