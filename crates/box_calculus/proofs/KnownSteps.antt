@@ -1,5 +1,5 @@
 -- What is known of the result of a rule before a step that unfolds a call in it, and after it.
-use Rattle.std.proofs.Common.{◌≡◌, ℕ, zero, suc, ◌<◌, ◌==◌, ◌&&◌, Bool, true, false, List, [], ◌∷◌, length, Option, Some, None, slice_get, refl, ap, sym, ◌∙◌, subst, arith, if◌then◌else◌}
+use Rattle.std.proofs.Common.{◌≡◌, ℕ, ◌<◌, ◌==◌, ◌&&◌, Bool, true, false, List, length, Option, Some, None, slice_get, refl, ap, sym, ◌∙◌, subst, arith, if◌then◌else◌}
 use Rattle.std.specs.Prelude.{IfSome, slice_set}
 use Rattle.std.specs.Option.{option_and_then, option_map}
 use Rattle.std.proofs.lemmas.Bool.{and_parts, eqb-true}
@@ -7,25 +7,19 @@ use Rattle.hume_model.specs.declared.core_tree.Res.{Res}
 use Rattle.hume_model.specs.declared.core_tree.FunC.{FunC}
 use Rattle.hume_model.specs.declared.core_tree.RuleC.{RuleC}
 use Rattle.hume_model.specs.declared.core_tree.BoxC.{BoxC}
-use Rattle.hume_model.specs.declared.core_tree.NodeC.TheVariants.{Rules}
 use Rattle.hume_model.specs.declared.core_tree.Core.{Core}
-use Rattle.calculus_laws.specs.Boxes.{as_box, box_at, with_box}
+use Rattle.calculus_laws.specs.Boxes.{box_at, with_box}
 use Rattle.calculus_laws.specs.Unfolding.{unfold_refusal}
-use Rattle.calculus_laws.proofs.ChangedBox.{box_there}
 use Rattle.calculus_laws.proofs.Unfolds.{Becomes}
 use Rattle.calculus_unfolding.specs.inner.Changes.{alone, result_changed}
 use Rattle.box_calculus.specs.declared.known.Known.{Known}
+use Rattle.box_calculus.specs.declared.known.Seen.{Seen}
 use Rattle.box_calculus.specs.declared.sizes.Size.{Size}
-use Rattle.box_calculus.specs.inner.Known.{IsKnown, RuleWithin, grown, sum_of}
+use Rattle.box_calculus.specs.inner.Known.{IsKnown, RuleClear, RuleWithin, grown, sum_of}
 use Rattle.box_calculus.specs.inner.Sizes.{AddWithin, IsWithin}
 use Rattle.box_calculus.specs.inner.Unfolded.{rule_changed, with_result}
+use Rattle.box_calculus.proofs.ClearSteps.{box_made, no_rule, set_there}
 use Rattle.box_calculus.proofs.Grown.{ResultGrown, result_grows}
-
--- the element that was set is there
-set_there : {X : Type 0} (xs : List X) (n : ℕ) (old new : X) → slice_get xs n ≡ Some old → slice_get (slice_set xs n new) n ≡ Some new
-set_there [] n old new found = cc
-set_there (x ∷ xs) zero old new found = refl
-set_there (x ∷ xs) (suc n) old new found = set_there xs n old new found
 
 -- a grown result is within both sizes together
 within_both : (size more : Size) (scope : ℕ) (old new : Res) → IsWithin size old → ResultGrown more scope old new → IsWithin (sum_of size more) new
@@ -88,19 +82,9 @@ module _ (funs : List FunC) (node n scope : ℕ) where
   expected_holds core b known None same there is expected = tt
   expected_holds core b known (Some size) same there is expected = expected_one core b known size same there is expected
 
-  no_rule : (rules : List RuleC) (m : ℕ) → m < length rules → slice_get rules m ≡ None → ⊥
-  no_rule [] m within none = omega arith
-  no_rule (rule ∷ rules) zero within none = cc
-  no_rule (rule ∷ rules) (suc m) within none = no_rule rules m (omega arith) none
-
-  module _ (core made : Core) (b newb : BoxC) (size : Size) (there : box_at core node ≡ Some b) (is_made : made ≡ with_box core node newb) where
-    box_made : box_at made node ≡ Some newb
-    box_made =
-        ap (λ (c : Core). box_at c node) is_made
-        ∙ ap (option_and_then as_box) (set_there core.nodes node (Rules b) (Rules newb) (box_there core node b there))
-
+  module _ (core made : Core) (b newb : BoxC) (seen : Seen) (there : box_at core node ≡ Some b) (is_made : made ≡ with_box core node newb) where
     new_rule : (old : RuleC) → slice_get b.rules n ≡ Some old → (o : Option RuleC) → unfold_refusal o ≡ None
-        → IfSome o (λ new. newb ≡ record b { rules = slice_set b.rules n new }) → IfSome o (λ new. IsWithin size new.result) → RuleWithin n size newb
+        → IfSome o (λ new. newb ≡ record b { rules = slice_set b.rules n new }) → IfSome o (λ new. IsWithin seen.size new.result) → RuleWithin n seen.size newb
     new_rule old at None allowed set within = cc
     new_rule old at (Some new) allowed set within =
         let found : slice_get newb.rules n ≡ Some new = ap (λ (c : BoxC). slice_get c.rules n) set ∙ set_there b.rules n old new at in
@@ -109,20 +93,22 @@ module _ (funs : List FunC) (node n scope : ℕ) where
     rule_after : (o : Option RuleC) → slice_get b.rules n ≡ o → n < length b.rules
         → IfSome o (λ old. unfold_refusal (rule_changed (alone funs) scope old) ≡ None)
         → IfSome o (λ old. IfSome (rule_changed (alone funs) scope old) (λ new. newb ≡ record b { rules = slice_set b.rules n new }))
-        → IfSome o (ChangedWithin size) → RuleWithin n size newb
+        → IfSome o (ChangedWithin seen.size) → RuleWithin n seen.size newb
     rule_after None at below allowed set within = absurd (no_rule b.rules n below at)
     rule_after (Some old) at below allowed set within = new_rule old at (rule_changed (alone funs) scope old) allowed set within
 
     abbrev known_with : Size → Known
-    known_with most = record { node = node; rule = n; size = size; most = most }
+    known_with most = record { node = node; rule = n; size = seen.size; clear = seen.clear; most = most }
 
     known_is : (most : Option Size) → IfSome most (λ it. AddWithin it core.funs) → n < length b.rules
         → IfSome (slice_get b.rules n) (λ old. unfold_refusal (rule_changed (alone funs) scope old) ≡ None)
         → IfSome (slice_get b.rules n) (λ old. IfSome (rule_changed (alone funs) scope old) (λ new. newb ≡ record b { rules = slice_set b.rules n new }))
-        → IfSome (slice_get b.rules n) (ChangedWithin size) → IfSome (option_map known_with most) (IsKnown made)
-    known_is None most below allowed set within = tt
-    known_is (Some it) most below allowed set within = record {
-      size = rw box_made (rule_after (slice_get b.rules n) refl below allowed set within);
+        → IfSome (slice_get b.rules n) (ChangedWithin seen.size) → IfSome (box_at made node) (RuleClear made n seen.clear)
+        → IfSome (option_map known_with most) (IsKnown made)
+    known_is None most below allowed set within clear = tt
+    known_is (Some it) most below allowed set within clear = record {
+      size = rw (box_made core made node b newb there is_made) (rule_after (slice_get b.rules n) refl below allowed set within);
+      clear = clear;
       most = subst (λ (c : Core). AddWithin it c.funs) (sym is_made) most;
     }
 
@@ -130,6 +116,6 @@ module _ (funs : List FunC) (node n scope : ℕ) where
     pub known_after : (most : Option Size) (known : Option Known) → known ≡ option_map known_with most → IfSome most (λ it. AddWithin it core.funs)
         → n < length b.rules → IfSome (slice_get b.rules n) (λ old. unfold_refusal (rule_changed (alone funs) scope old) ≡ None)
         → IfSome (slice_get b.rules n) (λ old. IfSome (rule_changed (alone funs) scope old) (λ new. newb ≡ record b { rules = slice_set b.rules n new }))
-        → IfSome (slice_get b.rules n) (ChangedWithin size) → IfSome known (IsKnown made)
-    known_after most known given is below allowed set within =
-        subst (λ k. IfSome k (IsKnown made)) (sym given) (known_is most is below allowed set within)
+        → IfSome (slice_get b.rules n) (ChangedWithin seen.size) → IfSome (box_at made node) (RuleClear made n seen.clear) → IfSome known (IsKnown made)
+    known_after most known given is below allowed set within clear =
+        subst (λ k. IfSome k (IsKnown made)) (sym given) (known_is most is below allowed set within clear)

@@ -1,3 +1,4 @@
+pub mod ClearSteps
 pub mod Counted
 pub mod Cuts
 pub mod DepthSteps

@@ -8,7 +8,7 @@ ghost use Rattle.calculus_laws.specs.Swapping.{swap_refusal, swapped_box};
 ghost use Rattle.calculus_laws.specs.Steps.{IsOnRule, refusal, rewritten};
 ghost use Rattle.box_calculus.specs.inner.Known.{IsKnown};
 
-use crate::known::{Known, expected_size, known_most};
+use crate::known::{Known, Seen, clear_alternatives, expected_size, known_most};
 use crate::naming::name_output;
 use crate::sizes::Size;
 use crate::swap::swap_rules;
@@ -83,7 +83,7 @@ fn unfold_in(
         wires,
     } = core;
     let mut nodes = nodes.into_vec();
-    let size = match &mut nodes[node as usize] {
+    let seen = match &mut nodes[node as usize] {
         NodeC::Rules(b) => unfold_rule(
             alloc,
             funs.as_slice(),
@@ -91,6 +91,7 @@ fn unfold_in(
             rule,
             scope,
             expected_size(known, node, rule),
+            clear_alternatives(known, node, rule),
         )?,
         _ => unreachable!(),
     };
@@ -101,19 +102,20 @@ fn unfold_in(
         nodes: List::from_vec(nodes),
         wires,
     };
-    Ok((new, known_after(node, rule, size, most)))
+    Ok((new, known_after(node, rule, seen, most)))
 }
 
-// What is known of a rule whose result is within the size, if it is known how much a function adds.
-fn known_after(node: u32, rule: u32, size: Size, most: Option<Size>) -> Option<Known>
-    ensures { result ≡ option_map (λ most. record { node = node; rule = rule; size = size; most = most }) most }
+// What is known of a rule of whose result this is seen, if it is known how much a function adds.
+fn known_after(node: u32, rule: u32, seen: Seen, most: Option<Size>) -> Option<Known>
+    ensures { result ≡ option_map (λ most. record { node = node; rule = rule; size = seen.size; clear = seen.clear; most = most }) most }
 {
     match most {
         None => None,
         Some(most) => Some(Known {
             node,
             rule,
-            size,
+            size: seen.size,
+            clear: seen.clear,
             most,
         }),
     }

@@ -1,5 +1,6 @@
 pub mod Alone
 pub mod Changes
+pub mod ClearArms
 pub mod Measures
 pub mod NumberForms
 pub mod ResultForms

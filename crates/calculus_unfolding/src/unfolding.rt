@@ -76,7 +76,8 @@ fn unfold_two(
     scope: u32,
     inside: u32,
 ) -> Result<bool, AllocError>
-    ensures found { IfOk result (λ found. two_changed (expression_changed (alone funs.now) scope) (expression_changed (alone funs.now) inside) (first.old, second.old) ≡ if_found found (first.new, second.new)) }
+    ensures found { IfOk result (λ found. two_changed (expression_changed (alone funs.now) scope) (expression_changed (alone funs.now) inside)
+        (first.old, second.old) ≡ if_found found (first.new, second.new)) }
     ensures kept { IfOk result (λ found. IsFalse found → (first.new ≡ first.old) × (second.new ≡ second.old)) }
 {
     if unfold(alloc, funs, first, scope)? {
@@ -96,7 +97,9 @@ fn unfold_three(
     third: &mut Expr,
     scope: u32,
 ) -> Result<bool, AllocError>
-    ensures found { IfOk result (λ found. two_changed (expression_changed (alone funs.now) scope) (two_changed (expression_changed (alone funs.now) scope) (expression_changed (alone funs.now) scope)) (first.old, (second.old, third.old)) ≡ if_found found (first.new, (second.new, third.new))) }
+    ensures found { IfOk result (λ found. two_changed (expression_changed (alone funs.now) scope)
+        (two_changed (expression_changed (alone funs.now) scope) (expression_changed (alone funs.now) scope))
+        (first.old, (second.old, third.old)) ≡ if_found found (first.new, (second.new, third.new))) }
     ensures kept { IfOk result (λ found. IsFalse found → (first.new ≡ first.old) × (second.new ≡ second.old) × (third.new ≡ third.old)) }
 {
     if unfold(alloc, funs, first, scope)? {
@@ -115,7 +118,8 @@ fn unfold_case(
     arms: &mut List<(PatC, Expr)>,
     scope: u32,
 ) -> Result<bool, AllocError>
-    ensures found { IfOk result (λ found. two_changed (expression_changed (alone funs.now) scope) (first_changed (arm_changed (expression_changed (alone funs.now)) scope)) (part.old, arms.old) ≡ if_found found (part.new, arms.new)) }
+    ensures found { IfOk result (λ found. two_changed (expression_changed (alone funs.now) scope)
+        (first_changed (arm_changed (expression_changed (alone funs.now)) scope)) (part.old, arms.old) ≡ if_found found (part.new, arms.new)) }
     ensures kept { IfOk result (λ found. IsFalse found → (part.new ≡ part.old) × (arms.new ≡ arms.old)) }
 {
     if unfold(alloc, funs, part, scope)? {

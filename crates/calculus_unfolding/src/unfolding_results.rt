@@ -51,7 +51,9 @@ fn unfold_choice(
     when_false: &mut Res,
     scope: u32,
 ) -> Result<bool, AllocError>
-    ensures found { IfOk result (λ found. two_changed (expression_changed (alone funs.now) scope) (two_changed (result_changed (alone funs.now) scope) (result_changed (alone funs.now) scope)) (test.old, (when_true.old, when_false.old)) ≡ if_found found (test.new, (when_true.new, when_false.new))) }
+    ensures found { IfOk result (λ found. two_changed (expression_changed (alone funs.now) scope)
+        (two_changed (result_changed (alone funs.now) scope) (result_changed (alone funs.now) scope))
+        (test.old, (when_true.old, when_false.old)) ≡ if_found found (test.new, (when_true.new, when_false.new))) }
     ensures kept { IfOk result (λ found. IsFalse found → (test.new ≡ test.old) × (when_true.new ≡ when_true.old) × (when_false.new ≡ when_false.old)) }
 {
     if unfold(alloc, funs, test, scope)? {
@@ -70,7 +72,8 @@ fn unfold_branches(
     when_false: &mut Res,
     scope: u32,
 ) -> Result<bool, AllocError>
-    ensures found { IfOk result (λ found. two_changed (result_changed (alone funs.now) scope) (result_changed (alone funs.now) scope) (when_true.old, when_false.old) ≡ if_found found (when_true.new, when_false.new)) }
+    ensures found { IfOk result (λ found. two_changed (result_changed (alone funs.now) scope) (result_changed (alone funs.now) scope)
+        (when_true.old, when_false.old) ≡ if_found found (when_true.new, when_false.new)) }
     ensures kept { IfOk result (λ found. IsFalse found → (when_true.new ≡ when_true.old) × (when_false.new ≡ when_false.old)) }
 {
     if unfold_result(alloc, funs, when_true, scope)? {
@@ -89,7 +92,8 @@ fn unfold_case(
     arms: &mut List<(PatC, Res)>,
     scope: u32,
 ) -> Result<bool, AllocError>
-    ensures found { IfOk result (λ found. two_changed (expression_changed (alone funs.now) scope) (first_changed (arm_changed (result_changed (alone funs.now)) scope)) (part.old, arms.old) ≡ if_found found (part.new, arms.new)) }
+    ensures found { IfOk result (λ found. two_changed (expression_changed (alone funs.now) scope)
+        (first_changed (arm_changed (result_changed (alone funs.now)) scope)) (part.old, arms.old) ≡ if_found found (part.new, arms.new)) }
     ensures kept { IfOk result (λ found. IsFalse found → (part.new ≡ part.old) × (arms.new ≡ arms.old)) }
 {
     if unfold(alloc, funs, part, scope)? {
@@ -108,7 +112,8 @@ fn unfold_binding(
     body: &mut Res,
     scope: u32,
 ) -> Result<bool, AllocError>
-    ensures found { IfOk result (λ found. two_changed (expression_changed (alone funs.now) scope) (result_changed (alone funs.now) (scope + 1)) (part.old, body.old) ≡ if_found found (part.new, body.new)) }
+    ensures found { IfOk result (λ found. two_changed (expression_changed (alone funs.now) scope) (result_changed (alone funs.now) (scope + 1))
+        (part.old, body.old) ≡ if_found found (part.new, body.new)) }
     ensures kept { IfOk result (λ found. IsFalse found → (part.new ≡ part.old) × (body.new ≡ body.old)) }
 {
     if unfold(alloc, funs, part, scope)? {
@@ -154,7 +159,7 @@ fn unfold_first_way(
 
 // The pattern's variables are in scope in its branch.
 #[cycle(unfold_result)]
-fn unfold_way(
+pub fn unfold_way(
     alloc: Global,
     funs: &[FunC],
     arm: &mut (PatC, Res),
