@@ -4,8 +4,9 @@
 //! `hume_front::accept` whether a source is accepted, and `why` asks it again of sources with one part put away, to find the part that
 //! breaks the rule.
 //!
-//! Proved: nothing beyond safety: no call fails but for memory, and each ends. That `why` tells the code and the line of
-//! `hume check` is so since both call `accept`.
+//! Proved: `look` says that a source is accepted exactly where it is. Of a refused source `net` and `hints` show the line of
+//! `hume check`, and `bounds` shows it first (`Shown.antt`). Beyond it nothing but safety: no call fails but for memory, and each
+//! ends. That `why` tells the code and the line of `hume check` is so since both call `accept`.
 //!
 //! It knows sources, programs, cores, and the words of calls. It doesn't know runs.
 #![tactic(auto)]

@@ -1,5 +1,8 @@
 //! The bounds of boxes, rules and handlers, and what decides them.
+#![tactic(auto, using(look_sources::proofs::Growing::growing))]
+
 ghost use Rattle.hume_exceptions.specs.Sets.{IsRaisesOf};
+ghost use Rattle.look_sources.specs.Pages.{Grows};
 
 use crate::bound::{Bound, Measure};
 use crate::box_bounds::{Ground, built_count, built_variables, greatest, node_bounds, rule_bounds};
@@ -14,20 +17,39 @@ use std::alloc::{AllocError, Global};
 const MAX_LINKS: u32 = 256;
 
 /// Puts all boxes with their rules and handlers, in source order, and the sum.
-pub fn put_bounds(alloc: Global, core: &Core, page: &mut Page) -> Result<(), AllocError> {
+pub fn put_bounds(alloc: Global, core: &Core, page: &mut Page) -> Result<(), AllocError>
+    ensures { Grows page.old page.new }
+{
     let raised = raises(alloc, core)?;
     let ground = Ground::of(alloc, core)?;
     for node in core.nodes.as_slice() {
-        if let NodeC::Rules(b) = node {
-            put_box(alloc, core, &raised, &ground, b, page)?;
-        }
+        put_node(alloc, core, &raised, &ground, node, page)?;
     }
     let bounds = node_bounds(alloc, core)?;
     put_total(bounds.as_slice(), page);
     Ok(())
 }
 
-fn put_total(bounds: &[Bound], page: &mut Page) {
+fn put_node(
+    alloc: Global,
+    core: &Core,
+    raised: &Raises,
+    ground: &Ground,
+    node: &NodeC,
+    page: &mut Page,
+) -> Result<(), AllocError>
+    requires { IsRaisesOf core.now raised.now }
+    ensures { Grows page.old page.new }
+{
+    match node {
+        NodeC::Rules(b) => put_box(alloc, core, raised, ground, b, page),
+        _ => Ok(()),
+    }
+}
+
+fn put_total(bounds: &[Bound], page: &mut Page)
+    ensures { Grows page.old page.new }
+{
     let mut heap: u64 = 0;
     let mut stack: u64 = 0;
     for bound in bounds {
@@ -47,7 +69,9 @@ fn put_total(bounds: &[Bound], page: &mut Page) {
     }
 }
 
-fn put_limit(page: &mut Page, limit: u64) {
+fn put_limit(page: &mut Page, limit: u64)
+    ensures { Grows page.old page.new }
+{
     page.put(b", past the limit of ");
     page.number(limit);
     page.put(b"\n");
@@ -62,6 +86,7 @@ fn put_box(
     page: &mut Page,
 ) -> Result<(), AllocError>
     requires { IsRaisesOf core.now raised.now }
+    ensures { Grows page.old page.new }
 {
     let rules = rule_bounds(alloc, core, raised, ground, b)?;
     let bound = greatest(rules.as_slice());
@@ -101,7 +126,9 @@ fn put_box(
     Ok(())
 }
 
-fn put_bound(page: &mut Page, bound: Bound) {
+fn put_bound(page: &mut Page, bound: Bound)
+    ensures { Grows page.old page.new }
+{
     page.put(b" heap ");
     page.number(bound.heap);
     page.put(b" stack ");
@@ -111,7 +138,9 @@ fn put_bound(page: &mut Page, bound: Bound) {
 }
 
 // The lines of rules. Those that decide a measure say so.
-fn put_rules(page: &mut Page, rules: &[Bound], bound: Bound) {
+fn put_rules(page: &mut Page, rules: &[Bound], bound: Bound)
+    ensures { Grows page.old page.new }
+{
     for i in 0..rules.len() {
         page.put(b"  rule ");
         page.number((i as u64).saturating_add(1));
@@ -123,7 +152,9 @@ fn put_rules(page: &mut Page, rules: &[Bound], bound: Bound) {
     }
 }
 
-fn put_mark(page: &mut Page, rules: &[Bound], rule: usize, bound: Bound, measure: Measure) {
+fn put_mark(page: &mut Page, rules: &[Bound], rule: usize, bound: Bound, measure: Measure)
+    ensures { Grows page.old page.new }
+{
     if deciding_rule(rules, bound, measure) == Some(rule) {
         page.put(b" *");
         page.put(measure.name());
@@ -140,14 +171,21 @@ fn deciding_rule(rules: &[Bound], bound: Bound, measure: Measure) -> Option<usiz
     None
 }
 
-fn put_handlers(page: &mut Page, core: &Core, ground: &Ground, b: &BoxC) {
+fn put_handlers(page: &mut Page, core: &Core, ground: &Ground, b: &BoxC)
+    ensures { Grows page.old page.new }
+{
     for handler in b.handlers.as_slice() {
         page.put(b"  handler ");
-        if let Some(exn) = core.exns.get(handler.exn as usize) {
-            page.put(exn.name.bytes());
-        }
+        page.put(exception_name(core, handler.exn));
         put_bound(page, ground.handler(handler));
         page.put(b"\n");
+    }
+}
+
+fn exception_name(core: &Core, exn: u32) -> &[u8] {
+    match core.exns.get(exn as usize) {
+        None => b"",
+        Some(exn) => exn.name.bytes(),
     }
 }
 
@@ -168,7 +206,9 @@ fn put_reason(
     rules: &[Bound],
     bound: Bound,
     measure: Measure,
-) {
+)
+    ensures { Grows page.old page.new }
+{
     let Some(number) = deciding_rule(rules, bound, measure) else {
         return;
     };
@@ -179,10 +219,7 @@ fn put_reason(
     page.put(measure.name());
     page.put(b" ");
     page.number(bound.by(measure));
-    if bound.by(measure) > limit_of(measure) {
-        page.put(b", past the limit of ");
-        page.number(limit_of(measure));
-    }
+    put_excess(page, bound.by(measure), limit_of(measure));
     page.put(b": rule ");
     page.number((number as u64).saturating_add(1));
     page.put(b"\n");
@@ -203,7 +240,18 @@ fn put_reason(
     );
 }
 
-fn put_share(page: &mut Page, name: &[u8], amount: u64) {
+fn put_excess(page: &mut Page, figure: u64, limit: u64)
+    ensures { Grows page.old page.new }
+{
+    if figure > limit {
+        page.put(b", past the limit of ");
+        page.number(limit);
+    }
+}
+
+fn put_share(page: &mut Page, name: &[u8], amount: u64)
+    ensures { Grows page.old page.new }
+{
     if amount > 0 {
         page.put(b"    ");
         page.put(name);
@@ -227,7 +275,9 @@ fn inputs_share(ground: &Ground, b: &BoxC, number: usize, measure: Measure) -> u
 }
 
 // The chain of dearest forms, to where nothing costs anything any more.
-fn put_chain<'a>(page: &mut Page, functions: &[FunC], deciding: &Deciding<'a>, stage: Stage<'a>) {
+fn put_chain<'a>(page: &mut Page, functions: &[FunC], deciding: &Deciding<'a>, stage: Stage<'a>)
+    ensures { Grows page.old page.new }
+{
     let mut stage = stage;
     for _ in 0..MAX_LINKS {
         let link = deciding.next(stage);
@@ -239,9 +289,21 @@ fn put_chain<'a>(page: &mut Page, functions: &[FunC], deciding: &Deciding<'a>, s
     }
 }
 
-fn put_link<'a>(page: &mut Page, functions: &[FunC], link: Link<'a>) {
+fn put_link<'a>(page: &mut Page, functions: &[FunC], link: Link<'a>)
+    ensures { Grows page.old page.new }
+{
     page.put(b"    ");
     page.put(link.form.name());
+    put_which(page, functions, link);
+    page.put(b": ");
+    page.number(link.amount);
+    page.put(b"\n");
+}
+
+// Puts the function that is called, or the number of the part.
+fn put_which<'a>(page: &mut Page, functions: &[FunC], link: Link<'a>)
+    ensures { Grows page.old page.new }
+{
     if link.form == Form::Call {
         page.put(b" ");
         if let Some(function) = functions.get(link.number) {
@@ -251,7 +313,4 @@ fn put_link<'a>(page: &mut Page, functions: &[FunC], link: Link<'a>) {
         page.put(b" ");
         page.number(link.number as u64);
     }
-    page.put(b": ");
-    page.number(link.amount);
-    page.put(b"\n");
 }

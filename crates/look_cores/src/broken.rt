@@ -1,5 +1,10 @@
 //! What breaks the rules on wires, exceptions and bounds, told from the core.
+#![tactic(auto, using(look_sources::proofs::Growing::growing))]
+
 ghost use Rattle.hume_exceptions.specs.Sets.{IsRaisesOf};
+ghost use Rattle.look_sources.specs.Pages.{Grows};
+ghost use Rattle.std.specs.Prelude.{◌≡◌};
+ghost use Rattle.hume_model.specs.HandlerRules.{has_handler};
 
 use crate::bound::Bound;
 use crate::box_bounds::node_bounds;
@@ -31,7 +36,9 @@ pub fn tell_of_core(
     core: &Core,
     refusal: Refusal,
     note: &mut Page,
-) -> Result<Option<Culprit>, AllocError> {
+) -> Result<Option<Culprit>, AllocError>
+    ensures { Grows note.old note.new }
+{
     match refusal.rule.phase() {
         8 => Ok(tell_wires(core, refusal, note)),
         9 => tell_exceptions(alloc, core, refusal, note),
@@ -43,28 +50,47 @@ pub fn tell_of_core(
     }
 }
 
-fn tell_wires(core: &Core, refusal: Refusal, note: &mut Page) -> Option<Culprit> {
+fn tell_wires(core: &Core, refusal: Refusal, note: &mut Page) -> Option<Culprit>
+    ensures { Grows note.old note.new }
+{
     match refusal.rule {
         Rule::C50 | Rule::C52 => tell_nodes(core, refusal, note),
         _ => tell_each_wire(core, refusal, note),
     }
 }
 
-fn tell_nodes(core: &Core, refusal: Refusal, note: &mut Page) -> Option<Culprit> {
+fn tell_nodes(core: &Core, refusal: Refusal, note: &mut Page) -> Option<Culprit>
+    ensures { Grows note.old note.new }
+{
     let mut first = None;
     for n in 0..core.nodes.len() {
-        if core.nodes[n].line() == refusal.line {
-            first = first.or(tell_unwired(core, &core.nodes[n], n, refusal.rule, note));
-        }
+        first = first.or(tell_node(core, &core.nodes[n], n, refusal, note));
     }
     first
 }
 
-fn tell_each_wire(core: &Core, refusal: Refusal, note: &mut Page) -> Option<Culprit> {
+// Tells of the node, if it is the one in the line.
+fn tell_node(
+    core: &Core,
+    node: &NodeC,
+    number: usize,
+    refusal: Refusal,
+    note: &mut Page,
+) -> Option<Culprit>
+    ensures { Grows note.old note.new }
+{
+    if node.line() == refusal.line {
+        tell_unwired(core, node, number, refusal.rule, note)
+    } else {
+        None
+    }
+}
+
+fn tell_each_wire(core: &Core, refusal: Refusal, note: &mut Page) -> Option<Culprit>
+    ensures { Grows note.old note.new }
+{
     for w in 0..core.wires.len() {
-        if core.wires[w].line == refusal.line {
-            tell_wire(core, &core.wires[w], w, refusal.rule, note);
-        }
+        tell_wire(core, &core.wires[w], w, refusal, note);
     }
     let sort = match refusal.rule {
         Rule::C53 => Sort::WireFrom,
@@ -80,7 +106,9 @@ pub(crate) fn tell_unwired(
     node: usize,
     rule: Rule,
     note: &mut Page,
-) -> Option<Culprit> {
+) -> Option<Culprit>
+    ensures { Grows note.old note.new }
+{
     match (this, rule) {
         (NodeC::Rules(b), Rule::C50) => {
             let what = b"no wire leads to input `".as_slice();
@@ -104,24 +132,29 @@ fn tell_ports(
     rule: Rule,
     what: &[u8],
     note: &mut Page,
-) -> Option<usize> {
+) -> Option<usize>
+    ensures { Grows note.old note.new }
+{
     let mut first = None;
     for i in 0..ports.len() {
-        if !has_wire(core, node, i, rule) {
-            put_unwired(note, what, ports[i].name.bytes());
-            if first.is_none() {
-                first = Some(i);
-            }
+        let is_told = !has_wire(core, node, i, rule);
+        put_unwired(note, is_told, what, ports[i].name.bytes());
+        if is_told && first.is_none() {
+            first = Some(i);
         }
     }
     first
 }
 
-fn put_unwired(note: &mut Page, what: &[u8], name: &[u8]) {
-    note.put(b"  ");
-    note.put(what);
-    note.put(name);
-    note.put(b"`\n");
+fn put_unwired(note: &mut Page, is_told: bool, what: &[u8], name: &[u8])
+    ensures { Grows note.old note.new }
+{
+    if is_told {
+        note.put(b"  ");
+        note.put(what);
+        note.put(name);
+        note.put(b"`\n");
+    }
 }
 
 /// Whether a wire has that end.
@@ -143,11 +176,22 @@ pub(crate) fn end_of(wire: &WireC, rule: Rule) -> (u32, u32) {
     }
 }
 
-fn tell_wire(core: &Core, wire: &WireC, number: usize, rule: Rule, note: &mut Page) {
-    if rule == Rule::C54 {
-        tell_types(core, wire, note);
-        return;
+// Tells of the wire, if it is the one in the line.
+fn tell_wire(core: &Core, wire: &WireC, number: usize, refusal: Refusal, note: &mut Page)
+    ensures { Grows note.old note.new }
+{
+    if wire.line == refusal.line {
+        if refusal.rule == Rule::C54 {
+            tell_types(core, wire, note);
+        } else {
+            tell_earlier(core, wire, number, refusal.rule, note);
+        }
     }
+}
+
+fn tell_earlier(core: &Core, wire: &WireC, number: usize, rule: Rule, note: &mut Page)
+    ensures { Grows note.old note.new }
+{
     for earlier in 0..number.min(core.wires.len()) {
         if end_of(&core.wires[earlier], rule) == end_of(wire, rule) {
             note.put(b"  the earlier wire there is in line ");
@@ -159,7 +203,9 @@ fn tell_wire(core: &Core, wire: &WireC, number: usize, rule: Rule, note: &mut Pa
 }
 
 // Tells the types at both ends.
-fn tell_types(core: &Core, wire: &WireC, note: &mut Page) {
+fn tell_types(core: &Core, wire: &WireC, note: &mut Page)
+    ensures { Grows note.old note.new }
+{
     let from = core.nodes.get(wire.from as usize);
     let to = core.nodes.get(wire.to as usize);
     if let (Some(NodeC::Rules(first)), Some(NodeC::Rules(second))) = (from, to) {
@@ -182,17 +228,34 @@ fn tell_exceptions(
     core: &Core,
     refusal: Refusal,
     note: &mut Page,
-) -> Result<Option<Culprit>, AllocError> {
+) -> Result<Option<Culprit>, AllocError>
+    ensures { Grows note.old note.new }
+{
     let raised = raises(alloc, core)?;
-    let mut first = None;
     for node in core.nodes.as_slice() {
-        if let NodeC::Rules(b) = node {
-            if b.line == refusal.line && first.is_none() {
-                first = tell_box(core, &raised, b, refusal.rule, note);
-            }
+        let first = tell_raising(core, &raised, node, refusal, note);
+        if first.is_some() {
+            return Ok(first);
         }
     }
-    Ok(first)
+    Ok(None)
+}
+
+// Tells of the node, if it is the box in the line.
+fn tell_raising(
+    core: &Core,
+    raised: &Raises,
+    node: &NodeC,
+    refusal: Refusal,
+    note: &mut Page,
+) -> Option<Culprit>
+    requires { IsRaisesOf core.now raised.now }
+    ensures { Grows note.old note.new }
+{
+    match node {
+        NodeC::Rules(b) if b.line == refusal.line => tell_box(core, raised, b, refusal.rule, note),
+        _ => None,
+    }
 }
 
 /// Tells what rules or handlers of the box raise, and which is the first that does.
@@ -204,6 +267,7 @@ pub(crate) fn tell_box(
     note: &mut Page,
 ) -> Option<Culprit>
     requires { IsRaisesOf core.now raised.now }
+    ensures { Grows note.old note.new }
 {
     if rule == Rule::C60 {
         part(Sort::Rule, tell_rules(core, raised, b, note)?)
@@ -215,6 +279,7 @@ pub(crate) fn tell_box(
 // Tells what rules raise that the box doesn't handle, and which is the first that does.
 fn tell_rules(core: &Core, raised: &Raises, b: &BoxC, note: &mut Page) -> Option<usize>
     requires { IsRaisesOf core.now raised.now }
+    ensures { Grows note.old note.new }
 {
     let mut first = None;
     for i in 0..b.rules.len() {
@@ -229,6 +294,7 @@ fn tell_rules(core: &Core, raised: &Raises, b: &BoxC, note: &mut Page) -> Option
 // Tells what handlers raise, and which is the first that does.
 fn tell_handlers(core: &Core, raised: &Raises, b: &BoxC, note: &mut Page) -> Option<usize>
     requires { IsRaisesOf core.now raised.now }
+    ensures { Grows note.old note.new }
 {
     let mut first = None;
     for i in 0..b.handlers.len() {
@@ -248,24 +314,35 @@ fn tell_set(
     what: &[u8],
     number: usize,
     note: &mut Page,
-) -> bool {
+) -> bool
+    ensures { Grows note.old note.new }
+{
     let mut some = false;
     for exn in 0..core.exns.len().min(64) {
-        if set.has(exn as u32) && !is_handled(handlers, exn as u32) {
-            note.put(b"  ");
-            note.put(what);
-            note.number((number as u64).saturating_add(1));
-            note.put(b" may raise `");
-            note.put(core.exns[exn].name.bytes());
-            note.put(b"`\n");
-            some = true;
-        }
+        let is_told = set.has(exn as u32) && !is_handled(handlers, exn as u32);
+        put_raised(note, is_told, what, number, core.exns[exn].name.bytes());
+        some = some || is_told;
     }
     some
 }
 
+fn put_raised(note: &mut Page, is_told: bool, what: &[u8], number: usize, name: &[u8])
+    ensures { Grows note.old note.new }
+{
+    if is_told {
+        note.put(b"  ");
+        note.put(what);
+        note.number((number as u64).saturating_add(1));
+        note.put(b" may raise `");
+        note.put(name);
+        note.put(b"`\n");
+    }
+}
+
 /// Whether one of the handlers is for the exception.
-pub(crate) fn is_handled(handlers: &[HandC], exn: u32) -> bool {
+pub(crate) fn is_handled(handlers: &[HandC], exn: u32) -> bool
+    ensures { result ≡ has_handler handlers.now exn }
+{
     for handler in handlers {
         if handler.exn == exn {
             return true;
@@ -279,7 +356,9 @@ fn tell_bounds(
     core: &Core,
     refusal: Refusal,
     note: &mut Page,
-) -> Result<(), AllocError> {
+) -> Result<(), AllocError>
+    ensures { Grows note.old note.new }
+{
     let bounds = node_bounds(alloc, core)?;
     let mut through: u64 = 0;
     for n in 0..core.nodes.len() {
@@ -287,21 +366,22 @@ fn tell_bounds(
         through = through
             .saturating_add(bound.heap)
             .saturating_add(bound.stack);
-        if core.nodes[n].line() == refusal.line {
-            tell_bound(bound, through, refusal.rule, note);
-        }
+        let is_told = core.nodes[n].line() == refusal.line;
+        tell_bound(bound, through, refusal.rule, is_told, note);
     }
     Ok(())
 }
 
-fn tell_bound(bound: Bound, through: u64, rule: Rule, note: &mut Page) {
+fn tell_bound(bound: Bound, through: u64, rule: Rule, is_told: bool, note: &mut Page)
+    ensures { Grows note.old note.new }
+{
     let (figure, limit) = match rule {
         Rule::C75 => (bound.heap, MAX_HEAP_WORDS),
         Rule::C76 => (bound.stack, MAX_STACK_WORDS),
         Rule::C78 => (through, MAX_SPACE_WORDS),
         _ => (bound.work, MAX_WORK),
     };
-    if figure > u64::from(limit) {
+    if is_told && figure > u64::from(limit) {
         note.put(b"  it is ");
         note.number(figure);
         note.put(b", and the limit ");

@@ -1,5 +1,7 @@
 //! What lets a rule or a handler raise `NoCase`: equations and alternatives that leave something out, and `raise NoCase` itself.
 ghost use Rattle.hume_exceptions.specs.Sets.{IsRaisesOf};
+ghost use Rattle.std.specs.Prelude.{◌≡◌, ◌≤◌, ◌<◌, IfOk, false, vec_len};
+ghost use Rattle.look_cores.specs.declared.gaps.TheConstants.{MAX_GAPS};
 
 use crate::alternatives::Alternatives;
 use crate::broken::{Culprit, tell_box};
@@ -40,7 +42,9 @@ pub fn gaps_of(
     core: &Core,
     refusal: Refusal,
     culprit: Culprit,
-) -> Result<Vec<Gap>, AllocError> {
+) -> Result<Vec<Gap>, AllocError>
+    ensures { IfOk result (λ gaps. vec_len gaps ≤ MAX_GAPS) }
+{
     let raised = raises(alloc, core)?;
     let mut search = Search::begin(alloc, core)?;
     if let Some((b, result)) = raising_result(alloc, core, &raised, refusal, culprit) {
@@ -140,6 +144,7 @@ struct Search<'a> {
     cases: usize,
     steps: usize,
     failed: bool,
+    ghost few: { vec_len gaps ≤ MAX_GAPS },
 }
 
 impl<'a> Search<'a> {
@@ -179,7 +184,9 @@ impl<'a> Search<'a> {
         }
     }
 
-    fn is_full(&self) -> bool {
+    fn is_full(&self) -> bool
+        ensures { result ≡ false → vec_len self.now.gaps < MAX_GAPS }
+    {
         self.gaps.len() >= MAX_GAPS
     }
 
@@ -216,7 +223,9 @@ impl<'a> Search<'a> {
         }
     }
 
-    fn finish(self) -> Result<Vec<Gap>, AllocError> {
+    fn finish(self) -> Result<Vec<Gap>, AllocError>
+        ensures { IfOk result (λ gaps. vec_len gaps ≤ MAX_GAPS) }
+    {
         let failed = self.failed || self.scope.has_failed();
         let Search { gaps, .. } = self;
         if failed { Err(AllocError) } else { Ok(gaps) }

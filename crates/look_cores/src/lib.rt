@@ -4,8 +4,10 @@
 //! `broken_in` finds all declarations that break one, and
 //! `gaps_of` what lets a rule raise `NoCase`.
 //!
-//! Proved: nothing beyond safety: no call fails but for memory, and each ends. That the bounds are those of `space_costs` is
-//! compared over the examples.
+//! Proved: `may_raise` and `first_raised` find exactly the exceptions that rules and handlers let out of their boxes (`Raised.antt`).
+//! What is put or told stands behind all that stood on the page (`Grows`), `broken_in` gives refusals in later and later lines, and
+//! `gaps_of` three gaps at most. Beyond it nothing but safety: no call fails but for memory, and each ends. That the bounds are those
+//! of `space_costs` is compared over the examples.
 //!
 //! It knows cores. It doesn't know sources, or why one is refused.
 #![tactic(auto)]

@@ -1,6 +1,10 @@
 //! The net of a core as Graphviz text.
 //!
 //! One statement a line, its attributes in one order: `docs/COMMANDS.md` has the form.
+#![tactic(auto, using(look_sources::proofs::Growing::growing))]
+
+ghost use Rattle.look_sources.specs.Pages.{Grows};
+
 use crate::bound::Bound;
 use crate::box_bounds::node_bounds;
 use crate::texts::{put_type, put_value};
@@ -9,7 +13,9 @@ use look_sources::Page;
 use std::alloc::{AllocError, Global};
 
 /// Puts the net: the nodes and then the wires, in source order.
-pub fn put_net(alloc: Global, core: &Core, page: &mut Page) -> Result<(), AllocError> {
+pub fn put_net(alloc: Global, core: &Core, page: &mut Page) -> Result<(), AllocError>
+    ensures { Grows page.old page.new }
+{
     let bounds = node_bounds(alloc, core)?;
     page.put(b"digraph \"net\" {\n  rankdir=\"LR\";\n");
     for i in 0..core.nodes.len() {
@@ -23,7 +29,9 @@ pub fn put_net(alloc: Global, core: &Core, page: &mut Page) -> Result<(), AllocE
     Ok(())
 }
 
-fn put_node(page: &mut Page, node: &NodeC, bound: Bound) {
+fn put_node(page: &mut Page, node: &NodeC, bound: Bound)
+    ensures { Grows page.old page.new }
+{
     match node {
         NodeC::Rules(b) => put_box(page, b, bound),
         NodeC::From(stream) => put_stream(page, b"from", stream),
@@ -31,7 +39,9 @@ fn put_node(page: &mut Page, node: &NodeC, bound: Bound) {
     }
 }
 
-fn put_box(page: &mut Page, b: &BoxC, bound: Bound) {
+fn put_box(page: &mut Page, b: &BoxC, bound: Bound)
+    ensures { Grows page.old page.new }
+{
     put_start(page, b.name.bytes());
     put_attribute(page, b"kind", b"box");
     put_attribute(page, b"order", if b.fair { b"fair" } else { b"match" });
@@ -51,7 +61,9 @@ fn put_box(page: &mut Page, b: &BoxC, bound: Bound) {
     page.put(b"\"];\n");
 }
 
-fn put_stream(page: &mut Page, kind: &[u8], stream: &StreamC) {
+fn put_stream(page: &mut Page, kind: &[u8], stream: &StreamC)
+    ensures { Grows page.old page.new }
+{
     put_start(page, stream.name.bytes());
     put_attribute(page, b"kind", kind);
     put_attribute(page, b"port", stream.port.bytes());
@@ -66,20 +78,26 @@ fn put_stream(page: &mut Page, kind: &[u8], stream: &StreamC) {
     page.put(b"\"];\n");
 }
 
-fn put_start(page: &mut Page, name: &[u8]) {
+fn put_start(page: &mut Page, name: &[u8])
+    ensures { Grows page.old page.new }
+{
     page.put(b"  \"");
     page.put(name);
     page.put(b"\" [");
 }
 
-fn put_attribute(page: &mut Page, name: &[u8], value: &[u8]) {
+fn put_attribute(page: &mut Page, name: &[u8], value: &[u8])
+    ensures { Grows page.old page.new }
+{
     page.put(name);
     page.put(b"=\"");
     put_escaped(page, value);
     page.put(b"\", ");
 }
 
-fn put_number(page: &mut Page, name: &[u8], value: u64) {
+fn put_number(page: &mut Page, name: &[u8], value: u64)
+    ensures { Grows page.old page.new }
+{
     page.put(name);
     page.put(b"=\"");
     page.number(value);
@@ -87,16 +105,19 @@ fn put_number(page: &mut Page, name: &[u8], value: u64) {
 }
 
 // Puts the bytes with a backslash before each quote and each backslash.
-fn put_escaped(page: &mut Page, bytes: &[u8]) {
+fn put_escaped(page: &mut Page, bytes: &[u8])
+    ensures { Grows page.old page.new }
+{
     for byte in bytes {
-        if *byte == b'"' || *byte == b'\\' {
-            page.put(b"\\");
-        }
+        let is_escaped = *byte == b'"' || *byte == b'\\';
+        page.put(if is_escaped { b"\\".as_slice() } else { b"" });
         page.put(&[*byte]);
     }
 }
 
-fn put_wire(alloc: Global, core: &Core, wire: &WireC, page: &mut Page) {
+fn put_wire(alloc: Global, core: &Core, wire: &WireC, page: &mut Page)
+    ensures { Grows page.old page.new }
+{
     let nodes = core.nodes.as_slice();
     page.put(b"  \"");
     page.put(node_name(nodes, wire.from));
@@ -121,28 +142,43 @@ fn put_wire(alloc: Global, core: &Core, wire: &WireC, page: &mut Page) {
 }
 
 // Puts the names of output and input; a stream has none.
-fn put_ports(page: &mut Page, output: &[u8], input: &[u8]) {
+fn put_ports(page: &mut Page, output: &[u8], input: &[u8])
+    ensures { Grows page.old page.new }
+{
+    let is_between = !output.is_empty() && !input.is_empty();
     page.put(output);
-    if !output.is_empty() && !input.is_empty() {
-        page.put(b" to ");
-    }
+    page.put(if is_between { b" to ".as_slice() } else { b"" });
     page.put(input);
     page.put(b"\\n");
 }
 
-fn put_wire_label(page: &mut Page, wire: &WireC, ty: &Page, initial: &Page) {
+fn put_wire_label(page: &mut Page, wire: &WireC, ty: &Page, initial: &Page)
+    ensures { Grows page.old page.new }
+{
     put_escaped(page, ty.bytes());
-    if wire.depth > 1 {
-        page.put(b" @ ");
-        page.number(u64::from(wire.depth));
-    }
-    if !initial.is_empty() {
-        page.put(b"\\ninitial ");
-        put_escaped(page, initial.bytes());
-    }
+    put_depth(page, wire.depth);
+    put_initial(page, initial);
     page.put(b"\"];\n");
     if ty.has_failed() || initial.has_failed() {
         page.fail();
+    }
+}
+
+fn put_depth(page: &mut Page, depth: u32)
+    ensures { Grows page.old page.new }
+{
+    if depth > 1 {
+        page.put(b" @ ");
+        page.number(u64::from(depth));
+    }
+}
+
+fn put_initial(page: &mut Page, initial: &Page)
+    ensures { Grows page.old page.new }
+{
+    if !initial.is_empty() {
+        page.put(b"\\ninitial ");
+        put_escaped(page, initial.bytes());
     }
 }
 

@@ -1,10 +1,16 @@
 //! Types and values as a source spells them.
+#![tactic(auto, using(look_sources::proofs::Growing::growing))]
+
+ghost use Rattle.look_sources.specs.Pages.{Grows};
+
 use hume_base::{ConDef, SumDef, Ty, Types, Value, int_of_word};
 use look_sources::Page;
 
 /// Puts the type.
 #[cycle(put_type)]
-pub fn put_type(page: &mut Page, types: &Types, ty: &Ty) {
+pub fn put_type(page: &mut Page, types: &Types, ty: &Ty)
+    ensures { Grows page.old page.new }
+{
     match ty {
         Ty::Bool => page.put(b"bool"),
         Ty::Char => page.put(b"char"),
@@ -32,12 +38,12 @@ pub fn put_type(page: &mut Page, types: &Types, ty: &Ty) {
 }
 
 #[cycle(put_type)]
-fn put_types(page: &mut Page, types: &Types, parts: &[Ty]) {
+fn put_types(page: &mut Page, types: &Types, parts: &[Ty])
+    ensures { Grows page.old page.new }
+{
     page.put(b"(");
     for i in 0..parts.len() {
-        if i > 0 {
-            page.put(b", ");
-        }
+        page.put(if i > 0 { b", ".as_slice() } else { b"" });
         put_type(page, types, &parts[i]);
     }
     page.put(b")");
@@ -45,7 +51,9 @@ fn put_types(page: &mut Page, types: &Types, parts: &[Ty]) {
 
 /// Puts the value of the type.
 #[cycle(put_value)]
-pub(crate) fn put_value(page: &mut Page, types: &Types, ty: &Ty, value: &Value) {
+pub(crate) fn put_value(page: &mut Page, types: &Types, ty: &Ty, value: &Value)
+    ensures { Grows page.old page.new }
+{
     match value {
         Value::Word(word) => put_word(page, ty, *word),
         Value::Tuple(parts) => {
@@ -68,37 +76,34 @@ pub(crate) fn put_value(page: &mut Page, types: &Types, ty: &Ty, value: &Value) 
 }
 
 #[cycle(put_value)]
-fn put_values(page: &mut Page, types: &Types, tys: &[Ty], values: &[Value]) {
+fn put_values(page: &mut Page, types: &Types, tys: &[Ty], values: &[Value])
+    ensures { Grows page.old page.new }
+{
     for i in 0..tys.len().min(values.len()) {
-        if i > 0 {
-            page.put(b", ");
-        }
+        page.put(if i > 0 { b", ".as_slice() } else { b"" });
         put_value(page, types, &tys[i], &values[i]);
     }
 }
 
 #[cycle(put_value)]
-fn put_items(page: &mut Page, types: &Types, ty: &Ty, values: &[Value]) {
+fn put_items(page: &mut Page, types: &Types, ty: &Ty, values: &[Value])
+    ensures { Grows page.old page.new }
+{
     for i in 0..values.len() {
-        if i > 0 {
-            page.put(b", ");
-        }
+        page.put(if i > 0 { b", ".as_slice() } else { b"" });
         put_value(page, types, ty, &values[i]);
     }
 }
 
 #[cycle(put_value)]
-fn put_fields(page: &mut Page, types: &Types, tys: &[Ty], values: &[Value]) {
+fn put_fields(page: &mut Page, types: &Types, tys: &[Ty], values: &[Value])
+    ensures { Grows page.old page.new }
+{
     for i in 0..tys.len().min(values.len()) {
-        page.put(b" ");
         let nested = has_fields(&values[i]);
-        if nested {
-            page.put(b"(");
-        }
+        page.put(if nested { b" (".as_slice() } else { b" " });
         put_value(page, types, &tys[i], &values[i]);
-        if nested {
-            page.put(b")");
-        }
+        page.put(if nested { b")".as_slice() } else { b"" });
     }
 }
 
@@ -110,7 +115,9 @@ fn has_fields(value: &Value) -> bool {
 }
 
 /// Puts the word of the type.
-pub(crate) fn put_word(page: &mut Page, ty: &Ty, word: u64) {
+pub(crate) fn put_word(page: &mut Page, ty: &Ty, word: u64)
+    ensures { Grows page.old page.new }
+{
     match ty {
         Ty::Bool => page.put(if word == 0 { b"false" } else { b"true" }),
         Ty::Char => put_letter(page, (word % 256) as u8),
@@ -119,15 +126,25 @@ pub(crate) fn put_word(page: &mut Page, ty: &Ty, word: u64) {
     }
 }
 
-fn put_int(page: &mut Page, number: i64) {
-    if number < 0 {
-        page.put(b"-");
-    }
+fn put_int(page: &mut Page, number: i64)
+    ensures { Grows page.old page.new }
+{
+    page.put(if number < 0 { b"-".as_slice() } else { b"" });
     page.number(number.unsigned_abs());
 }
 
-fn put_letter(page: &mut Page, byte: u8) {
+fn put_letter(page: &mut Page, byte: u8)
+    ensures { Grows page.old page.new }
+{
     page.put(b"'");
+    put_inner(page, byte);
+    page.put(b"'");
+}
+
+// Puts what stands between the quotes.
+fn put_inner(page: &mut Page, byte: u8)
+    ensures { Grows page.old page.new }
+{
     match byte {
         b'\n' => page.put(b"\\n"),
         b'\t' => page.put(b"\\t"),
@@ -135,7 +152,6 @@ fn put_letter(page: &mut Page, byte: u8) {
         b'\'' => page.put(b"\\'"),
         _ => page.put(&[byte]),
     }
-    page.put(b"'");
 }
 
 fn tuple_types(ty: &Ty) -> &[Ty] {

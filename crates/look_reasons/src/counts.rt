@@ -1,4 +1,9 @@
 //! Counts that don't agree with a declaration.
+#![tactic(auto, using(look_sources::proofs::Growing::growing))]
+
+ghost use Rattle.std.specs.Prelude.{◌≡◌};
+ghost use Rattle.look_sources.specs.Pages.{Grows};
+
 use crate::names::is_given;
 use crate::reason::Reason;
 use crate::site::Site;
@@ -8,7 +13,10 @@ use hume_base::{Keyword, Kind, Symbol, Text};
 use look_sources::{Sort, Span};
 
 /// Tells what the part gives and what is declared.
-pub fn tell_counts(site: &Site, program: &Program, span: &Span, reason: &mut Reason) {
+pub fn tell_counts(site: &Site, program: &Program, span: &Span, reason: &mut Reason)
+    ensures head { reason.new.head ≡ reason.old.head }
+    ensures note { Grows reason.old.note reason.new.note }
+{
     if span.sort == Sort::Type {
         tell_type(site, span, reason);
         return;
@@ -32,7 +40,10 @@ fn tell_arguments(
     span: &Span,
     token: usize,
     reason: &mut Reason,
-) -> bool {
+) -> bool
+    ensures head { reason.new.head ≡ reason.old.head }
+    ensures note { Grows reason.old.note reason.new.note }
+{
     let name = site.name(token);
     match declared_parts(program, name) {
         Some(declared) if declared != span.parts => {
@@ -68,7 +79,10 @@ fn outputs_of(program: &Program, declaration: usize) -> Option<usize> {
     }
 }
 
-fn put_outputs(outputs: usize, span: &Span, reason: &mut Reason) {
+fn put_outputs(outputs: usize, span: &Span, reason: &mut Reason)
+    ensures head { reason.new.head ≡ reason.old.head }
+    ensures note { Grows reason.old.note reason.new.note }
+{
     let given = span.parts.max(1);
     if span.sort != Sort::Expression || outputs == given || given > MAX_PARTS {
         return;
@@ -77,7 +91,10 @@ fn put_outputs(outputs: usize, span: &Span, reason: &mut Reason) {
     put_given(b", and this gives ", given, b" value", reason);
 }
 
-fn put_count(count: usize, what: &[u8], reason: &mut Reason) {
+fn put_count(count: usize, what: &[u8], reason: &mut Reason)
+    ensures head { reason.new.head ≡ reason.old.head }
+    ensures note { Grows reason.old.note reason.new.note }
+{
     reason.note.number(count as u64);
     reason.note.put(what);
     reason
@@ -86,25 +103,34 @@ fn put_count(count: usize, what: &[u8], reason: &mut Reason) {
 }
 
 /// Tells of the first equation, rule, handler or wire in the line what it has and what is declared, where these differ.
-pub fn tell_miscounted(site: &Site, program: &Program, reason: &mut Reason) {
+pub fn tell_miscounted(site: &Site, program: &Program, reason: &mut Reason)
+    ensures head { reason.new.head ≡ reason.old.head }
+    ensures note { Grows reason.old.note reason.new.note }
+{
     for span in site.spans {
-        if site.is_here(span) {
-            if span.sort == Sort::WireTo {
-                tell_depth(site, program, span, reason);
+        if !site.is_here(span) {
+            continue;
+        }
+        if span.sort == Sort::WireTo {
+            tell_depth(site, program, span, reason);
+            continue;
+        }
+        match wanted_parts(site, program, span) {
+            Some(wanted) if wanted != span.parts => {
+                reason.here = Some(site.place(span.first));
+                put_miscounted(span, wanted, reason);
+                return;
             }
-            if let Some(wanted) = wanted_parts(site, program, span) {
-                if wanted != span.parts {
-                    reason.here = Some(site.place(span.first));
-                    put_miscounted(span, wanted, reason);
-                    return;
-                }
-            }
+            _ => {}
         }
     }
 }
 
 // Tells the depths that a wire may have, if it has another one.
-fn tell_depth(site: &Site, program: &Program, to: &Span, reason: &mut Reason) {
+fn tell_depth(site: &Site, program: &Program, to: &Span, reason: &mut Reason)
+    ensures head { reason.new.head ≡ reason.old.head }
+    ensures note { Grows reason.old.note reason.new.note }
+{
     let Some(decl) = program.decls.get(to.declaration) else {
         return;
     };
@@ -117,7 +143,10 @@ fn tell_depth(site: &Site, program: &Program, to: &Span, reason: &mut Reason) {
 }
 
 // Tells the widths, lengths or parts that a type may have.
-fn tell_type(site: &Site, span: &Span, reason: &mut Reason) {
+fn tell_type(site: &Site, span: &Span, reason: &mut Reason)
+    ensures head { reason.new.head ≡ reason.old.head }
+    ensures note { Grows reason.old.note reason.new.note }
+{
     if is_word(site, span.first, Keyword::Vector) {
         put_range(b"  a length is 1 to ", u64::from(MAX_LENGTH), reason);
     } else if is_word(site, span.first, Keyword::Int) || is_word(site, span.first, Keyword::Nat) {
@@ -131,13 +160,19 @@ fn tell_type(site: &Site, span: &Span, reason: &mut Reason) {
     }
 }
 
-fn put_range(words: &[u8], most: u64, reason: &mut Reason) {
+fn put_range(words: &[u8], most: u64, reason: &mut Reason)
+    ensures head { reason.new.head ≡ reason.old.head }
+    ensures note { Grows reason.old.note reason.new.note }
+{
     reason.note.put(words);
     reason.note.number(most);
     reason.note.put(b"\n");
 }
 
-fn put_counts(name: &[u8], given: usize, declared: usize, reason: &mut Reason) {
+fn put_counts(name: &[u8], given: usize, declared: usize, reason: &mut Reason)
+    ensures head { reason.new.head ≡ reason.old.head }
+    ensures note { Grows reason.old.note reason.new.note }
+{
     let note = &mut reason.note;
     note.put(b"  `");
     note.put(name);
@@ -148,7 +183,10 @@ fn put_counts(name: &[u8], given: usize, declared: usize, reason: &mut Reason) {
     note.put(b" here\n");
 }
 
-fn put_miscounted(span: &Span, wanted: usize, reason: &mut Reason) {
+fn put_miscounted(span: &Span, wanted: usize, reason: &mut Reason)
+    ensures head { reason.new.head ≡ reason.old.head }
+    ensures note { Grows reason.old.note reason.new.note }
+{
     match span.sort {
         Sort::Rule => {
             put_wanted(b"  the box has ", wanted, b" input", reason);
@@ -165,12 +203,18 @@ fn put_miscounted(span: &Span, wanted: usize, reason: &mut Reason) {
     }
 }
 
-fn put_wanted(before: &[u8], count: usize, what: &[u8], reason: &mut Reason) {
+fn put_wanted(before: &[u8], count: usize, what: &[u8], reason: &mut Reason)
+    ensures head { reason.new.head ≡ reason.old.head }
+    ensures note { Grows reason.old.note reason.new.note }
+{
     reason.note.put(before);
     put_count(count, what, reason);
 }
 
-fn put_given(before: &[u8], count: usize, what: &[u8], reason: &mut Reason) {
+fn put_given(before: &[u8], count: usize, what: &[u8], reason: &mut Reason)
+    ensures head { reason.new.head ≡ reason.old.head }
+    ensures note { Grows reason.old.note reason.new.note }
+{
     reason.note.put(before);
     put_count(count, what, reason);
     reason.note.put(b"\n");

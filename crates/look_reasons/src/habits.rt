@@ -1,9 +1,17 @@
 //! What people write who know other languages, where no token or no program goes on with it: what stands for it here.
+ghost use Rattle.std.specs.Prelude.{◌≡◌};
+ghost use Rattle.std.specs.Option.{option_copied};
+ghost use Rattle.look_sources.specs.Pages.{Grows};
+ghost use Rattle.look_reasons.specs.Misfits.{closes_by_kind, closes_in, is_closing as closes_symbol, keyword_in, keyword_of_kind};
+ghost use Rattle.look_reasons.specs.Reasons.{OnlyRemedyDiffers};
+
 use crate::reason::Reason;
 use hume_base::{Keyword, Kind, Symbol, Token};
 
 /// Tells what stands for the sign at the place, if it is one of another language.
-pub fn tell_habit(text: &[u8], place: usize, reason: &mut Reason) {
+pub fn tell_habit(text: &[u8], place: usize, reason: &mut Reason)
+    ensures { OnlyRemedyDiffers reason.old reason.new }
+{
     let rest = text.get(place..).unwrap_or(b"");
     let mut words = remedy_of_pair(byte_before(text, place), rest);
     if words.is_empty() {
@@ -100,32 +108,73 @@ pub struct Misfit {
 
 impl Misfit {
     /// That of a token; of the end none.
-    pub fn of(token: Option<&Token>) -> Misfit {
-        let mut misfit = Misfit {
-            keyword: None,
-            closes: false,
-        };
-        if let Some(token) = token {
-            match &token.kind {
-                Kind::Word(keyword) => misfit.keyword = Some(*keyword),
-                Kind::Sign(Symbol::CloseParen) => misfit.closes = true,
-                _ => {}
-            }
+    pub fn of(token: Option<&Token>) -> Misfit
+        ensures keyword { result.keyword ≡ keyword_in (option_copied token.entry) }
+        ensures closes { result.closes ≡ closes_in (option_copied token.entry) }
+    {
+        match token {
+            None => Misfit {
+                keyword: None,
+                closes: false,
+            },
+            Some(token) => Misfit {
+                keyword: keyword_of(&token.kind),
+                closes: closes(&token.kind),
+            },
         }
-        misfit
     }
 
     /// Tells why it doesn't go on where the list says what does.
-    pub fn tell(&self, expected: &[u8], reason: &mut Reason) {
+    #[tactic(auto, using(look_sources::proofs::Growing::growing))]
+    pub fn tell(&self, expected: &[u8], reason: &mut Reason)
+        ensures head { reason.new.head ≡ reason.old.head }
+        ensures note { Grows reason.old.note reason.new.note }
+    {
         if let Some(keyword) = self.keyword {
-            if expected.starts_with(b"a lower name") || expected.starts_with(b"an upper name") {
-                reason.note.put(b"  `");
-                reason.note.put(keyword.text());
-                reason.note.put(b"` is a keyword, and no name\n");
-            }
+            tell_keyword(keyword, expected, reason);
         }
         if self.closes && expected == b",".as_slice() {
             reason.remedy = Some(b"leave the parentheses out: those around types are for tuples");
         }
+    }
+}
+
+fn keyword_of(kind: &Kind) -> Option<Keyword>
+    ensures { result ≡ keyword_of_kind kind.now }
+{
+    match kind {
+        Kind::Word(keyword) => Some(*keyword),
+        _ => None,
+    }
+}
+
+fn closes(kind: &Kind) -> bool
+    ensures { result ≡ closes_by_kind kind.now }
+{
+    match kind {
+        Kind::Sign(symbol) => is_closing(*symbol),
+        _ => false,
+    }
+}
+
+fn is_closing(symbol: Symbol) -> bool
+    ensures { result ≡ closes_symbol symbol }
+{
+    match symbol {
+        Symbol::CloseParen => true,
+        _ => false,
+    }
+}
+
+// Tells that the keyword is none, where the list begins with a name.
+#[tactic(auto, using(look_sources::proofs::Growing::growing))]
+fn tell_keyword(keyword: Keyword, expected: &[u8], reason: &mut Reason)
+    ensures head { reason.new.head ≡ reason.old.head }
+    ensures note { Grows reason.old.note reason.new.note }
+{
+    if expected.starts_with(b"a lower name") || expected.starts_with(b"an upper name") {
+        reason.note.put(b"  `");
+        reason.note.put(keyword.text());
+        reason.note.put(b"` is a keyword, and no name\n");
     }
 }

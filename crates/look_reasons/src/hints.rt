@@ -5,7 +5,9 @@
 //! that no rule writes, `waiting` boxes that wait for ever, `lost` rules behind which a box waits for ever, and `constant` comparisons that
 //! give one answer alone, by their `verdicts`.
 //!
-//! Proved: nothing beyond safety.
+//! Proved: each warning stands behind all that stood on the page (`Grows`). Beyond it nothing but safety.
+
+ghost use Rattle.look_sources.specs.Pages.{Grows};
 
 mod behind;
 mod constant;
@@ -29,12 +31,15 @@ pub use parts::Parts;
 use std::alloc::{AllocError, Global};
 
 /// Puts the hints on an accepted source with that core.
+#[tactic(auto, using(look_sources::proofs::Growing::growing))]
 pub fn put_all_hints(
     alloc: Global,
     parts: &Parts,
     core: &Core,
     page: &mut Page,
-) -> Result<(), AllocError> {
+) -> Result<(), AllocError>
+    ensures { Grows page.old page.new }
+{
     put_waiting(alloc, parts, core, page)?;
     put_lost(parts, core, page);
     put_outputs(parts, core, page);

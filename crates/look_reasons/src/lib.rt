@@ -4,7 +4,9 @@
 //! `tell_limits` say of a `Site`, where a source is refused, what breaks the rule; `tell_habit` and `Misfit` say what stands for a sign of
 //! another language; `sentence` and `remedy` are the words of each rule; `hints::put_all_hints` puts the warnings of a source.
 //!
-//! Proved: nothing beyond safety: no call fails but for memory, and each ends.
+//! Proved: a site's places and names are those of its tokens (`Sites.antt`), each sentence and each remedy is one line, and what is
+//! put or told stands behind all that stood on the page (`Grows`). `breaks_limits` gives refusals in later and later lines. Beyond it
+//! nothing but safety: no call fails but for memory, and each ends.
 //!
 //! It knows tokens, trees and cores. It doesn't know how a source is accepted.
 #![tactic(auto)]

@@ -1,4 +1,10 @@
 //! Which declarations are too many or have too many parts or words, with the figures.
+#![tactic(auto, using(look_sources::proofs::Growing::growing))]
+
+ghost use Rattle.std.specs.Prelude.{◌≡◌, IfOk};
+ghost use Rattle.look_sources.specs.Lines.{AreInLaterLines};
+ghost use Rattle.look_sources.specs.Pages.{Grows};
+
 use crate::reason::Reason;
 use crate::site::Site;
 use crate::words::{Words, number_at};
@@ -112,11 +118,10 @@ fn over_words(words: u64) -> Option<Excess> {
 }
 
 /// What is broken in lines behind that of the refusal, by the rules on numbers of parts and on sizes of types: of each line the least.
-pub fn breaks_limits(
-    alloc: Global,
-    site: &Site,
-    words: &Words,
-) -> Result<Vec<Refusal>, AllocError> {
+#[tactic(auto, using(look_sources::proofs::LaterLines::later_steps))]
+pub fn breaks_limits(alloc: Global, site: &Site, words: &Words) -> Result<Vec<Refusal>, AllocError>
+    ensures { IfOk result (λ others. AreInLaterLines site.now.refusal.line others.items) }
+{
     let mut found = Vec::new(alloc);
     let mut declared = Declared::nothing();
     let mut broken: Option<Rule> = None;
@@ -127,17 +132,21 @@ pub fn breaks_limits(
         let span = site.spans[i];
         declared.count(&span);
         broken = least(broken, excess_of(declared, &span, words.of_part(i)));
-        if span.sort == Sort::Declaration {
-            here = here.saturating_add(line_ends(site, place, site.place(span.first)));
-            place = site.place(span.first);
-            if let Some(rule) = broken {
-                if here > line {
-                    line = here;
-                    found.push(Refusal { rule, line })?;
-                }
-            }
-            broken = None;
+        if span.sort != Sort::Declaration {
+            continue;
         }
+        here = here.saturating_add(line_ends(site, place, site.place(span.first)));
+        place = site.place(span.first);
+        let told = broken;
+        broken = None;
+        let Some(rule) = told else {
+            continue;
+        };
+        if here <= line {
+            continue;
+        }
+        line = here;
+        found.push(Refusal { rule, line })?;
     }
     Ok(found)
 }
@@ -165,7 +174,10 @@ fn least(rule: Option<Rule>, excess: Option<Excess>) -> Option<Rule> {
 }
 
 /// Tells what passes the limit, and by how much.
-pub fn tell_limits(site: &Site, words: &Words, reason: &mut Reason) {
+pub fn tell_limits(site: &Site, words: &Words, reason: &mut Reason)
+    ensures head { reason.new.head ≡ reason.old.head }
+    ensures note { Grows reason.old.note reason.new.note }
+{
     if site.refusal.rule == Rule::C74 {
         tell_wire_words(site, words, reason);
         return;
@@ -176,7 +188,10 @@ pub fn tell_limits(site: &Site, words: &Words, reason: &mut Reason) {
 }
 
 // Tells the first part that passes the limit, or the first name of a data type that does; and whether there is one.
-fn tell_excess(site: &Site, words: &Words, names: bool, reason: &mut Reason) -> bool {
+fn tell_excess(site: &Site, words: &Words, names: bool, reason: &mut Reason) -> bool
+    ensures head { reason.new.head ≡ reason.old.head }
+    ensures note { Grows reason.old.note reason.new.note }
+{
     let mut declared = Declared::nothing();
     for i in 0..site.spans.len() {
         let span = site.spans[i];
@@ -193,30 +208,59 @@ fn tell_excess(site: &Site, words: &Words, names: bool, reason: &mut Reason) -> 
     false
 }
 
-fn put_excess(excess: Excess, reason: &mut Reason) {
-    let note = &mut reason.note;
-    if excess.what.ends_with(b"s") {
-        note.put(b"  it has ");
-        note.number(excess.figure);
-        note.put(b" ");
-        note.put(excess.what);
-    } else {
-        note.put(b"  this is ");
-        note.put(excess.what);
-        note.put(b" ");
-        note.number(excess.figure);
-    }
+fn put_excess(excess: Excess, reason: &mut Reason)
+    ensures head { reason.new.head ≡ reason.old.head }
+    ensures note { Grows reason.old.note reason.new.note }
+{
+    put_figure(excess, reason);
     put_limit(excess.limit, reason);
 }
 
-fn put_limit(limit: u64, reason: &mut Reason) {
+fn put_figure(excess: Excess, reason: &mut Reason)
+    ensures head { reason.new.head ≡ reason.old.head }
+    ensures note { Grows reason.old.note reason.new.note }
+{
+    if excess.what.ends_with(b"s") {
+        reason.note.put(b"  it has ");
+        reason.note.number(excess.figure);
+        put_behind_blank(excess.what, reason);
+    } else {
+        reason.note.put(b"  this is ");
+        put_numbered(excess, reason);
+    }
+}
+
+fn put_behind_blank(words: &[u8], reason: &mut Reason)
+    ensures head { reason.new.head ≡ reason.old.head }
+    ensures note { Grows reason.old.note reason.new.note }
+{
+    reason.note.put(b" ");
+    reason.note.put(words);
+}
+
+fn put_numbered(excess: Excess, reason: &mut Reason)
+    ensures head { reason.new.head ≡ reason.old.head }
+    ensures note { Grows reason.old.note reason.new.note }
+{
+    reason.note.put(excess.what);
+    reason.note.put(b" ");
+    reason.note.number(excess.figure);
+}
+
+fn put_limit(limit: u64, reason: &mut Reason)
+    ensures head { reason.new.head ≡ reason.old.head }
+    ensures note { Grows reason.old.note reason.new.note }
+{
     reason.note.put(b", and the limit is ");
     reason.note.number(limit);
     reason.note.put(b"\n");
 }
 
 // Tells the words of all wires up to the one with which they pass the limit.
-fn tell_wire_words(site: &Site, words: &Words, reason: &mut Reason) {
+fn tell_wire_words(site: &Site, words: &Words, reason: &mut Reason)
+    ensures head { reason.new.head ≡ reason.old.head }
+    ensures note { Grows reason.old.note reason.new.note }
+{
     let limit = u64::from(MAX_WIRE_WORDS);
     let mut total: u64 = 0;
     let mut from: Option<Span> = None;
@@ -227,14 +271,21 @@ fn tell_wire_words(site: &Site, words: &Words, reason: &mut Reason) {
         if span.sort == Sort::WireTo {
             total = total.saturating_add(words_of_wire(site, words, from, span));
             if total > limit {
-                reason.note.put(b"  all wires up to this one have ");
-                reason.note.number(total);
-                reason.note.put(b" words");
+                put_total(total, reason);
                 put_limit(limit, reason);
                 return;
             }
         }
     }
+}
+
+fn put_total(total: u64, reason: &mut Reason)
+    ensures head { reason.new.head ≡ reason.old.head }
+    ensures note { Grows reason.old.note reason.new.note }
+{
+    reason.note.put(b"  all wires up to this one have ");
+    reason.note.number(total);
+    reason.note.put(b" words");
 }
 
 // The words of the values that a wire holds at most; between two streams none.

@@ -1,16 +1,31 @@
 //! What is told of a type that is expected, or that an expression has.
-ghost use Rattle.std.specs.Prelude.{◌≤◌};
+ghost use Rattle.std.specs.Prelude.{◌≡◌, ◌≤◌};
+ghost use Rattle.look_sources.specs.Pages.{Grows};
+ghost use Rattle.look_reasons.specs.Reasons.{OnlyRemedyDiffers};
 
 use crate::reason::Reason;
 use crate::site::Site;
 use look_sources::{Sort, Span};
 
 /// Puts the numbers that a type has, if it is written as an `int` or a `nat`.
-pub fn put_numbers(ty: &[u8], reason: &mut Reason) {
+#[tactic(auto, using(look_sources::proofs::Growing::growing))]
+pub fn put_numbers(ty: &[u8], reason: &mut Reason)
+    ensures head { reason.new.head ≡ reason.old.head }
+    ensures note { Grows reason.old.note reason.new.note }
+{
     let width = width_of(ty);
     if width < 1 || width > 64 {
         return;
     }
+    put_least_and_most(ty, width, reason);
+    reason.note.put(b"\n");
+}
+
+#[tactic(auto, using(look_sources::proofs::Growing::growing))]
+fn put_least_and_most(ty: &[u8], width: u32, reason: &mut Reason)
+    ensures head { reason.new.head ≡ reason.old.head }
+    ensures note { Grows reason.old.note reason.new.note }
+{
     let spare = spare_bits(width);
     if ty.starts_with(b"nat ") {
         reason.note.put(b"  its numbers are 0 to ");
@@ -22,7 +37,6 @@ pub fn put_numbers(ty: &[u8], reason: &mut Reason) {
         reason.note.put(b" to ");
         reason.note.number(most);
     }
-    reason.note.put(b"\n");
 }
 
 /// How many bits of a word a number of that width doesn't take.
@@ -53,7 +67,9 @@ fn width_of(ty: &[u8]) -> u32 {
 }
 
 /// Tells how values of that type are compared, if the part is an operand of a comparison and no number, letter or truth value.
-pub fn tell_comparison(site: &Site, span: &Span, ty: &[u8], reason: &mut Reason) {
+pub fn tell_comparison(site: &Site, span: &Span, ty: &[u8], reason: &mut Reason)
+    ensures { OnlyRemedyDiffers reason.old reason.new }
+{
     let is_data = match ty.first() {
         None => false,
         Some(first) => first.is_ascii_uppercase(),

@@ -1,4 +1,7 @@
 //! What is told beside the rule and its line.
+ghost use Rattle.std.specs.Prelude.{◌≡◌, [], false};
+ghost use Rattle.look_sources.specs.Pages.{is_lost, on};
+
 use look_sources::Page;
 use std::alloc::Global;
 
@@ -16,7 +19,13 @@ pub struct Reason {
 }
 
 impl Reason {
-    pub fn at(alloc: Global, head: Option<usize>) -> Reason {
+    pub fn at(alloc: Global, head: Option<usize>) -> Reason
+        ensures head { result.head ≡ head }
+        ensures here { result.here ≡ None }
+        ensures note { on result.note ≡ [] }
+        ensures whole { is_lost result.note ≡ false }
+        ensures remedy { result.remedy ≡ None }
+    {
         Reason {
             head,
             here: None,

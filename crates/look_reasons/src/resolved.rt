@@ -1,4 +1,6 @@
 //! What the names of a source stand for: each name in turn is looked up where it stands.
+ghost use Rattle.std.specs.Prelude.{◌≡◌, IfOk, length, vec_len};
+
 use crate::name_table::{Meaning, NameTable};
 use crate::names::is_given;
 use crate::site::name_of;
@@ -16,7 +18,9 @@ pub struct Resolved {
 
 impl Resolved {
     /// The names of a source with these tokens and parts.
-    pub fn of(alloc: Global, tokens: &[Token], spans: &[Span]) -> Result<Resolved, AllocError> {
+    pub fn of(alloc: Global, tokens: &[Token], spans: &[Span]) -> Result<Resolved, AllocError>
+        ensures { IfOk result (λ resolved. vec_len resolved.used ≡ length tokens.now) }
+    {
         let mut resolved = Resolved {
             unknown: Vec::new(alloc),
             used: vec![in alloc; false; tokens.len()]?,
@@ -31,7 +35,9 @@ impl Resolved {
     }
 
     /// The names that nothing declares.
-    pub fn unknown(&self) -> &[Span] {
+    pub fn unknown(&self) -> &[Span]
+        ensures { result.now ≡ self.now.unknown.items }
+    {
         self.unknown.as_slice()
     }
 
@@ -53,12 +59,9 @@ impl Resolved {
         self.declared.find(tokens, name, meaning)
     }
 
-    fn look_up(
-        &mut self,
-        tokens: &[Token],
-        span: &Span,
-        scopes: &Scopes,
-    ) -> Result<(), AllocError> {
+    fn look_up(&mut self, tokens: &[Token], span: &Span, scopes: &Scopes) -> Result<(), AllocError>
+        ensures { vec_len self.new.used ≡ vec_len self.old.used }
+    {
         let name = name_of(tokens, span.first);
         if span.sort == Sort::VariableUse {
             match scopes.known.find(tokens, name, Meaning::Variable) {
@@ -75,7 +78,9 @@ impl Resolved {
         Ok(())
     }
 
-    fn mark_used(&mut self, token: usize) {
+    fn mark_used(&mut self, token: usize)
+        ensures { vec_len self.new.used ≡ vec_len self.old.used }
+    {
         if token < self.used.len() {
             self.used[token] = true;
         }

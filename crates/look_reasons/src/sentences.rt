@@ -1,8 +1,13 @@
 //! The sentence and the remedy of each rule, as `docs/REFUSALS.md` has them.
+ghost use Rattle.std.specs.Prelude.{IsTrue};
+ghost use Rattle.look_reasons.specs.Sentences.{is_line};
+
 use hume_base::Rule;
 
 /// What is wrong.
-pub fn sentence(rule: Rule) -> &'static [u8] {
+pub fn sentence(rule: Rule) -> &'static [u8]
+    ensures { IsTrue (is_line result.now) }
+{
     match rule {
         Rule::C10 => b"no token, space or comment starts here",
         Rule::C11 => b"the number is over 18446744073709551615",
@@ -49,7 +54,9 @@ pub fn sentence(rule: Rule) -> &'static [u8] {
 }
 
 /// How it is mended.
-pub fn remedy(rule: Rule) -> &'static [u8] {
+pub fn remedy(rule: Rule) -> &'static [u8]
+    ensures { IsTrue (is_line result.now) }
+{
     match rule {
         Rule::C10 =>
             b"take the sign out; a comment begins with `--`, and a letter is one byte between single quotes",

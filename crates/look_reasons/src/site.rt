@@ -1,4 +1,7 @@
 //! The source at which a rule is broken, with its tokens and parts.
+ghost use Rattle.std.specs.Prelude.{◌≡◌, ◌↔◌, IfSome, IsTrue, length, slice_get};
+ghost use Rattle.look_reasons.specs.Sites.{BeginsIn, StandsIn, is_upper_name, name_in, place_in};
+
 use hume_base::{Kind, Refusal, Token};
 use look_sources::{Sort, Span, Spot};
 
@@ -15,12 +18,12 @@ pub struct Site<'a> {
 }
 
 impl<'a> Site<'a> {
-    pub fn of(
-        text: &'a [u8],
-        tokens: &'a [Token],
-        spans: &'a [Span],
-        refusal: Refusal,
-    ) -> Site<'a> {
+    pub fn of(text: &'a [u8], tokens: &'a [Token], spans: &'a [Span], refusal: Refusal) -> Site<'a>
+        ensures text { result.text.now ≡ text.now }
+        ensures tokens { result.tokens.now ≡ tokens.now }
+        ensures spans { result.spans.now ≡ spans.now }
+        ensures refusal { result.refusal ≡ refusal }
+    {
         let (begin, end) = line_range(text, refusal.line);
         let mut low: usize = 0;
         let mut high: usize = 0;
@@ -46,12 +49,20 @@ impl<'a> Site<'a> {
     }
 
     /// The same source with another refusal.
-    pub fn other(&self, refusal: Refusal) -> Site<'a> {
+    pub fn other(&self, refusal: Refusal) -> Site<'a>
+        ensures text { result.text.now ≡ self.now.text.now }
+        ensures tokens { result.tokens.now ≡ self.now.tokens.now }
+        ensures spans { result.spans.now ≡ self.now.spans.now }
+        ensures refusal { result.refusal ≡ refusal }
+    {
         Site::of(self.text, self.tokens, self.spans, refusal)
     }
 
     /// The place of the first declaration of the line.
-    pub fn head(&self) -> Option<usize> {
+    #[tactic(auto, using(crate::proofs::Sites::begins_in))]
+    pub fn head(&self) -> Option<usize>
+        ensures { IfSome result (BeginsIn self.now) }
+    {
         match self.declaration() {
             None => None,
             Some(span) => Some(self.place(span.first)),
@@ -59,22 +70,30 @@ impl<'a> Site<'a> {
     }
 
     /// Whether the part is one of a declaration that begins in the line.
-    pub fn is_here(&self, span: &Span) -> bool {
+    pub fn is_here(&self, span: &Span) -> bool
+        ensures { IsTrue result ↔ StandsIn self.now span.now }
+    {
         self.low <= span.declaration && span.declaration < self.high
     }
 
     /// The place of a token; of one that isn't there, the end.
-    pub fn place(&self, token: usize) -> usize {
+    pub fn place(&self, token: usize) -> usize
+        ensures { result ≡ place_in (length self.now.text.now) (slice_get self.now.tokens.now token) }
+    {
         place_of(self.text, self.tokens, token)
     }
 
     /// The name that the token is, if it is one.
-    pub fn name(&self, token: usize) -> &'a [u8] {
+    pub fn name(&self, token: usize) -> &'a [u8]
+        ensures { result.now ≡ name_in (slice_get self.now.tokens.now token) }
+    {
         name_of(self.tokens, token)
     }
 
     /// The first declaration of the line.
-    pub(crate) fn declaration(&self) -> Option<Span> {
+    pub(crate) fn declaration(&self) -> Option<Span>
+        ensures { IfSome result (StandsIn self.now) }
+    {
         for span in self.spans {
             if span.sort == Sort::Declaration && self.is_here(span) {
                 return Some(*span);
@@ -89,7 +108,9 @@ impl<'a> Site<'a> {
     }
 
     /// Whether the token is a name with a capital letter.
-    pub fn is_upper(&self, token: usize) -> bool {
+    pub fn is_upper(&self, token: usize) -> bool
+        ensures { result ≡ is_upper_name (slice_get self.now.tokens.now token) }
+    {
         match self.tokens.get(token) {
             Some(token) => matches!(&token.kind, Kind::Upper(_)),
             None => false,
@@ -98,7 +119,9 @@ impl<'a> Site<'a> {
 }
 
 /// The name that the token is, if it is one.
-pub(crate) fn name_of(tokens: &[Token], token: usize) -> &[u8] {
+pub(crate) fn name_of(tokens: &[Token], token: usize) -> &[u8]
+    ensures { result.now ≡ name_in (slice_get tokens.now token) }
+{
     match tokens.get(token) {
         None => b"",
         Some(token) => match &token.kind {
@@ -110,7 +133,9 @@ pub(crate) fn name_of(tokens: &[Token], token: usize) -> &[u8] {
 }
 
 /// The place of a token; of one that isn't there, the end.
-pub(crate) fn place_of(text: &[u8], tokens: &[Token], token: usize) -> usize {
+pub(crate) fn place_of(text: &[u8], tokens: &[Token], token: usize) -> usize
+    ensures { result ≡ place_in (length text.now) (slice_get tokens.now token) }
+{
     match tokens.get(token) {
         None => text.len(),
         Some(token) => token.place as usize,

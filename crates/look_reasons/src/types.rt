@@ -1,4 +1,6 @@
 //! The types that a source writes down.
+ghost use Rattle.std.specs.Prelude.{◌≤◌, IfOk, vec_len};
+
 use crate::site::Site;
 use hume_base::{Kind, Symbol, Token};
 use look_sources::{Page, Sort, Span};
@@ -8,7 +10,9 @@ use std::alloc::{AllocError, Global};
 const MAX_TYPES: usize = 64;
 
 /// Each type that the source writes down, once, and some that each source may have; none of them where there are too many.
-pub fn types_of_source(alloc: Global, site: &Site) -> Result<Vec<Page>, AllocError> {
+pub fn types_of_source(alloc: Global, site: &Site) -> Result<Vec<Page>, AllocError>
+    ensures { IfOk result (λ types. vec_len types ≤ MAX_TYPES) }
+{
     let mut types: Vec<Page> = Vec::new(alloc);
     for name in [
         b"bool".as_slice(),

@@ -1,1 +1,5 @@
+pub mod Lines
 pub mod Pages
+pub mod Parts
+pub mod Spots
+pub mod inner

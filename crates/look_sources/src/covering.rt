@@ -1,11 +1,16 @@
 //! Which patterns take all that others take, as their forms show.
+ghost use Rattle.std.specs.Prelude.{◌≤◌};
+ghost use Rattle.look_sources.specs.inner.Walks.{noted};
+
 use crate::span::Sort;
 use crate::walk::Walk;
 use hume_ast::{Exp, Pat};
 use hume_base::{List, Text};
 
 /// Notes the part that began at token `first` and ends here, if it stands behind one that takes all that it takes.
-pub(crate) fn note_shadowed(walk: &mut Walk, first: usize, before: Option<usize>) {
+pub(crate) fn note_shadowed(walk: &mut Walk, first: usize, before: Option<usize>)
+    ensures { noted walk.old ≤ noted walk.new }
+{
     if let Some(number) = before {
         walk.note(Sort::Shadowed, first, number, 0);
     }

@@ -4,6 +4,7 @@
 //! program with the tokens that spell them.
 //!
 //! Proved: unless memory runs out, what is put on a page stands behind all that stood there (`Appends`), and `finish` gives just that.
+//! `Spot::of` gives the line and the column of a place (`Spots.antt`), and `spans_of` leaves no declaration out (`Parts.antt`).
 //! Beyond it nothing but safety: no call fails but for memory, and each ends.
 //!
 //! It knows bytes, tokens and trees. It doesn't know rules, cores, or why a source is refused.

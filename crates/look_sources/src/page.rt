@@ -1,6 +1,6 @@
 //! A page: text that grows.
-ghost use Rattle.std.specs.Prelude.{◌≡◌, [], ◌↔◌, IfOk, IsTrue, OnErr, true, false};
-ghost use Rattle.look_sources.specs.Pages.{Appends, Grows, is_lost, on};
+ghost use Rattle.std.specs.Prelude.{◌≡◌, [], ◌↔◌, IfOk, IsTrue, OnErr, decimal, true, false};
+ghost use Rattle.look_sources.specs.Pages.{Appends, is_lost, on};
 
 use itoa::Buffer;
 use std::alloc::{AllocError, Global};
@@ -33,16 +33,9 @@ impl Page {
 
     /// Puts the number in decimal digits.
     pub fn number(&mut self, number: u64)
-        ensures { Grows self.old self.new }
+        ensures { Appends self.old self.new (decimal number) }
     {
         self.put(Buffer::new().format(number).as_bytes());
-    }
-
-    /// Puts the byte `count` times.
-    pub(crate) fn fill(&mut self, byte: u8, count: usize) {
-        for _ in 0..count {
-            self.put(&[byte]);
-        }
     }
 
     /// Puts all that is on the other page.

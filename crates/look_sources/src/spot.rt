@@ -1,4 +1,9 @@
 //! Where a place of a source is, for people.
+ghost use Rattle.std.specs.Prelude.{◌≡◌, ◌++◌, codes, decimal, min};
+ghost use Rattle.hume_base.specs.Places.{line_at};
+ghost use Rattle.look_sources.specs.Pages.{Appends, Grows};
+ghost use Rattle.look_sources.specs.Spots.{column_at};
+
 use crate::page::Page;
 
 // How many bytes of a line are shown at most, and how many of them before the caret where the line is longer.
@@ -16,7 +21,11 @@ pub struct Spot {
 
 impl Spot {
     /// The spot of a place; of one past the end, that of the end. Columns count bytes.
-    pub fn of(text: &[u8], place: usize) -> Spot {
+    #[tactic(auto, using(crate::proofs::Columns::spot_steps))]
+    pub fn of(text: &[u8], place: usize) -> Spot
+        ensures line { result.line ≡ min (line_at text.now place) u32.MAX }
+        ensures column { result.column ≡ min (column_at text.now place) u32.MAX }
+    {
         let mut line: u32 = 1;
         let mut column: u32 = 1;
         let mut begin: usize = 0;
@@ -42,7 +51,10 @@ impl Spot {
     }
 
     /// Puts `FILE:LINE:COLUMN: `.
-    pub fn put_head(&self, file: &[u8], page: &mut Page) {
+    #[tactic(auto, using(crate::proofs::Growing::appends_more))]
+    pub fn put_head(&self, file: &[u8], page: &mut Page)
+        ensures { Appends page.old page.new (file.now ++ codes ":" ++ decimal self.now.line ++ codes ":" ++ decimal self.now.column ++ codes ": ") }
+    {
         page.put(file);
         page.put(b":");
         page.number(u64::from(self.line));
@@ -53,7 +65,10 @@ impl Spot {
 
     /// Puts the line, and under it a caret at the column. Of a long line the bytes around the column are put, with `..` where it
     /// is cut.
-    pub fn put_line(&self, text: &[u8], page: &mut Page) {
+    #[tactic(auto, using(crate::proofs::Growing::growing))]
+    pub fn put_line(&self, text: &[u8], page: &mut Page)
+        ensures { Grows page.old page.new }
+    {
         let place = self
             .begin
             .saturating_add(self.column.saturating_sub(1) as usize);
@@ -116,7 +131,10 @@ fn shown(byte: u8) -> u8 {
 }
 
 // Puts what is as wide as the byte: a tab for a tab, and nothing for a byte that goes on a letter outside ASCII.
-fn put_blank(byte: u8, page: &mut Page) {
+#[tactic(auto, using(crate::proofs::Growing::growing))]
+fn put_blank(byte: u8, page: &mut Page)
+    ensures { Grows page.old page.new }
+{
     if byte == b'\t' {
         page.put(b"\t");
     } else if byte < 128 || byte >= 192 {

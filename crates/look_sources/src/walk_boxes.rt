@@ -1,4 +1,7 @@
 //! The parts of boxes.
+ghost use Rattle.std.specs.Prelude.{◌≤◌};
+ghost use Rattle.look_sources.specs.inner.Walks.{noted};
+
 use crate::covering::{covering_rule, note_shadowed};
 use crate::span::Sort;
 use crate::walk::Walk;
@@ -9,7 +12,9 @@ use hume_ast::{Exp, Pat, TyExp};
 use hume_base::{List, Text};
 
 /// Inputs or outputs, with their parentheses.
-pub(crate) fn walk_side(walk: &mut Walk, sort: Sort, side: &[(Text, TyExp)]) {
+pub(crate) fn walk_side(walk: &mut Walk, sort: Sort, side: &[(Text, TyExp)])
+    ensures { noted walk.old ≤ noted walk.new }
+{
     for i in 0..side.len() {
         walk.skip(1);
         walk.name(sort, i.saturating_add(1));
@@ -20,7 +25,9 @@ pub(crate) fn walk_side(walk: &mut Walk, sort: Sort, side: &[(Text, TyExp)]) {
 }
 
 /// Rules, with a token before each.
-pub(crate) fn walk_rules(walk: &mut Walk, fair: bool, rules: &[(List<Pat>, Exp)]) {
+pub(crate) fn walk_rules(walk: &mut Walk, fair: bool, rules: &[(List<Pat>, Exp)])
+    ensures { noted walk.old ≤ noted walk.new }
+{
     for i in 0..rules.len() {
         walk.skip(1);
         let first = walk.at();
@@ -39,7 +46,9 @@ pub(crate) fn walk_rules(walk: &mut Walk, fair: bool, rules: &[(List<Pat>, Exp)]
 }
 
 /// Handlers, with a token before each.
-pub(crate) fn walk_handlers(walk: &mut Walk, handlers: &[(Text, Option<Pat>, Exp)]) {
+pub(crate) fn walk_handlers(walk: &mut Walk, handlers: &[(Text, Option<Pat>, Exp)])
+    ensures { noted walk.old ≤ noted walk.new }
+{
     for i in 0..handlers.len() {
         walk.skip(1);
         let first = walk.at();

@@ -1,4 +1,8 @@
 //! The parts of declarations.
+ghost use Rattle.std.specs.Prelude.{◌≤◌, IfOk, length};
+ghost use Rattle.look_sources.specs.Parts.{declarations};
+ghost use Rattle.look_sources.specs.inner.Walks.{noted};
+
 use crate::covering::{covering_equation, note_shadowed};
 use crate::span::{Sort, Span};
 use crate::walk::Walk;
@@ -11,7 +15,9 @@ use hume_base::{List, Text};
 use std::alloc::{AllocError, Global};
 
 /// The parts of a program, each after its own parts.
-pub fn spans_of(alloc: Global, program: &Program) -> Result<Vec<Span>, AllocError> {
+pub fn spans_of(alloc: Global, program: &Program) -> Result<Vec<Span>, AllocError>
+    ensures { IfOk result (λ parts. length program.now.decls ≤ declarations parts.items) }
+{
     let mut walk = Walk::begin(alloc);
     for decl in program.decls.as_slice() {
         let first = walk.at();
@@ -22,7 +28,9 @@ pub fn spans_of(alloc: Global, program: &Program) -> Result<Vec<Span>, AllocErro
     walk.finish()
 }
 
-fn walk_declaration(walk: &mut Walk, decl: &Decl) {
+fn walk_declaration(walk: &mut Walk, decl: &Decl)
+    ensures { noted walk.old ≤ noted walk.new }
+{
     match decl {
         Decl::Sum(_, constructors) => {
             walk.skip(1);
@@ -69,7 +77,9 @@ fn walk_declaration(walk: &mut Walk, decl: &Decl) {
     walk.skip(1);
 }
 
-fn walk_constructors(walk: &mut Walk, constructors: &[(Text, List<TyExp>)]) {
+fn walk_constructors(walk: &mut Walk, constructors: &[(Text, List<TyExp>)])
+    ensures { noted walk.old ≤ noted walk.new }
+{
     for i in 0..constructors.len() {
         walk.skip(1);
         let fields = constructors[i].1.as_slice();
@@ -78,7 +88,9 @@ fn walk_constructors(walk: &mut Walk, constructors: &[(Text, List<TyExp>)]) {
     }
 }
 
-fn walk_equations(walk: &mut Walk, equations: &[(Text, List<Pat>, Exp)]) {
+fn walk_equations(walk: &mut Walk, equations: &[(Text, List<Pat>, Exp)])
+    ensures { noted walk.old ≤ noted walk.new }
+{
     for i in 0..equations.len() {
         let first = walk.at();
         let equation = &equations[i];
@@ -95,7 +107,9 @@ fn walk_equations(walk: &mut Walk, equations: &[(Text, List<Pat>, Exp)]) {
     }
 }
 
-fn walk_wire(walk: &mut Walk, from_port: bool, to_port: bool, depth: bool, initial: &Option<Exp>) {
+fn walk_wire(walk: &mut Walk, from_port: bool, to_port: bool, depth: bool, initial: &Option<Exp>)
+    ensures { noted walk.old ≤ noted walk.new }
+{
     walk.skip(1);
     walk_end(walk, Sort::WireFrom, from_port);
     walk.skip(1);
@@ -109,7 +123,9 @@ fn walk_wire(walk: &mut Walk, from_port: bool, to_port: bool, depth: bool, initi
     }
 }
 
-fn walk_end(walk: &mut Walk, sort: Sort, port: bool) {
+fn walk_end(walk: &mut Walk, sort: Sort, port: bool)
+    ensures { noted walk.old ≤ noted walk.new }
+{
     let first = walk.at();
     walk.skip(if port { 3 } else { 1 });
     walk.note(sort, first, 0, 0);

@@ -1,4 +1,7 @@
 //! The parts of expressions.
+ghost use Rattle.std.specs.Prelude.{◌≤◌};
+ghost use Rattle.look_sources.specs.inner.Walks.{noted};
+
 use crate::covering::{covering_alternative, note_shadowed};
 use crate::span::Sort;
 use crate::walk::Walk;
@@ -7,7 +10,9 @@ use crate::walk_types::walk_type;
 use hume_ast::{BinOp, Exp, Pat};
 
 #[cycle(walk_expressions)]
-pub(crate) fn walk_expression(walk: &mut Walk, exp: &Exp) {
+pub(crate) fn walk_expression(walk: &mut Walk, exp: &Exp)
+    ensures { noted walk.old ≤ noted walk.new }
+{
     let first = walk.at();
     let mut count = 0;
     match exp {
@@ -73,7 +78,9 @@ pub(crate) fn walk_expression(walk: &mut Walk, exp: &Exp) {
 }
 
 // Notes the operation that began at token `first` and ends here, if it is a comparison.
-fn note_comparison(walk: &mut Walk, op: BinOp, first: usize) {
+fn note_comparison(walk: &mut Walk, op: BinOp, first: usize)
+    ensures { noted walk.old ≤ noted walk.new }
+{
     match op {
         BinOp::Eq | BinOp::Ne | BinOp::Lt | BinOp::Le | BinOp::Gt | BinOp::Ge => {
             walk.note(Sort::Comparison, first, 0, 0);
@@ -93,13 +100,17 @@ fn sort_of_name(arguments: usize) -> Sort {
 
 /// An expression after so many tokens.
 #[cycle(walk_expressions)]
-fn walk_after(walk: &mut Walk, before: usize, exp: &Exp) {
+fn walk_after(walk: &mut Walk, before: usize, exp: &Exp)
+    ensures { noted walk.old ≤ noted walk.new }
+{
     walk.skip(before);
     walk_expression(walk, exp);
 }
 
 #[cycle(walk_expressions)]
-fn walk_let(walk: &mut Walk, value: &Exp, body: &Exp) {
+fn walk_let(walk: &mut Walk, value: &Exp, body: &Exp)
+    ensures { noted walk.old ≤ noted walk.new }
+{
     walk.skip(1);
     let first = walk.at();
     walk.name(Sort::Variable, 0);
@@ -112,7 +123,9 @@ fn walk_let(walk: &mut Walk, value: &Exp, body: &Exp) {
 
 /// Alternatives, with a token before each.
 #[cycle(walk_expressions)]
-fn walk_alternatives(walk: &mut Walk, alternatives: &[(Pat, Exp)]) {
+fn walk_alternatives(walk: &mut Walk, alternatives: &[(Pat, Exp)])
+    ensures { noted walk.old ≤ noted walk.new }
+{
     for i in 0..alternatives.len() {
         walk.skip(1);
         let first = walk.at();
@@ -129,7 +142,9 @@ fn walk_alternatives(walk: &mut Walk, alternatives: &[(Pat, Exp)]) {
 
 /// Expressions, with so many tokens before each.
 #[cycle(walk_expressions)]
-fn walk_expressions(walk: &mut Walk, exps: &[Exp], before: usize) {
+fn walk_expressions(walk: &mut Walk, exps: &[Exp], before: usize)
+    ensures { noted walk.old ≤ noted walk.new }
+{
     for i in 0..exps.len() {
         walk_after(walk, before, &exps[i]);
     }

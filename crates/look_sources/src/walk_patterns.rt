@@ -1,10 +1,15 @@
 //! The parts of patterns.
+ghost use Rattle.std.specs.Prelude.{◌≤◌};
+ghost use Rattle.look_sources.specs.inner.Walks.{noted};
+
 use crate::span::Sort;
 use crate::walk::Walk;
 use hume_ast::Pat;
 
 #[cycle(walk_patterns)]
-pub(crate) fn walk_pattern(walk: &mut Walk, pattern: &Pat) {
+pub(crate) fn walk_pattern(walk: &mut Walk, pattern: &Pat)
+    ensures { noted walk.old ≤ noted walk.new }
+{
     let first = walk.at();
     let mut count = 0;
     match pattern {
@@ -31,7 +36,9 @@ pub(crate) fn walk_pattern(walk: &mut Walk, pattern: &Pat) {
 
 /// Patterns, with so many tokens before each.
 #[cycle(walk_patterns)]
-pub(crate) fn walk_patterns(walk: &mut Walk, patterns: &[Pat], before: usize) {
+pub(crate) fn walk_patterns(walk: &mut Walk, patterns: &[Pat], before: usize)
+    ensures { noted walk.old ≤ noted walk.new }
+{
     for i in 0..patterns.len() {
         walk.skip(before);
         walk_pattern(walk, &patterns[i]);

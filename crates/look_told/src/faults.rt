@@ -1,4 +1,8 @@
 //! Which file or stream of a call couldn't be read or written.
+#![tactic(auto, using(look_sources::proofs::Growing::growing))]
+
+ghost use Rattle.look_sources.specs.Pages.{Grows};
+
 use crate::disk::Disk;
 use crate::forms::{Call, Kind};
 use crate::places::Program;
@@ -36,18 +40,52 @@ pub fn put_fault<D: Disk>(
     known: Known,
     programs: &[Program],
     page: &mut Page,
-) {
-    let found = put_of_sources(disk, call, known, page)
-        || put_of_standard(call, known, page)
-        || put_of_words(disk, call, known, page)
-        || put_of_inputs(disk, known, programs, page)
-        || call.first(Kind::Log).is_none() && put_of_outputs(disk, known, programs, page);
-    if !found {
-        page.put(b"hume: a read or a write of a port failed\n");
+)
+    ensures { Grows page.old page.new }
+{
+    if put_of_call(disk, call, known, page) {
+        return;
     }
+    if put_of_streams(disk, call, known, programs, page) {
+        return;
+    }
+    page.put(b"hume: a read or a write of a port failed\n");
 }
 
-fn put_of_sources<D: Disk>(disk: &D, call: &Call, known: Known, page: &mut Page) -> bool {
+fn put_of_call<D: Disk>(disk: &D, call: &Call, known: Known, page: &mut Page) -> bool
+    ensures { Grows page.old page.new }
+{
+    if put_of_sources(disk, call, known, page) {
+        return true;
+    }
+    if put_of_standard(call, known, page) {
+        return true;
+    }
+    put_of_words(disk, call, known, page)
+}
+
+// No output is written where there is a log.
+fn put_of_streams<D: Disk>(
+    disk: &D,
+    call: &Call,
+    known: Known,
+    programs: &[Program],
+    page: &mut Page,
+) -> bool
+    ensures { Grows page.old page.new }
+{
+    if put_of_inputs(disk, known, programs, page) {
+        return true;
+    }
+    if call.first(Kind::Log).is_some() {
+        return false;
+    }
+    put_of_outputs(disk, known, programs, page)
+}
+
+fn put_of_sources<D: Disk>(disk: &D, call: &Call, known: Known, page: &mut Page) -> bool
+    ensures { Grows page.old page.new }
+{
     for place in 0..call.kinds.len() {
         match call.word_at(Kind::Source, place) {
             None | Some("std_out") => {}
@@ -72,7 +110,9 @@ fn put_of_sources<D: Disk>(disk: &D, call: &Call, known: Known, page: &mut Page)
     false
 }
 
-fn put_of_standard(call: &Call, known: Known, page: &mut Page) -> bool {
+fn put_of_standard(call: &Call, known: Known, page: &mut Page) -> bool
+    ensures { Grows page.old page.new }
+{
     if let Some(why) = known.why("std_out") {
         put_line(b"can't write the standard output", why, page);
         return true;
@@ -91,7 +131,9 @@ fn put_of_standard(call: &Call, known: Known, page: &mut Page) -> bool {
 }
 
 // The log or the script.
-fn put_of_words<D: Disk>(disk: &D, call: &Call, known: Known, page: &mut Page) -> bool {
+fn put_of_words<D: Disk>(disk: &D, call: &Call, known: Known, page: &mut Page) -> bool
+    ensures { Grows page.old page.new }
+{
     if let Some(script) = call.first(Kind::Script) {
         if let Some(why) = disk.why_unreadable(script) {
             put_of_name(b"can't read the script ", script, why, page);
@@ -128,33 +170,41 @@ fn why_unwritten<'a, D: Disk>(disk: &D, known: Known<'a>, name: &str) -> Option<
     }
 }
 
-fn put_of_inputs<D: Disk>(disk: &D, known: Known, programs: &[Program], page: &mut Page) -> bool {
+fn put_of_inputs<D: Disk>(disk: &D, known: Known, programs: &[Program], page: &mut Page) -> bool
+    ensures { Grows page.old page.new }
+{
     for program in programs {
         for node in program.core.nodes.as_slice() {
-            if let NodeC::From(stream) = node {
-                if put_unread(disk, known, stream.port.bytes(), page) {
-                    return true;
-                }
+            let NodeC::From(stream) = node else {
+                continue;
+            };
+            if put_unread(disk, known, stream.port.bytes(), page) {
+                return true;
             }
         }
     }
     false
 }
 
-fn put_of_outputs<D: Disk>(disk: &D, known: Known, programs: &[Program], page: &mut Page) -> bool {
+fn put_of_outputs<D: Disk>(disk: &D, known: Known, programs: &[Program], page: &mut Page) -> bool
+    ensures { Grows page.old page.new }
+{
     for program in programs {
         for node in program.core.nodes.as_slice() {
-            if let NodeC::To(stream) = node {
-                if put_unwritten(disk, known, stream.port.bytes(), page) {
-                    return true;
-                }
+            let NodeC::To(stream) = node else {
+                continue;
+            };
+            if put_unwritten(disk, known, stream.port.bytes(), page) {
+                return true;
             }
         }
     }
     false
 }
 
-fn put_unread<D: Disk>(disk: &D, known: Known, port: &[u8], page: &mut Page) -> bool {
+fn put_unread<D: Disk>(disk: &D, known: Known, port: &[u8], page: &mut Page) -> bool
+    ensures { Grows page.old page.new }
+{
     let Ok(name) = str::from_utf8(port) else {
         return false;
     };
@@ -176,7 +226,9 @@ fn put_unread<D: Disk>(disk: &D, known: Known, port: &[u8], page: &mut Page) -> 
     }
 }
 
-fn put_unwritten<D: Disk>(disk: &D, known: Known, port: &[u8], page: &mut Page) -> bool {
+fn put_unwritten<D: Disk>(disk: &D, known: Known, port: &[u8], page: &mut Page) -> bool
+    ensures { Grows page.old page.new }
+{
     let Ok(name) = str::from_utf8(port) else {
         return false;
     };
@@ -197,20 +249,26 @@ fn put_unwritten<D: Disk>(disk: &D, known: Known, port: &[u8], page: &mut Page) 
 }
 
 // Puts `hume: WHAT: WHY`.
-fn put_line(what: &[u8], why: &[u8], page: &mut Page) {
+fn put_line(what: &[u8], why: &[u8], page: &mut Page)
+    ensures { Grows page.old page.new }
+{
     page.put(b"hume: ");
     page.put(what);
     put_why(why, page);
 }
 
-fn put_of_name(what: &[u8], name: &str, why: &[u8], page: &mut Page) {
+fn put_of_name(what: &[u8], name: &str, why: &[u8], page: &mut Page)
+    ensures { Grows page.old page.new }
+{
     page.put(b"hume: ");
     page.put(what);
     put_quoted(name.as_bytes(), page);
     put_why(why, page);
 }
 
-fn put_of_port(what: &[u8], port: &[u8], why: &[u8], page: &mut Page) {
+fn put_of_port(what: &[u8], port: &[u8], why: &[u8], page: &mut Page)
+    ensures { Grows page.old page.new }
+{
     page.put(b"hume: ");
     page.put(what);
     page.put(port);
@@ -218,7 +276,9 @@ fn put_of_port(what: &[u8], port: &[u8], why: &[u8], page: &mut Page) {
     put_why(why, page);
 }
 
-fn put_why(why: &[u8], page: &mut Page) {
+fn put_why(why: &[u8], page: &mut Page)
+    ensures { Grows page.old page.new }
+{
     page.put(b": ");
     page.put(why);
     page.put(b"\n");

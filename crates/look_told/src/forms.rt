@@ -1,4 +1,7 @@
 //! The forms of calls, and what each word of a call is.
+ghost use Rattle.std.specs.Prelude.{◌≡◌, ◌<◌, ◌^◌, IfOk, IfSome, IsTrue, length, slice_get};
+ghost use Rattle.look_told.specs.Words.{IsWord, is_look_command, text_of};
+
 use std::alloc::{AllocError, Global};
 
 /// What a word of a call is.
@@ -47,7 +50,9 @@ pub struct Call<'a> {
 
 impl<'a> Call<'a> {
     /// Reads the words of a call.
-    pub fn read(alloc: Global, words: &'a [String]) -> Result<Call<'a>, AllocError> {
+    pub fn read(alloc: Global, words: &'a [String]) -> Result<Call<'a>, AllocError>
+        ensures { IfOk result (λ call. call.words.now ≡ words.now) }
+    {
         let mut call = Call {
             words,
             form: None,
@@ -65,20 +70,27 @@ impl<'a> Call<'a> {
     }
 
     /// The first word.
-    pub fn command(&self) -> &'a str {
-        match self.words.first() {
+    pub fn command(&self) -> &'a str
+        ensures { result.now ≡ text_of (slice_get self.now.words.now 0) }
+    {
+        match self.words.get(0) {
             None => "",
             Some(word) => word.as_str(),
         }
     }
 
     /// Whether it is one of the program that looks at a source.
-    pub fn is_look(&self) -> bool {
-        matches!(self.command(), "why" | "bounds" | "net" | "hints")
+    pub fn is_look(&self) -> bool
+        ensures { result ≡ is_look_command (text_of (slice_get self.now.words.now 0)) }
+    {
+        let command = self.command();
+        command == "why" || command == "bounds" || command == "net" || command == "hints"
     }
 
     /// The word at that place, if it is of that kind.
-    pub fn word_at(&self, kind: Kind, place: usize) -> Option<&'a str> {
+    pub fn word_at(&self, kind: Kind, place: usize) -> Option<&'a str>
+        ensures { IfSome result (λ word. IsWord self.now.words.now word.now) }
+    {
         if self.kinds.get(place) != Some(&kind) {
             return None;
         }
@@ -89,7 +101,9 @@ impl<'a> Call<'a> {
     }
 
     /// The first word of that kind.
-    pub fn first(&self, kind: Kind) -> Option<&'a str> {
+    pub fn first(&self, kind: Kind) -> Option<&'a str>
+        ensures { IfSome result (λ word. IsWord self.now.words.now word.now) }
+    {
         for place in 0..self.kinds.len() {
             let word = self.word_at(kind, place);
             if word.is_some() {
@@ -100,7 +114,9 @@ impl<'a> Call<'a> {
     }
 
     /// Whether one of the words of that kind is that one.
-    pub fn has(&self, kind: Kind, name: &[u8]) -> bool {
+    pub fn has(&self, kind: Kind, name: &[u8]) -> bool
+        ensures { IsTrue result → IsWord self.now.words.now name.now }
+    {
         for place in 0..self.kinds.len() {
             if let Some(word) = self.word_at(kind, place) {
                 if word.as_bytes() == name {
@@ -111,7 +127,9 @@ impl<'a> Call<'a> {
         false
     }
 
-    fn read_part(&mut self, part: &'static str) -> Result<(), AllocError> {
+    fn read_part(&mut self, part: &'static str) -> Result<(), AllocError>
+        ensures { self.new.words.now ≡ self.old.words.now }
+    {
         match part {
             "PORT.." => {
                 for _ in self.kinds.len()..self.words.len() {
@@ -133,7 +151,9 @@ impl<'a> Call<'a> {
         }
     }
 
-    fn read_one(&mut self, part: &'static str) -> Result<(), AllocError> {
+    fn read_one(&mut self, part: &'static str) -> Result<(), AllocError>
+        ensures { self.new.words.now ≡ self.old.words.now }
+    {
         let Some(word) = self.words.get(self.kinds.len()) else {
             self.miss(part);
             return Ok(());
@@ -146,7 +166,9 @@ impl<'a> Call<'a> {
         Ok(())
     }
 
-    fn miss(&mut self, part: &'static str) {
+    fn miss(&mut self, part: &'static str)
+        ensures { self.new.words.now ≡ self.old.words.now }
+    {
         if self.lacking.is_none() {
             self.lacking = Some(part);
         }
@@ -181,7 +203,10 @@ fn kind_of(part: &str) -> Kind {
 }
 
 /// The number of one to nine digits.
-pub fn number_of(word: &[u8]) -> Option<u32> {
+#[tactic(auto, using(crate::proofs::Digits::below_step))]
+pub fn number_of(word: &[u8]) -> Option<u32>
+    ensures { IfSome result (λ number. number < 10 ^ length word.now) }
+{
     if word.is_empty() || word.len() > 9 {
         return None;
     }

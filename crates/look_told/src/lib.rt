@@ -4,8 +4,9 @@
 //! stream can't have its port, `put_fault` which file couldn't be read or written, and `BadLines` which line of an input is no value.
 //! A `Disk` lends a file to `first_bad` and `put_front` as a port.
 //!
-//! Proved: nothing beyond safety: no call fails but for memory, and each ends. Which lines are bad is asked of `InQueue`, by which runs
-//! read them.
+//! Proved: what is put stands behind all that stood on the page (`Grows`), the words of a `Call` are those that it was read of
+//! (`Words.antt`), and a bad line that `first_bad` finds stands behind fewer good ones than it was asked for. Beyond it nothing but
+//! safety: no call fails but for memory, and each ends. Which lines are bad is asked of `InQueue`, by which runs read them.
 //!
 //! It knows words, cores and the lines of streams, and asks a `Disk` for files. It doesn't know sources, or why one is refused.
 #![tactic(auto)]

@@ -3,11 +3,12 @@
 //! Which of several bad lines ended a run depends on how fast the net took the values before them, and no net is run here. In the first
 //! round each input stream needs as many values as the round has supersteps. So a stream whose bad line comes before them ended the run,
 //! the first such one if there are several. In any round no stream needs more values than the run has supersteps.
-ghost use Rattle.std.specs.Prelude.{◌<◌, ◌≤◌, length, IfSome};
+ghost use Rattle.std.specs.Prelude.{◌≡◌, ◌<◌, ◌≤◌, [], length, IfOk, IfSome, false, true};
 ghost use Rattle.hume_base.specs.declared.limits.TheConstants.{MAX_TYPE_WORDS};
 ghost use Rattle.hume_base.specs.Sizes.{size_of, HaveTheirSizes};
 ghost use Rattle.hume_text.specs.Bounds.{IsPrintable};
 ghost use Rattle.hume_text.specs.Names.{HaveNames};
+ghost use Rattle.look_sources.specs.Pages.{Grows};
 ghost use Rattle.look_told.specs.Readable.{HasReadableLines};
 
 use crate::disk::Disk;
@@ -44,7 +45,10 @@ pub struct Rounds {
 
 impl BadLines {
     /// No bad lines yet.
-    pub fn none(alloc: Global) -> BadLines {
+    pub fn none(alloc: Global) -> BadLines
+        ensures lines { result.lines.items ≡ [] }
+        ensures known { result.is_unknown ≡ false }
+    {
         BadLines {
             lines: Vec::new(alloc),
             is_certain: false,
@@ -53,7 +57,9 @@ impl BadLines {
     }
 
     /// Notes that a program can't be read again, and so its lines neither.
-    pub fn miss(&mut self) {
+    pub fn miss(&mut self)
+        ensures { self.new.is_unknown ≡ true }
+    {
         self.is_unknown = true;
     }
 
@@ -66,6 +72,7 @@ impl BadLines {
         rounds: Rounds,
     ) -> Result<(), AllocError>
         requires { HasReadableLines core.now }
+        ensures { self.old.is_unknown ≡ true → self.new.is_unknown ≡ true }
     {
         let nodes = core.nodes.as_slice();
         for number in 0..nodes.len() {
@@ -86,6 +93,7 @@ impl BadLines {
         rounds: Rounds,
     ) -> Result<(), AllocError>
         requires { HasReadableLines core.now }
+        ensures { self.old.is_unknown ≡ true → self.new.is_unknown ≡ true }
     {
         let (Ok(name), Some(wire)) = (str::from_utf8(stream.port.bytes()), wire_from(core, number))
         else {
@@ -107,7 +115,9 @@ impl BadLines {
     }
 
     // Notes a bad line, which comes in the first round or later.
-    fn note(&mut self, line: Page, is_early: bool) -> Result<(), AllocError> {
+    fn note(&mut self, line: Page, is_early: bool) -> Result<(), AllocError>
+        ensures { self.old.is_unknown ≡ true → self.new.is_unknown ≡ true }
+    {
         if is_early && !self.is_certain {
             self.is_certain = true;
             self.lines.clear();
@@ -117,7 +127,10 @@ impl BadLines {
     }
 
     /// Puts the line that ended the run, or each that may have.
-    pub fn put(&self, page: &mut Page) {
+    #[tactic(auto, using(look_sources::proofs::Growing::growing))]
+    pub fn put(&self, page: &mut Page)
+        ensures { Grows page.old page.new }
+    {
         if self.is_unknown || self.lines.is_empty() {
             page.put(
                 b"hume: a line of an input is no value of its type, as the standard output says\n",
@@ -126,17 +139,23 @@ impl BadLines {
         }
         let shown = if self.is_certain { 1 } else { self.lines.len() };
         for number in 0..shown {
-            if number > 0 {
-                page.put(b"; or ");
-            }
-            if let Some(line) = self.lines.get(number) {
-                page.append(line);
-            }
+            page.put(if number > 0 { b"; or ".as_slice() } else { b"" });
+            self.put_line(number, page);
         }
-        if shown > 1 {
-            page.put(b"; the standard output says which");
+        page.put(if shown > 1 {
+            b"; the standard output says which\n".as_slice()
+        } else {
+            b"\n"
+        });
+    }
+
+    #[tactic(auto, using(look_sources::proofs::Growing::growing))]
+    fn put_line(&self, number: usize, page: &mut Page)
+        ensures { Grows page.old page.new }
+    {
+        if let Some(line) = self.lines.get(number) {
+            page.append(line);
         }
-        page.put(b"\n");
     }
 }
 
@@ -172,6 +191,7 @@ pub fn first_bad(
     requires names { HaveNames types.now }
     requires printable { IsPrintable types.now ty.now }
     requires small { size_of types.now ty.now ≤ MAX_TYPE_WORDS }
+    ensures { IfOk result (λ found. IfSome found (λ bad. bad.good < most)) }
 {
     let mut queue = InQueue::make(alloc, types, ty, 1)?;
     'values: for good in 0..most {
@@ -189,7 +209,9 @@ pub fn first_bad(
     Ok(None)
 }
 
-fn put_stream(types: &Types, ty: &Ty, stream: &StreamC, page: &mut Page) {
+fn put_stream(types: &Types, ty: &Ty, stream: &StreamC, page: &mut Page)
+    ensures { Grows page.old page.new }
+{
     page.put(b"no value of the type of stream ");
     page.put(stream.name.bytes());
     page.put(b" (");
@@ -199,12 +221,15 @@ fn put_stream(types: &Types, ty: &Ty, stream: &StreamC, page: &mut Page) {
 }
 
 /// Puts the front of the line of that number in quotes.
+#[tactic(auto, using(look_sources::proofs::Growing::growing))]
 pub fn put_front(
     alloc: Global,
     port: &mut Box<dyn Port>,
     line: u64,
     page: &mut Page,
-) -> Result<(), AllocError> {
+) -> Result<(), AllocError>
+    ensures { Grows page.old page.new }
+{
     let mut front = Front {
         lines: line,
         bytes: Vec::new(alloc),
@@ -250,7 +275,10 @@ impl Front {
         Ok(false)
     }
 
-    fn put(&mut self, page: &mut Page) {
+    #[tactic(auto, using(look_sources::proofs::Growing::growing))]
+    fn put(&mut self, page: &mut Page)
+        ensures { Grows page.old page.new }
+    {
         let is_cut = self.bytes.len() > MAX_SHOWN;
         self.bytes.truncate(MAX_SHOWN);
         if !is_cut && self.bytes.last() == Some(&b'\r') {

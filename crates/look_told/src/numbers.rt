@@ -1,5 +1,6 @@
 //! Which numbers words and values may be.
 ghost use Rattle.std.specs.Prelude.{◌≤◌};
+ghost use Rattle.look_sources.specs.Pages.{Grows};
 
 use crate::forms::Kind;
 use hume_base::Ty;
@@ -23,21 +24,32 @@ pub(crate) fn range_of(kind: Kind) -> Option<(u32, u32, &'static [u8])> {
 }
 
 /// Puts the numbers that a type of numbers has.
-pub(crate) fn put_numbers(ty: &Ty, page: &mut Page) {
+#[tactic(auto, using(look_sources::proofs::Growing::growing))]
+pub(crate) fn put_numbers(ty: &Ty, page: &mut Page)
+    ensures { Grows page.old page.new }
+{
     match ty {
         Ty::Nat(bits) => {
-            page.put(b", 0 to ");
-            page.number(u64::MAX >> spare_bits(*bits));
+            page.put(b", 0");
+            put_most(u64::MAX >> spare_bits(*bits), page);
         }
         Ty::Int(bits) => {
             let most = (u64::MAX >> 1u32) >> spare_bits(*bits);
             page.put(b", -");
             page.number(most.saturating_add(1));
-            page.put(b" to ");
-            page.number(most);
+            put_most(most, page);
         }
         _ => {}
     }
+}
+
+/// Puts the greatest number behind the least one.
+#[tactic(auto, using(look_sources::proofs::Growing::growing))]
+pub(crate) fn put_most(most: u64, page: &mut Page)
+    ensures { Grows page.old page.new }
+{
+    page.put(b" to ");
+    page.number(most);
 }
 
 // How many bits of a word a number of `bits` bits doesn't take.

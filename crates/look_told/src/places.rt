@@ -1,4 +1,8 @@
 //! Programs of a call, and the lines of files of which something is said.
+#![tactic(auto, using(look_sources::proofs::Growing::growing))]
+
+ghost use Rattle.look_sources.specs.Pages.{Grows};
+
 use crate::quoted::put_name;
 use hume_model::{Core, NodeC, StreamC};
 use look_sources::Page;
@@ -11,7 +15,9 @@ pub struct Program<'a> {
 }
 
 /// Puts `FILE:LINE: `.
-pub fn put_head(file: &[u8], line: u64, page: &mut Page) {
+pub fn put_head(file: &[u8], line: u64, page: &mut Page)
+    ensures { Grows page.old page.new }
+{
     put_name(file, page);
     page.put(b":");
     page.number(line);

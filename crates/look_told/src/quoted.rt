@@ -1,22 +1,37 @@
 //! Words in messages, quoted as a shell quotes them.
+#![tactic(auto, using(look_sources::proofs::Growing::growing))]
+
+ghost use Rattle.look_sources.specs.Pages.{Grows};
+
 use look_sources::Page;
 
 // How many bytes of a word a message has at most.
 const MAX_WORD_BYTES: usize = 60;
 
 /// Puts the name of a file at the head of a line: in quotes if it would be more than a line.
-pub(crate) fn put_name(name: &[u8], page: &mut Page) {
+pub(crate) fn put_name(name: &[u8], page: &mut Page)
+    ensures { Grows page.old page.new }
+{
+    if has_control(name) {
+        put_quoted(name, page);
+    } else {
+        page.put(name);
+    }
+}
+
+fn has_control(name: &[u8]) -> bool {
     for byte in name {
         if byte.is_ascii_control() {
-            put_quoted(name, page);
-            return;
+            return true;
         }
     }
-    page.put(name);
+    false
 }
 
 /// Puts a word, or the front of a long one; a number as it is.
-pub(crate) fn put_word(word: &[u8], page: &mut Page) {
+pub(crate) fn put_word(word: &[u8], page: &mut Page)
+    ensures { Grows page.old page.new }
+{
     match word.get(..MAX_WORD_BYTES) {
         Some(front) if word.len() > MAX_WORD_BYTES => put_in_quotes(front, b"..", page),
         _ if is_number(word) => page.put(word),
@@ -34,22 +49,20 @@ fn is_number(word: &[u8]) -> bool {
 }
 
 /// Puts the bytes in quotes.
-pub(crate) fn put_quoted(bytes: &[u8], page: &mut Page) {
+pub(crate) fn put_quoted(bytes: &[u8], page: &mut Page)
+    ensures { Grows page.old page.new }
+{
     put_in_quotes(bytes, b"", page);
 }
 
 // Puts the bytes and those behind them in quotes. Where one is no letter or sign of ASCII, the quotes are those with escapes.
-fn put_in_quotes(bytes: &[u8], behind: &[u8], page: &mut Page) {
+fn put_in_quotes(bytes: &[u8], behind: &[u8], page: &mut Page)
+    ensures { Grows page.old page.new }
+{
     let escaped = !is_plain(bytes);
     page.put(if escaped { b"$'".as_slice() } else { b"'" });
     for byte in bytes {
-        if escaped {
-            put_escaped(*byte, page);
-        } else if *byte == b'\'' {
-            page.put(b"'\\''");
-        } else {
-            page.put(&[*byte]);
-        }
+        put_byte(*byte, escaped, page);
     }
     page.put(behind);
     page.put(b"'");
@@ -64,7 +77,21 @@ fn is_plain(bytes: &[u8]) -> bool {
     true
 }
 
-fn put_escaped(byte: u8, page: &mut Page) {
+fn put_byte(byte: u8, escaped: bool, page: &mut Page)
+    ensures { Grows page.old page.new }
+{
+    if escaped {
+        put_escaped(byte, page);
+    } else if byte == b'\'' {
+        page.put(b"'\\''");
+    } else {
+        page.put(&[byte]);
+    }
+}
+
+fn put_escaped(byte: u8, page: &mut Page)
+    ensures { Grows page.old page.new }
+{
     match byte {
         7 => page.put(b"\\a"),
         8 => page.put(b"\\b"),
@@ -77,11 +104,15 @@ fn put_escaped(byte: u8, page: &mut Page) {
         b'\'' => page.put(b"\\'"),
         b'\\' => page.put(b"\\\\"),
         b' '..=b'~' => page.put(&[byte]),
-        _ => {
-            page.put(b"\\");
-            page.number(u64::from(byte / 64));
-            page.number(u64::from(byte / 8 % 8));
-            page.number(u64::from(byte % 8));
-        }
+        _ => put_octal(byte, page),
     }
+}
+
+fn put_octal(byte: u8, page: &mut Page)
+    ensures { Grows page.old page.new }
+{
+    page.put(b"\\");
+    page.number(u64::from(byte / 64));
+    page.number(u64::from(byte / 8 % 8));
+    page.number(u64::from(byte % 8));
 }

@@ -1,8 +1,13 @@
 //! The sentence of each rule, as `docs/REFUSALS.md` has it, for a line that names the line alone.
+ghost use Rattle.std.specs.Prelude.{◌==◌, not, IsTrue};
+ghost use Rattle.std.specs.List.{list_all};
+
 use hume_base::Rule;
 
 /// What is wrong where the rule is broken.
-pub fn sentence_of_line(rule: Rule) -> &'static [u8] {
+pub fn sentence_of_line(rule: Rule) -> &'static [u8]
+    ensures { IsTrue (list_all (λ byte. not (byte == 10)) result.now) }
+{
     match rule {
         Rule::C10 => b"no token, space or comment starts there",
         Rule::C11 => b"a number is over 18446744073709551615",

@@ -1,4 +1,6 @@
 //! What is said of a call by its status.
+ghost use Rattle.std.specs.Prelude.{◌<◌, IfOk, IsSome, length};
+
 use crate::failures::programs::{programs_of, sound_of};
 use crate::failures::refusals::put_refusal;
 use look_sources::Page;
@@ -15,7 +17,9 @@ pub fn told<D: Disk>(
     alloc: Global,
     words: &[String],
     on_terminal: bool,
-) -> Result<Option<Vec<u8>>, AllocError> {
+) -> Result<Option<Vec<u8>>, AllocError>
+    ensures { IfOk result (λ text. IsSome text → 0 < length words.now) }
+{
     let Some((status, rest)) = words.split_first() else {
         return Ok(None);
     };

@@ -1,4 +1,8 @@
 //! Comparisons that are always true or always false by the types of their operands.
+#![tactic(auto, using(look_sources::proofs::Growing::growing))]
+
+ghost use Rattle.look_sources.specs.Pages.{Grows};
+
 use crate::hints::parts::Parts;
 use crate::hints::verdicts::{Verdicts, gather, gather_of_result};
 use hume_model::{BoxC, Core, FunC, NodeC};
@@ -11,14 +15,17 @@ pub(crate) fn put_constant(
     parts: &Parts,
     core: &Core,
     page: &mut Page,
-) -> Result<(), AllocError> {
+) -> Result<(), AllocError>
+    ensures { Grows page.old page.new }
+{
     for function in core.funs.as_slice() {
         put_of_function(alloc, parts, function, page)?;
     }
     for node in core.nodes.as_slice() {
-        if let NodeC::Rules(b) = node {
-            put_of_box(alloc, parts, b, page)?;
-        }
+        let NodeC::Rules(b) = node else {
+            continue;
+        };
+        put_of_box(alloc, parts, b, page)?;
     }
     Ok(())
 }
@@ -28,28 +35,34 @@ fn put_of_function(
     parts: &Parts,
     function: &FunC,
     page: &mut Page,
-) -> Result<(), AllocError> {
+) -> Result<(), AllocError>
+    ensures { Grows page.old page.new }
+{
     let mut verdicts = Verdicts::make(alloc);
     for equation in function.equations.as_slice() {
         gather(&mut verdicts, &equation.body);
     }
     let answers = verdicts.finish()?;
-    if let Some(name) = parts.declared(Sort::FunctionName, function.name.bytes()) {
-        put_answers(parts, &name, answers.as_slice(), page);
-    }
+    let Some(name) = parts.declared(Sort::FunctionName, function.name.bytes()) else {
+        return Ok(());
+    };
+    put_answers(parts, &name, answers.as_slice(), page);
     Ok(())
 }
 
-fn put_of_box(alloc: Global, parts: &Parts, b: &BoxC, page: &mut Page) -> Result<(), AllocError> {
+fn put_of_box(alloc: Global, parts: &Parts, b: &BoxC, page: &mut Page) -> Result<(), AllocError>
+    ensures { Grows page.old page.new }
+{
     let mut verdicts = Verdicts::make(alloc);
     for rule in b.rules.as_slice() {
         gather_of_result(&mut verdicts, &rule.result);
     }
     gather_of_handlers(&mut verdicts, b);
     let answers = verdicts.finish()?;
-    if let Some(name) = parts.node(b.name.bytes()) {
-        put_answers(parts, &name, answers.as_slice(), page);
-    }
+    let Some(name) = parts.node(b.name.bytes()) else {
+        return Ok(());
+    };
+    put_answers(parts, &name, answers.as_slice(), page);
     Ok(())
 }
 
@@ -60,18 +73,19 @@ fn gather_of_handlers(verdicts: &mut Verdicts, b: &BoxC) {
 }
 
 // Puts the answers on the comparisons of the declaration, if there is one for each.
-fn put_answers(parts: &Parts, name: &Span, answers: &[Option<bool>], page: &mut Page) {
+fn put_answers(parts: &Parts, name: &Span, answers: &[Option<bool>], page: &mut Page)
+    ensures { Grows page.old page.new }
+{
     if count_comparisons(parts, name) != answers.len() {
         return;
     }
     let mut number: usize = 0;
     for span in parts.spans {
-        if is_comparison_of(span, name) {
-            if let Some(Some(holds)) = answers.get(number) {
-                put_answer(parts, span, *holds, page);
-            }
-            number = number.saturating_add(1);
+        if !is_comparison_of(span, name) {
+            continue;
         }
+        put_answer(parts, span, answers.get(number), page);
+        number = number.saturating_add(1);
     }
 }
 
@@ -89,12 +103,16 @@ fn is_comparison_of(span: &Span, name: &Span) -> bool {
     span.sort == Sort::Comparison && span.declaration == name.declaration
 }
 
-fn put_answer(parts: &Parts, span: &Span, holds: bool, page: &mut Page) {
-    parts.put_hint(
-        span.first,
-        b"this comparison is always ",
-        if holds { b"true" } else { b"false" },
-        b" by its type",
-        page,
-    );
+fn put_answer(parts: &Parts, span: &Span, answer: Option<&Option<bool>>, page: &mut Page)
+    ensures { Grows page.old page.new }
+{
+    if let Some(Some(holds)) = answer {
+        parts.put_hint(
+            span.first,
+            b"this comparison is always ",
+            if *holds { b"true" } else { b"false" },
+            b" by its type",
+            page,
+        );
+    }
 }

@@ -1,4 +1,8 @@
 //! Rules that lose the state of their box, so that it never fires again.
+#![tactic(auto, using(look_sources::proofs::Growing::growing))]
+
+ghost use Rattle.look_sources.specs.Pages.{Grows};
+
 use crate::hints::outputs::ends_with;
 use crate::hints::parts::Parts;
 use crate::hints::waiting::needs;
@@ -7,25 +11,32 @@ use look_sources::{Page, Sort};
 
 /// Puts a warning on each rule and handler that puts nothing on an output of the box that alone feeds an input of it which every rule
 /// needs: on the wire there is one value at most.
-pub(crate) fn put_lost(parts: &Parts, core: &Core, page: &mut Page) {
+pub(crate) fn put_lost(parts: &Parts, core: &Core, page: &mut Page)
+    ensures { Grows page.old page.new }
+{
     for n in 0..core.nodes.len() {
-        if let NodeC::Rules(b) = &core.nodes[n] {
-            put_lost_of(parts, core, n, b, page);
-        }
+        let NodeC::Rules(b) = &core.nodes[n] else {
+            continue;
+        };
+        put_lost_of(parts, core, n, b, page);
     }
 }
 
-fn put_lost_of(parts: &Parts, core: &Core, node: usize, b: &BoxC, page: &mut Page) {
+fn put_lost_of(parts: &Parts, core: &Core, node: usize, b: &BoxC, page: &mut Page)
+    ensures { Grows page.old page.new }
+{
     for wire in core.wires.as_slice() {
-        if wire.initial.is_some()
-            && wire.from as usize == node
-            && wire.to as usize == node
-            && all_need(b, wire.to_port as usize)
-        {
-            put_of_rules(parts, b, wire, page);
-            put_of_handlers(parts, b, wire, page);
+        if !keeps_state(wire, node) || !all_need(b, wire.to_port as usize) {
+            continue;
         }
+        put_of_rules(parts, b, wire, page);
+        put_of_handlers(parts, b, wire, page);
     }
+}
+
+// Whether the wire leads from the node to itself, and holds a value from the begin.
+fn keeps_state(wire: &WireC, node: usize) -> bool {
+    wire.initial.is_some() && wire.from as usize == node && wire.to as usize == node
 }
 
 fn all_need(b: &BoxC, input: usize) -> bool {
@@ -38,19 +49,25 @@ fn all_need(b: &BoxC, input: usize) -> bool {
     true
 }
 
-fn put_of_rules(parts: &Parts, b: &BoxC, wire: &WireC, page: &mut Page) {
+fn put_of_rules(parts: &Parts, b: &BoxC, wire: &WireC, page: &mut Page)
+    ensures { Grows page.old page.new }
+{
     for i in 0..b.rules.len() {
-        if loses(&b.rules[i].result, wire) {
-            put_of_part(parts, b, Sort::Rule, i, wire, page);
+        if !loses(&b.rules[i].result, wire) {
+            continue;
         }
+        put_of_part(parts, b, Sort::Rule, i, wire, page);
     }
 }
 
-fn put_of_handlers(parts: &Parts, b: &BoxC, wire: &WireC, page: &mut Page) {
+fn put_of_handlers(parts: &Parts, b: &BoxC, wire: &WireC, page: &mut Page)
+    ensures { Grows page.old page.new }
+{
     for i in 0..b.handlers.len() {
-        if loses(&b.handlers[i].result, wire) {
-            put_of_part(parts, b, Sort::Handler, i, wire, page);
+        if !loses(&b.handlers[i].result, wire) {
+            continue;
         }
+        put_of_part(parts, b, Sort::Handler, i, wire, page);
     }
 }
 
@@ -60,7 +77,9 @@ fn loses(res: &Res, wire: &WireC) -> bool {
     ends_with(res, output, false) && !ends_with(res, output, true)
 }
 
-fn put_of_part(parts: &Parts, b: &BoxC, sort: Sort, place: usize, wire: &WireC, page: &mut Page) {
+fn put_of_part(parts: &Parts, b: &BoxC, sort: Sort, place: usize, wire: &WireC, page: &mut Page)
+    ensures { Grows page.old page.new }
+{
     let (Some(node), Some(output)) = (
         parts.node(b.name.bytes()),
         b.outs.get(wire.from_port as usize),
@@ -69,14 +88,15 @@ fn put_of_part(parts: &Parts, b: &BoxC, sort: Sort, place: usize, wire: &WireC, 
     };
     let number = place.saturating_add(1);
     for span in parts.spans {
-        if span.sort == sort && span.declaration == node.declaration && span.number == number {
-            parts.put_hint(
-                span.first,
-                b"after this the box never fires again: nothing is put on the output `",
-                output.name.bytes(),
-                b"`, which alone feeds an input that every rule needs",
-                page,
-            );
+        if span.sort != sort || span.declaration != node.declaration || span.number != number {
+            continue;
         }
+        parts.put_hint(
+            span.first,
+            b"after this the box never fires again: nothing is put on the output `",
+            output.name.bytes(),
+            b"`, which alone feeds an input that every rule needs",
+            page,
+        );
     }
 }

@@ -1,16 +1,24 @@
 //! Outputs that no rule ever writes.
+#![tactic(auto, using(look_sources::proofs::Growing::growing))]
+
+ghost use Rattle.look_sources.specs.Pages.{Grows};
+
 use crate::hints::parts::Parts;
 use hume_model::{BoxC, Core, Expr, NodeC, PatC, Res};
 use look_sources::{Page, Sort};
 
 /// Puts a hint on each output that no result of its box gives a value. A box that gives no output a value is taken as meant so.
-pub(crate) fn put_outputs(parts: &Parts, core: &Core, page: &mut Page) {
+pub(crate) fn put_outputs(parts: &Parts, core: &Core, page: &mut Page)
+    ensures { Grows page.old page.new }
+{
     for node in core.nodes.as_slice() {
-        if let NodeC::Rules(b) = node {
-            if is_one_written(b) {
-                put_outputs_of(parts, b, page);
-            }
+        let NodeC::Rules(b) = node else {
+            continue;
+        };
+        if !is_one_written(b) {
+            continue;
         }
+        put_outputs_of(parts, b, page);
     }
 }
 
@@ -23,11 +31,14 @@ fn is_one_written(b: &BoxC) -> bool {
     false
 }
 
-fn put_outputs_of(parts: &Parts, b: &BoxC, page: &mut Page) {
+fn put_outputs_of(parts: &Parts, b: &BoxC, page: &mut Page)
+    ensures { Grows page.old page.new }
+{
     for output in 0..b.outs.len() {
-        if !is_written(b, output) {
-            put_unwritten(parts, b, output, page);
+        if is_written(b, output) {
+            continue;
         }
+        put_unwritten(parts, b, output, page);
     }
 }
 
@@ -78,24 +89,27 @@ fn gives(outs: &[Option<Expr>], output: usize) -> bool {
     }
 }
 
-fn put_unwritten(parts: &Parts, b: &BoxC, output: usize, page: &mut Page) {
+fn put_unwritten(parts: &Parts, b: &BoxC, output: usize, page: &mut Page)
+    ensures { Grows page.old page.new }
+{
     let Some(node) = parts.node(b.name.bytes()) else {
         return;
     };
     let number = output.saturating_add(1);
     for span in parts.spans {
-        if span.sort == Sort::Output
-            && span.declaration == node.declaration
-            && span.number == number
+        if span.sort != Sort::Output
+            || span.declaration != node.declaration
+            || span.number != number
         {
-            let name = parts.name_at(span.first);
-            parts.put_hint(
-                span.first,
-                b"no rule ever writes the output `",
-                name,
-                b"`",
-                page,
-            );
+            continue;
         }
+        let name = parts.name_at(span.first);
+        parts.put_hint(
+            span.first,
+            b"no rule ever writes the output `",
+            name,
+            b"`",
+            page,
+        );
     }
 }

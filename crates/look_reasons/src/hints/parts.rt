@@ -1,4 +1,6 @@
 //! The parts of a source, and how a hint on one is put.
+ghost use Rattle.look_sources.specs.Pages.{Grows};
+
 use crate::site::{name_of, place_of};
 use hume_base::{Keyword, Kind, Symbol, Token};
 use look_sources::{Page, Sort, Span, Spot};
@@ -20,6 +22,7 @@ impl<'a> Parts<'a> {
     }
 
     /// Puts a hint on the token, and the line with a caret.
+    #[tactic(auto, using(look_sources::proofs::Growing::growing))]
     pub(crate) fn put_hint(
         &self,
         token: usize,
@@ -27,7 +30,9 @@ impl<'a> Parts<'a> {
         name: &[u8],
         more: &[u8],
         page: &mut Page,
-    ) {
+    )
+        ensures { Grows page.old page.new }
+    {
         let spot = Spot::of(self.text, place_of(self.text, self.tokens, token));
         spot.put_head(self.name, page);
         page.put(b"warning: ");

@@ -1,4 +1,8 @@
 //! Functions, data types, exceptions and variables that nothing uses.
+#![tactic(auto, using(look_sources::proofs::Growing::growing))]
+
+ghost use Rattle.look_sources.specs.Pages.{Grows};
+
 use crate::hints::names::Names;
 use crate::hints::parts::Parts;
 use crate::name_table::Meaning;
@@ -7,27 +11,32 @@ use look_sources::{Page, Sort, Span};
 use std::alloc::{AllocError, Global};
 
 /// Puts a hint on each name that nothing uses.
-pub(crate) fn put_unused(alloc: Global, parts: &Parts, page: &mut Page) -> Result<(), AllocError> {
+pub(crate) fn put_unused(alloc: Global, parts: &Parts, page: &mut Page) -> Result<(), AllocError>
+    ensures { Grows page.old page.new }
+{
     let names = Names::of(alloc, parts.tokens)?;
     let resolved = Resolved::of(alloc, parts.tokens, parts.spans)?;
     let mut begin: usize = 0;
     for i in 0..parts.spans.len() {
         let span = parts.spans[i];
-        match span.sort {
-            Sort::Declaration => {
-                put_declared(parts, &names, begin, i, page);
-                begin = i;
-            }
-            Sort::Variable => put_variable(alloc, parts, &resolved, &span, page),
-            _ => {}
+        if span.sort == Sort::Variable {
+            put_variable(alloc, parts, &resolved, &span, page);
+            continue;
         }
+        if span.sort != Sort::Declaration {
+            continue;
+        }
+        put_declared(parts, &names, begin, i, page);
+        begin = i;
     }
     Ok(())
 }
 
 // Puts a hint on the declaration whose parts have numbers up to its own, `last`, if none of its names is used outside of it. A data type
 // of one constructor may be meant so.
-fn put_declared(parts: &Parts, names: &Names, begin: usize, last: usize, page: &mut Page) {
+fn put_declared(parts: &Parts, names: &Names, begin: usize, last: usize, page: &mut Page)
+    ensures { Grows page.old page.new }
+{
     let Some(declaration) = parts.spans.get(last) else {
         return;
     };
@@ -60,13 +69,9 @@ fn is_declared(sort: Sort) -> bool {
 }
 
 // Puts a warning on the variable, if it isn't used where it is known. One of a `let` that only names a tuple may be meant so.
-fn put_variable(
-    alloc: Global,
-    parts: &Parts,
-    resolved: &Resolved,
-    variable: &Span,
-    page: &mut Page,
-) {
+fn put_variable(alloc: Global, parts: &Parts, resolved: &Resolved, variable: &Span, page: &mut Page)
+    ensures { Grows page.old page.new }
+{
     let token = variable.first;
     let is_tuple = parts.is_of_let(token) && parts.is_tuple(token.saturating_add(2));
     if resolved.is_used(token) || is_tuple || parts.is_meant(token) {

@@ -1,4 +1,6 @@
 //! Boxes that can never fire, since each of their rules waits for a value that never comes.
+ghost use Rattle.look_sources.specs.Pages.{Grows};
+
 use crate::hints::parts::Parts;
 use hume_base::limits::MAX_INPUTS;
 use hume_model::{BoxC, Core, InPat, NodeC, RuleC};
@@ -6,12 +8,15 @@ use look_sources::Page;
 use std::alloc::{AllocError, Global};
 
 /// Puts a hint on each box that can never fire.
+#[tactic(auto, using(look_sources::proofs::Growing::growing))]
 pub(crate) fn put_waiting(
     alloc: Global,
     parts: &Parts,
     core: &Core,
     page: &mut Page,
-) -> Result<(), AllocError> {
+) -> Result<(), AllocError>
+    ensures { Grows page.old page.new }
+{
     let mut fed = falses(alloc, core.nodes.len().saturating_mul(MAX_INPUTS))?;
     let mut alive = falses(alloc, core.nodes.len())?;
     for _ in 0..core.nodes.len() {
@@ -20,11 +25,13 @@ pub(crate) fn put_waiting(
     }
     feed(core, alive.as_slice(), fed.as_mut_slice());
     for n in 0..core.nodes.len() {
-        if let NodeC::Rules(b) = &core.nodes[n] {
-            if !is(alive.as_slice(), n) {
-                put_dead(parts, fed.as_slice(), n, b, page);
-            }
+        let NodeC::Rules(b) = &core.nodes[n] else {
+            continue;
+        };
+        if is(alive.as_slice(), n) {
+            continue;
         }
+        put_dead(parts, fed.as_slice(), n, b, page);
     }
     Ok(())
 }
@@ -106,7 +113,10 @@ pub(super) fn needs(pattern: &InPat) -> bool {
     }
 }
 
-fn put_dead(parts: &Parts, fed: &[bool], n: usize, b: &BoxC, page: &mut Page) {
+#[tactic(auto, using(look_sources::proofs::Growing::growing))]
+fn put_dead(parts: &Parts, fed: &[bool], n: usize, b: &BoxC, page: &mut Page)
+    ensures { Grows page.old page.new }
+{
     let Some(node) = parts.node(b.name.bytes()) else {
         return;
     };

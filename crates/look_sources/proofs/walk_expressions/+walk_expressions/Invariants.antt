@@ -1,7 +1,8 @@
-use Rattle.std.proofs.Common.{◌+◌, ◌*◌, max}
+use Rattle.std.proofs.Common.{◌+◌, ◌*◌, ◌≤◌, max}
 use denote.Param.Weighed.{most}
 use Rattle.hume_ast.specs.declared.tree.Exp.{size-Exp}
 use Rattle.hume_ast.proofs.SpellSteps.{alternatives_size}
+use Rattle.look_sources.specs.inner.Walks.{noted}
 use Rattle.look_sources.proofs.walk_expressions.+walk_expressions.Given as goal
 
 abbrev pub decreases-walk_after : goal.decreases-walk_after
@@ -18,3 +19,9 @@ decreases-walk_expressions l = 3 * most size-Exp l.exps.now + 2
 
 abbrev pub decreases-walk_let : goal.decreases-walk_let
 decreases-walk_let l = 3 * max (size-Exp l.value.now) (size-Exp l.body.now) + 2
+
+abbrev pub invariant-walk_alternatives-loop-i : goal.invariant-walk_alternatives-loop-i
+invariant-walk_alternatives-loop-i l = noted l.fn.walk ≤ noted l.walk
+
+abbrev pub invariant-walk_expressions-loop-i : goal.invariant-walk_expressions-loop-i
+invariant-walk_expressions-loop-i l = noted l.fn.walk ≤ noted l.walk

@@ -1,0 +1,5 @@
+pub mod Misfits
+pub mod Names
+pub mod Reasons
+pub mod Sentences
+pub mod Sites

@@ -1,0 +1,4 @@
+pub mod Columns
+pub mod Growing
+pub mod LaterLines
+pub mod Walking

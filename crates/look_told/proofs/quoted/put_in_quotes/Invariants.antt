@@ -1,0 +1,5 @@
+use Rattle.look_sources.specs.Pages.{Grows}
+use Rattle.look_told.proofs.quoted.put_in_quotes.Given as goal
+
+abbrev pub invariant-loop-byte : goal.invariant-loop-byte
+invariant-loop-byte l = Grows l.fn.page l.page

@@ -1,0 +1,5 @@
+use Rattle.look_sources.specs.Pages.{Grows}
+use Rattle.look_told.proofs.unfit.put_of_program.Given as goal
+
+abbrev pub invariant-loop-place : goal.invariant-loop-place
+invariant-loop-place l = Grows l.fn.page l.page
