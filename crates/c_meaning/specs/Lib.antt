@@ -1,6 +1,13 @@
 pub mod Numbers
+pub mod Operators
 pub mod Objects
+pub mod Reads
 pub mod Memories
 pub mod Expressions
 pub mod Statements
+pub mod Declarations
+pub mod Calls
+pub mod Hooks
+pub mod Sound
 pub mod Programs
+pub mod Example

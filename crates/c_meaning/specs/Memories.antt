@@ -2,10 +2,11 @@
 use Rattle.std.specs.Prelude.{ℕ, ◌+◌, ◌==◌, nat_le, ◌&&◌, Bool, not, ℤ, List, [], ◌∷◌, ◌++◌, Option, Some, None, if◌then◌else◌}
 use Rattle.std.specs.Str.{bytes_eq}
 use Rattle.std.specs.Option.{is_some}
-use Rattle.c_meaning.specs.Numbers.{CNumber, and_then}
-use Rattle.c_meaning.specs.Objects.{Object, Step, at_path, changed, declared_at}
+use Rattle.c_meaning.specs.Numbers.{CNumber, and_then, of_type}
+use Rattle.c_meaning.specs.Objects.{Object, Scalar, Struct, Step, at_path, changed, declared_at}
 
--- An object within the one that was made as the so-manieth. Through a pointer to `const` nothing is written.
+-- A place in memory: the number of an object, and the path to one within it. 6.7.3: what is `const`, or is reached by a pointer to `const`,
+-- isn't written.
 pub record Place : Type 0 where
   pub block : ℕ
   pub path : List Step
@@ -22,7 +23,7 @@ pub record World : Type 0 where
   pub coming : List ℕ → List Object
   pub given : List ℕ → List Value
 
--- All objects by number, how many there are, and the world. Objects of a block are gone at its end, so later ones take their numbers.
+-- All objects by number, how many there are, and the world. 6.2.4: objects of a block are gone at its end, so later ones take their numbers.
 pub record Memory : Type 0 where
   pub objects : ℕ → Object
   pub count : ℕ
@@ -34,7 +35,7 @@ pub data Named : Type 0 where
   Pointing : Place → Named
   Constant : ℤ → Named
 
--- the names that are in scope, the last one first
+-- 6.2.1: the names that are in scope, the last one first
 abbrev pub Scope : Type 0
 Scope = List (List ℕ × Named)
 
@@ -50,8 +51,16 @@ abbrev pub may_write : Rights → Place → Bool
 may_write None place = not place.constant
 may_write (Some since) place = nat_le since place.block && not place.constant
 
+-- the object that is read at the place
 abbrev pub read_at : Memory → Place → Option Object
 read_at memory place = if nat_le memory.count place.block then None else at_path place.path (memory.objects place.block)
+
+-- 6.3.2.1: what is read of an object. An unset number has no value, a union none as a whole, and of an array elements alone are read.
+-- 6.2.6.1: a struct has a value, whether or not its members have.
+abbrev pub value_of : Object → Option Value
+value_of (Scalar ty (Some number)) = Some (Numeric (of_type ty number))
+value_of (Struct type names part) = Some (Whole (Struct type names part))
+value_of _ = None
 
 -- the object at the place as it is declared, also where it is of a member of a union that isn't in force
 abbrev pub read_declared : Memory → Place → Option Object
@@ -82,3 +91,7 @@ next_place memory constant = record { block = memory.count; path = []; constant 
 -- the place at a step from another one
 abbrev pub inner_place : Place → Step → Place
 inner_place place step = record place { path = place.path ++ (step ∷ []) }
+
+-- the memory in which objects that were made since so many were there are gone
+abbrev pub left_with : ℕ → Memory → Memory
+left_with count memory = record memory { count = count }

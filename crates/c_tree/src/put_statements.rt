@@ -16,6 +16,13 @@ use crate::tree::{CCount, CExp, CStm, CVariable};
 use hume_base::List;
 use std::alloc::AllocError;
 
+// The ends of the first lines of blocks, and the last line of a block.
+const OPENED: &[u8] = b") {\n";
+
+const CASE_OPENED: &[u8] = b": {\n";
+
+const CLOSED: &[u8] = b"}\n";
+
 /// Adds the text of a statement behind a margin.
 #[cycle(put_statements)]
 #[tactic(auto, using(crate::proofs::StatementForms::statement_forms))]
@@ -106,7 +113,7 @@ fn put_arm(text: &mut Vec<u8>, margin: &[u8], test: &CExp, body: &[CStm]) -> Res
     ensures { OnOk result (text.new.items ≡ text.old.items ++ arm_text margin.now test.now (map statement_text body.now)) }
 {
     put_expression(text, test)?;
-    text.extend_from_slice(b") {\n")?;
+    text.extend_from_slice(OPENED)?;
     put_block(text, margin, body)
 }
 
@@ -221,10 +228,11 @@ fn put_default(text: &mut Vec<u8>, margin: &[u8], body: &[CStm]) -> Result<(), A
 fn put_case_end(text: &mut Vec<u8>, margin: &[u8], body: &[CStm]) -> Result<(), AllocError>
     ensures { OnOk result (text.new.items ≡ text.old.items ++ case_end margin.now (map statement_text body.now)) }
 {
-    text.extend_from_slice(b": {\n")?;
+    text.extend_from_slice(CASE_OPENED)?;
     put_block(text, margin, body)?;
     text.extend_from_slice(margin)?;
     text.extend_from_slice(b"    break;\n")?;
+    // The `}` of the case.
     put_closed(text, margin)
 }
 
@@ -241,8 +249,9 @@ fn put_for(
     text.extend_from_slice(margin)?;
     text.extend_from_slice(b"for (")?;
     put_count(text, count)?;
-    text.extend_from_slice(b") {\n")?;
+    text.extend_from_slice(OPENED)?;
     put_block(text, margin, body)?;
+    // The `}` of the loop.
     put_closed(text, margin)
 }
 
@@ -283,7 +292,7 @@ fn put_switch_start(text: &mut Vec<u8>, margin: &[u8], subject: &CExp) -> Result
     text.extend_from_slice(margin)?;
     text.extend_from_slice(b"switch (")?;
     put_expression(text, subject)?;
-    text.extend_from_slice(b") {\n")
+    text.extend_from_slice(OPENED)
 }
 
 /// Adds the last line of a block.
@@ -292,7 +301,7 @@ fn put_closed(text: &mut Vec<u8>, margin: &[u8]) -> Result<(), AllocError>
     ensures { OnOk result (text.new.items ≡ text.old.items ++ (margin.now ++ closed)) }
 {
     text.extend_from_slice(margin)?;
-    text.extend_from_slice(b"}\n")
+    text.extend_from_slice(CLOSED)
 }
 
 #[tactic(auto, using(crate::proofs::Steps::text_steps))]
