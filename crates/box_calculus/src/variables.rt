@@ -4,7 +4,7 @@ ghost use Rattle.hume_base.specs.declared.types.Ty.{out-Ty};
 ghost use Rattle.hume_model.specs.BoxTyping.{port_types};
 ghost use Rattle.calculus_laws.specs.VariableTypes.{con_binds, parts_bind, pattern_binds, position_binds, rule_binds, tuple_binds};
 
-use hume_base::{List, Ty, Types, copy_ty};
+use hume_base::{List, Shared, Ty, Types, copy_ty};
 use hume_model::{InPat, PatC, PortC};
 use std::alloc::{AllocError, Global};
 
@@ -102,7 +102,7 @@ fn all_variables(
     alloc: Global,
     types: &Types,
     parts: &[PatC],
-    tys: &[Ty],
+    tys: &[Shared<Ty>],
 ) -> Result<List<Ty>, AllocError>
     ensures { IfOk result (λ all. all ≡ parts_bind (map (pattern_binds types.now) parts.now) tys.now) }
 {

@@ -4,7 +4,6 @@ use Rattle.std.specs.Option.{option_map, option_and_then}
 use Rattle.std.proofs.lemmas.List.{take_all}
 use Rattle.std.proofs.lemmas.Option.{slice_get_within, slice_get-get_or, slice_get_read}
 use denote.Param.Weighed.{most}
-use Rattle.hume_base.specs.declared.boxed.Box.{Box}
 use Rattle.hume_base.specs.declared.types.Ty.{Ty, size-Ty}
 use Rattle.hume_base.specs.declared.types.Ty.TheOpen.{Ty-F}
 use Rattle.hume_base.specs.declared.types.Ty.TheVariants as shape
@@ -20,6 +19,10 @@ use Rattle.box_machine.specs.inner.Stepping.{IsHeap, objects_in}
 use Rattle.box_machine.specs.inner.Written.{AreWritten, HaveRoomAt, con_at, items_at, parts_at}
 use Rattle.box_machine.proofs.Held.{some_object}
 use Rattle.box_machine.proofs.Writing.{Piece, form, item_piece, object_there, part_field, part_piece, parts_whole, piece_room, piece_written}
+
+-- an item that is seen through a pointer
+pub seen_at : (tys : List Ty) (i : ℕ) (ty seen : Ty) → seen ≡ ty → ty ≡ get_or tys i ty → seen ≡ get_or tys i seen
+seen_at tys i ty seen same is = subst (λ t. t ≡ get_or tys i t) (sym same) is
 
 pub part_smaller : (i : ℕ) (tys : List Ty) (ty : Ty) → i < length tys → ty ≡ get_or tys i ty → size-Ty ty ≤ most size-Ty tys
 part_smaller i tys ty within is = slice_get-most size-Ty tys i ty (slice_get_read tys (length tys) i ty refl within is)
@@ -175,7 +178,7 @@ pub flat_tuple : (objects : List Object) (named : ℕ → Flattening) (tys : Lis
     → flat_at_with objects named (shape.Tuple tys) word ≡ parts_at objects (map (flat_at_with objects named) tys) word
 flat_tuple objects named tys word = form objects named (shape.Tuple tys) (Ty-F.Tuple tys) word (shape.rolls-Tuple tys)
 
-pub flat_vector : (objects : List Object) (named : ℕ → Flattening) (count : ℕ) (item : Box Ty) (word : ℕ)
+pub flat_vector : (objects : List Object) (named : ℕ → Flattening) (count : ℕ) (item : Ty) (word : ℕ)
     → flat_at_with objects named (shape.Vector count item) word ≡ items_at objects (flat_at_with objects named item) word
 flat_vector objects named count item word = form objects named (shape.Vector count item) (Ty-F.Vector count item) word (shape.rolls-Vector count item)
 

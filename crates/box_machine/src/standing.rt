@@ -10,7 +10,7 @@ ghost use Rattle.box_machine.specs.inner.Written.{AreWritten, HaveExactSizes, Ha
 
 use crate::objects::{field_at, keeps_room, tag_at};
 use box_heap::BoxHeap;
-use hume_base::{SumDef, Ty, Types};
+use hume_base::{Shared, SumDef, Ty, Types};
 
 /// Whether each value of the type is one word, which is its flat word too.
 #[inline(always)]
@@ -68,7 +68,7 @@ fn write_value(
 fn write_parts(
     types: &Types,
     bound: usize,
-    tys: &[Ty],
+    tys: &[Shared<Ty>],
     place: u64,
     heap: &BoxHeap,
     into: &mut [u64],

@@ -1,23 +1,24 @@
 ghost use Rattle.std.specs.Prelude.{◌≡◌, [], ◌∷◌, take, drop, reverse, OnOk, IfOk};
 ghost use Rattle.check_typing.specs.Cores.{Cored, truth_core, letter_core, variable_core, raise_core, let_core, if_core, and_core, or_core, operation_core, neg_core, not_core, convert_core, index_core, update_core, case_core, raise_with_core, call_core, con_core, tuple_core, vector_core};
-ghost use Rattle.hume_model.specs.declared.core_tree.Expr.{Word as WordCore};
+ghost use Rattle.typed_core.specs.declared.typed_tree.TypedExpr.{Word as WordCore};
 ghost use Rattle.check_cores.specs.Stacks.{top_core, top_pattern, lifted};
 
 use crate::stack::Stack;
 use crate::{forms, gather};
-use hume_base::Ty;
-use hume_model::{Expr, Forms, Op, PatC};
+use hume_base::{Shared, Ty};
+use hume_model::{Op, PatC};
 use std::alloc::{AllocError, Global};
 use std::marker::Model;
+use typed_core::TypedExpr;
 
 /// An alternative: its pattern and its body, each with whether a literal in it is out of range.
-pub(crate) type Arm = ((PatC, bool), (Expr, bool));
+pub(crate) type Arm = ((PatC, bool), (TypedExpr, bool));
 
 /// Cores of expressions, of patterns and of alternatives that wait to become parts of larger ones. What finds too few of them is answered with
 /// want of memory.
 #[derive(Drop)]
 pub struct Builder {
-    pub(crate) cores: Stack<(Expr, bool)>,
+    pub(crate) cores: Stack<(TypedExpr, bool)>,
     pub(crate) patterns: Stack<(PatC, bool)>,
     arms: Stack<Arm>,
 }
@@ -25,12 +26,12 @@ pub struct Builder {
 impl Model for Builder {
     ghost use Rattle.std.specs.Prelude.{List, Bool};
     ghost use Rattle.std.specs.Coded.{codes};
-    ghost use Rattle.hume_model.specs.declared.core_tree.Expr.{Expr};
+    ghost use Rattle.typed_core.specs.declared.typed_tree.TypedExpr.{TypedExpr};
     ghost use Rattle.hume_model.specs.declared.core_tree.PatC.{PatC};
-    ghost use Rattle.hume_model.specs.contracts.core_tree.Expr as expr;
+    ghost use Rattle.typed_core.specs.contracts.typed_tree.TypedExpr as expr;
     ghost use Rattle.hume_model.specs.contracts.core_tree.PatC as pat;
 
-    ghost Value = { List (Expr × Bool) × List (PatC × Bool) × List ((PatC × Bool) × (Expr × Bool)) };
+    ghost Value = { List (TypedExpr × Bool) × List (PatC × Bool) × List ((PatC × Bool) × (TypedExpr × Bool)) };
 
     ghost coded = { Prim.hlevel (codes, expr.the_row.coded, pat.the_row.coded) };
 
@@ -52,14 +53,14 @@ impl Builder {
     pub fn word(&mut self, word: u64, too_wide: bool) -> Result<(), AllocError>
         ensures { OnOk result (self.new ≡ ((WordCore word, too_wide) ∷ self.old.0, self.old.1, self.old.2)) }
     {
-        self.cores.push((Expr::Word(word), too_wide))?;
+        self.cores.push((TypedExpr::Word(word), too_wide))?;
         Ok(())
     }
 
     pub fn variable(&mut self, number: u32) -> Result<(), AllocError>
         ensures { OnOk result (self.new ≡ (variable_core number ∷ self.old.0, self.old.1, self.old.2)) }
     {
-        self.cores.push((Expr::Var(number), false))?;
+        self.cores.push((TypedExpr::Var(number), false))?;
         Ok(())
     }
 
@@ -67,7 +68,7 @@ impl Builder {
     pub fn raise(&mut self, exn: u32) -> Result<(), AllocError>
         ensures { OnOk result (self.new ≡ (raise_core exn ∷ self.old.0, self.old.1, self.old.2)) }
     {
-        self.cores.push((Expr::Raise(exn, None), false))?;
+        self.cores.push((TypedExpr::Raise(exn, None), false))?;
         Ok(())
     }
 
@@ -78,11 +79,11 @@ impl Builder {
         forms::raise_with(alloc, &mut self.cores, exn)
     }
 
-    /// A `let` of the last two cores.
-    pub fn binding(&mut self, alloc: Global) -> Result<(), AllocError>
-        ensures { OnOk result (self.new ≡ (let_core (top_core (drop 1 self.old.0)) (top_core self.old.0) ∷ drop 2 self.old.0, self.old.1, self.old.2)) }
+    /// A `let` of the last two cores, of which the first has the type.
+    pub fn binding(&mut self, alloc: Global, of: Shared<Ty>) -> Result<(), AllocError>
+        ensures { OnOk result (self.new ≡ (let_core of (top_core (drop 1 self.old.0)) (top_core self.old.0) ∷ drop 2 self.old.0, self.old.1, self.old.2)) }
     {
-        forms::binding(alloc, &mut self.cores)
+        forms::binding(alloc, &mut self.cores, of)
     }
 
     /// An `if` of the last three cores.
@@ -137,30 +138,35 @@ impl Builder {
         forms::applied(alloc, &mut self.cores, Op::Not, Ty::Bool)
     }
 
-    /// The last core as a number of another type.
-    pub fn conversion(&mut self, alloc: Global, ty: Ty) -> Result<(), AllocError>
-        ensures { OnOk result (self.new ≡ (convert_core ty (top_core self.old.0) ∷ drop 1 self.old.0, self.old.1, self.old.2)) }
+    /// The last core, a number of the first type, as one of the second.
+    pub fn conversion(&mut self, alloc: Global, from: Ty, to: Ty) -> Result<(), AllocError>
+        ensures { OnOk result (self.new ≡ (convert_core from to (top_core self.old.0) ∷ drop 1 self.old.0, self.old.1, self.old.2)) }
     {
-        forms::applied(alloc, &mut self.cores, Op::Convert, ty)
+        forms::conversion(alloc, &mut self.cores, from, to)
     }
 
-    /// An element of a vector of so many.
-    pub fn element(&mut self, alloc: Global, count: u32) -> Result<(), AllocError>
-        ensures { OnOk result (self.new ≡ (index_core count (top_core (drop 1 self.old.0)) (top_core self.old.0) ∷ drop 2 self.old.0, self.old.1, self.old.2)) }
-    {
-        forms::element(alloc, &mut self.cores, count)
-    }
-
-    /// A vector of so many with another element.
-    pub fn update(&mut self, alloc: Global, count: u32) -> Result<(), AllocError>
+    /// An element of a vector of the first type, at a place of the second.
+    pub fn element(&mut self, alloc: Global, of: Shared<Ty>, places: Ty) -> Result<(), AllocError>
         ensures { OnOk result (self.new ≡ (
-          update_core count (top_core (drop 2 self.old.0)) (top_core (drop 1 self.old.0)) (top_core self.old.0)
+          index_core of places (top_core (drop 1 self.old.0)) (top_core self.old.0)
+              ∷ drop 2 self.old.0,
+          self.old.1,
+          self.old.2,
+        )) }
+    {
+        forms::element(alloc, &mut self.cores, of, places)
+    }
+
+    /// A vector of the first type with another element, at a place of the second.
+    pub fn update(&mut self, alloc: Global, of: Shared<Ty>, places: Ty) -> Result<(), AllocError>
+        ensures { OnOk result (self.new ≡ (
+          update_core of places (top_core (drop 2 self.old.0)) (top_core (drop 1 self.old.0)) (top_core self.old.0)
               ∷ drop 3 self.old.0,
           self.old.1,
           self.old.2,
         )) }
     {
-        forms::update(alloc, &mut self.cores, count)
+        forms::update(alloc, &mut self.cores, of, places)
     }
 
     /// A call of a function with the last cores.
@@ -168,7 +174,7 @@ impl Builder {
         ensures { OnOk result (self.new ≡ (call_core number (reverse (take count self.old.0)) ∷ drop count self.old.0, self.old.1, self.old.2)) }
     {
         let (parts, too_wide) = gather::cores(alloc, &mut self.cores, count)?;
-        self.cores.push((Expr::Call(number, parts), too_wide))?;
+        self.cores.push((TypedExpr::Call(number, parts), too_wide))?;
         Ok(())
     }
 
@@ -177,7 +183,7 @@ impl Builder {
         ensures { OnOk result (self.new ≡ (con_core place (reverse (take count self.old.0)) ∷ drop count self.old.0, self.old.1, self.old.2)) }
     {
         let (parts, too_wide) = gather::cores(alloc, &mut self.cores, count)?;
-        self.cores.push((Expr::Con(place, parts), too_wide))?;
+        self.cores.push((TypedExpr::Con(place, parts), too_wide))?;
         Ok(())
     }
 
@@ -186,7 +192,7 @@ impl Builder {
         ensures { OnOk result (self.new ≡ (tuple_core (reverse (take count self.old.0)) ∷ drop count self.old.0, self.old.1, self.old.2)) }
     {
         let (parts, too_wide) = gather::cores(alloc, &mut self.cores, count)?;
-        self.cores.push((Expr::Tuple(parts), too_wide))?;
+        self.cores.push((TypedExpr::Tuple(parts), too_wide))?;
         Ok(())
     }
 
@@ -195,7 +201,7 @@ impl Builder {
         ensures { OnOk result (self.new ≡ (vector_core (reverse (take count self.old.0)) ∷ drop count self.old.0, self.old.1, self.old.2)) }
     {
         let (parts, too_wide) = gather::cores(alloc, &mut self.cores, count)?;
-        self.cores.push((Expr::Vect(parts), too_wide))?;
+        self.cores.push((TypedExpr::Vect(parts), too_wide))?;
         Ok(())
     }
 
@@ -212,26 +218,26 @@ impl Builder {
         self.arms.push((pattern, body))
     }
 
-    /// A `case` of the last core with the last alternatives.
+    /// A `case` of the last core, which has the type, with the last alternatives.
     pub fn alternatives(
         &mut self,
         alloc: Global,
-        values: Forms,
+        of: Shared<Ty>,
         count: usize,
     ) -> Result<(), AllocError>
         ensures { OnOk result (self.new ≡ (
-          case_core values (top_core self.old.0) (reverse (take count self.old.2))
+          case_core of (top_core self.old.0) (reverse (take count self.old.2))
               ∷ drop 1 self.old.0,
           self.old.1,
           drop count self.old.2,
         )) }
     {
         let arms = gather::arms(alloc, &mut self.arms, count)?;
-        forms::alternatives(alloc, &mut self.cores, values, arms)
+        forms::alternatives(alloc, &mut self.cores, of, arms)
     }
 
     /// Takes the last core out.
-    pub fn take_core(&mut self) -> Result<(Expr, bool), AllocError>
+    pub fn take_core(&mut self) -> Result<(TypedExpr, bool), AllocError>
         ensures taken { IfOk result (λ core. core ≡ top_core self.old.0) }
         ensures left { OnOk result (self.new ≡ (drop 1 self.old.0, self.old.1, self.old.2)) }
     {

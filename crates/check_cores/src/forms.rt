@@ -1,29 +1,30 @@
 //! The core of each form of expression, from the last cores of a stack.
 ghost use Rattle.std.specs.Prelude.{◌≡◌, ◌∷◌, [], ◌||◌, drop, IfOk, OnOk};
-ghost use Rattle.hume_model.specs.declared.core_tree.Expr.{Prim, Case as CaseCore};
-ghost use Rattle.check_typing.specs.Cores.{let_core, if_core, and_core, or_core, operation_core, index_core, update_core, raise_with_core};
+ghost use Rattle.typed_core.specs.declared.typed_tree.TypedExpr.{Prim, Case as CaseCore};
+ghost use Rattle.check_typing.specs.Cores.{let_core, if_core, and_core, or_core, operation_core, convert_core, index_core, update_core, raise_with_core};
 ghost use Rattle.check_cores.specs.Stacks.{top_core};
 
 use crate::stack::Stack;
-use hume_base::{Box, List, Ty};
-use hume_model::{Expr, Forms, Op, PatC};
+use hume_base::{Box, List, Shared, Ty};
+use hume_model::{Op, PatC};
 use std::alloc::{AllocError, Global};
+use typed_core::TypedExpr;
 
-type Cores = Stack<(Expr, bool)>;
+type Cores = Stack<(TypedExpr, bool)>;
 
 pub(crate) fn raise_with(alloc: Global, cores: &mut Cores, exn: u32) -> Result<(), AllocError>
     ensures { OnOk result (cores.new ≡ raise_with_core exn (top_core cores.old) ∷ drop 1 cores.old) }
 {
     let (part, too_wide) = last(alloc, cores)?;
-    cores.push((Expr::Raise(exn, Some(part)), too_wide))
+    cores.push((TypedExpr::Raise(exn, Some(part)), too_wide))
 }
 
-pub(crate) fn binding(alloc: Global, cores: &mut Cores) -> Result<(), AllocError>
-    ensures { OnOk result (cores.new ≡ let_core (top_core (drop 1 cores.old)) (top_core cores.old) ∷ drop 2 cores.old) }
+pub(crate) fn binding(alloc: Global, cores: &mut Cores, of: Shared<Ty>) -> Result<(), AllocError>
+    ensures { OnOk result (cores.new ≡ let_core of (top_core (drop 1 cores.old)) (top_core cores.old) ∷ drop 2 cores.old) }
 {
     let (body, body_wide) = last(alloc, cores)?;
     let (part, part_wide) = last(alloc, cores)?;
-    cores.push((Expr::Let(part, body), part_wide || body_wide))
+    cores.push((TypedExpr::Let(of, part, body), part_wide || body_wide))
 }
 
 pub(crate) fn branches(alloc: Global, cores: &mut Cores) -> Result<(), AllocError>
@@ -32,13 +33,13 @@ pub(crate) fn branches(alloc: Global, cores: &mut Cores) -> Result<(), AllocErro
     let (when_false, b) = last(alloc, cores)?;
     let (when_true, a) = last(alloc, cores)?;
     let (test, t) = last(alloc, cores)?;
-    cores.push((Expr::If(test, when_true, when_false), t || (a || b)))
+    cores.push((TypedExpr::If(test, when_true, when_false), t || (a || b)))
 }
 
 pub(crate) fn both(alloc: Global, cores: &mut Cores) -> Result<(), AllocError>
     ensures { OnOk result (cores.new ≡ and_core (top_core (drop 1 cores.old)) (top_core cores.old) ∷ drop 2 cores.old) }
 {
-    cores.push((Expr::Word(0), false))?;
+    cores.push((TypedExpr::Word(0), false))?;
     branches(alloc, cores)
 }
 
@@ -48,7 +49,7 @@ pub(crate) fn either(alloc: Global, cores: &mut Cores) -> Result<(), AllocError>
     let Some(right) = cores.pop() else {
         return Err(AllocError);
     };
-    cores.push((Expr::Word(1), false))?;
+    cores.push((TypedExpr::Word(1), false))?;
     cores.push(right)?;
     branches(alloc, cores)
 }
@@ -69,7 +70,10 @@ pub(crate) fn operation(
     };
     let mut parts = List::of_one(alloc, left)?;
     parts.push(right)?;
-    cores.push((Expr::Prim(operation, ty, parts), left_wide || right_wide))
+    cores.push((
+        TypedExpr::Prim(operation, ty, parts),
+        left_wide || right_wide,
+    ))
 }
 
 /// An operation on one core.
@@ -85,41 +89,67 @@ pub(crate) fn applied(
         return Err(AllocError);
     };
     let parts = List::of_one(alloc, part)?;
-    cores.push((Expr::Prim(operation, ty, parts), too_wide))
+    cores.push((TypedExpr::Prim(operation, ty, parts), too_wide))
 }
 
-pub(crate) fn element(alloc: Global, cores: &mut Cores, count: u32) -> Result<(), AllocError>
-    ensures { OnOk result (cores.new ≡ index_core count (top_core (drop 1 cores.old)) (top_core cores.old) ∷ drop 2 cores.old) }
+pub(crate) fn conversion(
+    alloc: Global,
+    cores: &mut Cores,
+    from: Ty,
+    to: Ty,
+) -> Result<(), AllocError>
+    ensures { OnOk result (cores.new ≡ convert_core from to (top_core cores.old) ∷ drop 1 cores.old) }
+{
+    let (part, too_wide) = last(alloc, cores)?;
+    cores.push((TypedExpr::Convert(from, to, part), too_wide))
+}
+
+pub(crate) fn element(
+    alloc: Global,
+    cores: &mut Cores,
+    of: Shared<Ty>,
+    places: Ty,
+) -> Result<(), AllocError>
+    ensures { OnOk result (cores.new ≡ index_core of places (top_core (drop 1 cores.old)) (top_core cores.old) ∷ drop 2 cores.old) }
 {
     let (place, p) = last(alloc, cores)?;
     let (vector, v) = last(alloc, cores)?;
-    cores.push((Expr::Index(count, vector, place), v || p))
+    cores.push((TypedExpr::Index(of, places, vector, place), v || p))
 }
 
-pub(crate) fn update(alloc: Global, cores: &mut Cores, count: u32) -> Result<(), AllocError>
-    ensures { OnOk result (cores.new ≡ update_core count (top_core (drop 2 cores.old)) (top_core (drop 1 cores.old)) (top_core cores.old) ∷ drop 3 cores.old) }
+pub(crate) fn update(
+    alloc: Global,
+    cores: &mut Cores,
+    of: Shared<Ty>,
+    places: Ty,
+) -> Result<(), AllocError>
+    ensures { OnOk result (cores.new
+        ≡ update_core of places (top_core (drop 2 cores.old)) (top_core (drop 1 cores.old)) (top_core cores.old) ∷ drop 3 cores.old) }
 {
     let (item, i) = last(alloc, cores)?;
     let (place, p) = last(alloc, cores)?;
     let (vector, v) = last(alloc, cores)?;
-    cores.push((Expr::Update(count, vector, place, item), v || (p || i)))
+    cores.push((
+        TypedExpr::Update(of, places, vector, place, item),
+        v || (p || i),
+    ))
 }
 
 pub(crate) fn alternatives(
     alloc: Global,
     cores: &mut Cores,
-    forms: Forms,
-    arms: (List<(PatC, Expr)>, bool),
+    of: Shared<Ty>,
+    arms: (List<(PatC, TypedExpr)>, bool),
 ) -> Result<(), AllocError>
-    ensures { OnOk result (cores.new ≡ (CaseCore (top_core cores.old).0 forms arms.0, (top_core cores.old).1 || arms.1) ∷ drop 1 cores.old) }
+    ensures { OnOk result (cores.new ≡ (CaseCore of (top_core cores.old).0 arms.0, (top_core cores.old).1 || arms.1) ∷ drop 1 cores.old) }
 {
     let (arms, some_too_wide) = arms;
     let (part, too_wide) = last(alloc, cores)?;
-    cores.push((Expr::Case(part, forms, arms), too_wide || some_too_wide))
+    cores.push((TypedExpr::Case(of, part, arms), too_wide || some_too_wide))
 }
 
 // Takes the last core out, to be a part of another.
-fn last(alloc: Global, cores: &mut Cores) -> Result<(Box<Expr>, bool), AllocError>
+fn last(alloc: Global, cores: &mut Cores) -> Result<(Box<TypedExpr>, bool), AllocError>
     ensures taken { IfOk result (λ taken. taken ≡ top_core cores.old) }
     ensures left { OnOk result (cores.new ≡ drop 1 cores.old) }
 {

@@ -6,15 +6,16 @@ ghost use Rattle.check_typing.specs.Patterns.{pat_cores, some_pat_too_wide};
 use crate::builder::Arm;
 use crate::stack::Stack;
 use hume_base::List;
-use hume_model::{Expr, PatC};
+use hume_model::PatC;
 use std::alloc::{AllocError, Global};
+use typed_core::TypedExpr;
 
 /// The last cores as one list, and whether a literal in one of them is out of range.
 pub(crate) fn cores(
     alloc: Global,
-    stack: &mut Stack<(Expr, bool)>,
+    stack: &mut Stack<(TypedExpr, bool)>,
     count: usize,
-) -> Result<(List<Expr>, bool), AllocError>
+) -> Result<(List<TypedExpr>, bool), AllocError>
     ensures gathered { IfOk result (λ all. all ≡ (cores_alone (reverse (take count stack.old)), one_too_wide (reverse (take count stack.old)))) }
     ensures left { OnOk result (stack.new ≡ drop count stack.old) }
 {
@@ -22,7 +23,10 @@ pub(crate) fn cores(
     apart(alloc, items)
 }
 
-fn apart(alloc: Global, items: Vec<(Expr, bool)>) -> Result<(List<Expr>, bool), AllocError>
+fn apart(
+    alloc: Global,
+    items: Vec<(TypedExpr, bool)>,
+) -> Result<(List<TypedExpr>, bool), AllocError>
     ensures { IfOk result (λ all. all ≡ (cores_alone items.items, one_too_wide items.items)) }
 {
     let mut parts = List::new(alloc);
@@ -64,7 +68,7 @@ pub(crate) fn arms(
     alloc: Global,
     stack: &mut Stack<Arm>,
     count: usize,
-) -> Result<(List<(PatC, Expr)>, bool), AllocError>
+) -> Result<(List<(PatC, TypedExpr)>, bool), AllocError>
     ensures gathered { IfOk result (λ all. all ≡ (arm_cores (reverse (take count stack.old)), some_arm_too_wide (reverse (take count stack.old)))) }
     ensures left { OnOk result (stack.new ≡ drop count stack.old) }
 {
@@ -72,7 +76,7 @@ pub(crate) fn arms(
     arms_apart(alloc, items)
 }
 
-fn arms_apart(alloc: Global, items: Vec<Arm>) -> Result<(List<(PatC, Expr)>, bool), AllocError>
+fn arms_apart(alloc: Global, items: Vec<Arm>) -> Result<(List<(PatC, TypedExpr)>, bool), AllocError>
     ensures { IfOk result (λ all. all ≡ (arm_cores items.items, some_arm_too_wide items.items)) }
 {
     let mut arms = List::new(alloc);

@@ -1,13 +1,11 @@
-//! From functions to their cores.
+//! From functions to their trees.
 //!
-//! Main calls: `push_signature` pushes the types that a function is written with, and `function_cores` makes the cores of its
-//! equations, with whether a literal in one of them is out of the range of its type (`Functions.antt`, and
-//! `DeclarationWalk.antt` of `check_typing`). An equation's patterns are checked against the types of the parameters, its body
-//! against the type that the function gives.
+//! Main call: `function_cores` makes the trees of a function's equations, with whether a literal in one of them is out of the
+//! range of its type (`Functions.antt`, and `DeclarationWalk.antt` of `check_typing`). An equation's patterns are checked against
+//! the types of the parameters, its body against the type that the function gives.
 //!
-//! Proved: `function_cores` gives exactly the cores of a function's equations, with whether a literal in one of them is out of
-//! range, and leaves the state as it was; it answers `NoType` only where the function has no cores. `push_signature` pushes the
-//! types of a function as they are written.
+//! Proved: `function_cores` gives exactly the trees of a function's equations, with whether a literal in one of them is out of
+//! range, and leaves the state as it was; it answers `NoType` only where the function has no trees.
 //!
 //! It knows functions. It doesn't know boxes, or how signatures are made.
 
@@ -15,5 +13,4 @@ mod equations;
 mod functions;
 mod signature;
 
-pub use functions::function_cores;
-pub use signature::push_signature;
+pub(crate) use functions::function_cores;

@@ -18,4 +18,4 @@ mod raises;
 mod result_forms;
 mod walk;
 
-pub use elaboration::ResultElaboration;
+pub(crate) use elaboration::ResultElaboration;

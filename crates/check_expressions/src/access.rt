@@ -1,8 +1,7 @@
 //! What an elaboration gives to those who make larger things of its cores.
 ghost use Rattle.std.specs.Prelude.{◌≡◌, length, drop, OnOk, IfOk};
 ghost use Rattle.hume_base.specs.declared.types.Ty.{out-Ty};
-ghost use Rattle.check_scopes.specs.types.Contexts.{top, shape_of as shape_seen};
-ghost use Rattle.hume_model.specs.Forms.{forms_of};
+ghost use Rattle.check_scopes.specs.types.Contexts.{top, last_type, shape_of as shape_seen};
 ghost use Rattle.check_typing.specs.Signatures.{exn_named};
 ghost use Rattle.check_scopes.specs.Known.{with_exception};
 ghost use Rattle.check_cores.specs.Stacks.{top_core, top_pattern};
@@ -10,8 +9,10 @@ ghost use Rattle.check_tasks.specs.States.{scope_in, types_in, signatures_in};
 
 use crate::elaboration::Elaboration;
 use check_scopes::types::Shape;
-use hume_model::{Expr, Forms, PatC};
-use std::alloc::AllocError;
+use hume_base::{Shared, Ty};
+use hume_model::PatC;
+use std::alloc::{AllocError, Global};
+use typed_core::TypedExpr;
 
 impl<'a> Elaboration<'a> {
     /// How many variables are in scope.
@@ -28,11 +29,20 @@ impl<'a> Elaboration<'a> {
         self.environment.shape()
     }
 
-    /// The forms of the values of the last type.
-    pub fn forms(&self) -> Result<Forms, AllocError>
-        ensures { IfOk result (λ forms. forms ≡ forms_of (top (types_in self.now))) }
+    /// The last type as a tree.
+    pub fn tree(&mut self, alloc: Global) -> Result<Shared<Ty>, AllocError>
+        ensures is { IfOk result (λ tree. tree ≡ top (types_in self.old)) }
+        ensures keeps { OnOk result (self.new ≡ self.old) }
     {
-        self.environment.forms()
+        self.environment.tree(alloc)
+    }
+
+    /// The type of the last variable as a tree.
+    pub fn variable_tree(&mut self, alloc: Global) -> Result<Shared<Ty>, AllocError>
+        ensures is { IfOk result (λ tree. tree ≡ last_type (scope_in self.old)) }
+        ensures keeps { OnOk result (self.new ≡ self.old) }
+    {
+        self.environment.variable_tree(alloc)
     }
 
     /// The number of the exception of a name, and whether it carries something. The type of what it carries goes on the stack.
@@ -44,7 +54,7 @@ impl<'a> Elaboration<'a> {
     }
 
     /// Takes the last core out.
-    pub fn take_core(&mut self) -> Result<(Expr, bool), AllocError>
+    pub fn take_core(&mut self) -> Result<(TypedExpr, bool), AllocError>
         ensures taken { IfOk result (λ core. core ≡ top_core self.old.1) }
         ensures left { OnOk result (self.new ≡ (self.old.0, drop 1 self.old.1, self.old.2, self.old.3)) }
     {

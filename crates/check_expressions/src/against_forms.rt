@@ -35,8 +35,8 @@ pub(crate) fn let_against<'a>(
             Task::Own(a),
             Task::Enter(name.bytes()),
             Task::Against(b),
-            Task::Leave(count),
             Task::Cores(CoreTask::Binding),
+            Task::Leave(count),
         ],
     )
 }

@@ -1,7 +1,7 @@
 //! What is done to the stacks of cores.
 ghost use Rattle.std.specs.Prelude.{◌≡◌, OnOk};
 ghost use Rattle.check_tasks.specs.Tasks.{core_step};
-ghost use Rattle.check_tasks.specs.declared.task.CoreTask.TheVariants.{Operation, Negation, Conversion, Alternatives, OwnTuple, OwnVector};
+ghost use Rattle.check_tasks.specs.declared.task.CoreTask.TheVariants.{Binding, Operation, Negation, Conversion, Element, Update, Alternatives, OwnTuple, OwnVector};
 
 use crate::elaboration::Elaboration;
 use check_tasks::CoreTask;
@@ -13,7 +13,7 @@ impl<'a> Elaboration<'a> {
         ensures { OnOk result (self.new ≡ core_step task self.old) }
     {
         match task {
-            CoreTask::Binding => self.builder.binding(alloc),
+            CoreTask::Binding => self.binding(alloc),
             CoreTask::Branches => self.builder.branches(alloc),
             CoreTask::Both => self.builder.both(alloc),
             CoreTask::Either => self.builder.either(alloc),
@@ -21,8 +21,8 @@ impl<'a> Elaboration<'a> {
             CoreTask::Negation => self.negation(alloc),
             CoreTask::Opposite => self.builder.opposite(alloc),
             CoreTask::Conversion => self.conversion(alloc),
-            CoreTask::Element(count) => self.builder.element(alloc, count),
-            CoreTask::Update(count) => self.builder.update(alloc, count),
+            CoreTask::Element => self.element(alloc),
+            CoreTask::Update => self.update(alloc),
             CoreTask::RaiseWith(exn) => self.builder.raise_with(alloc, exn),
             CoreTask::Call(number, count) => self.builder.call(alloc, number, count),
             CoreTask::Constructor(place, count) => self.builder.constructor(alloc, place, count),
@@ -39,6 +39,13 @@ impl<'a> Elaboration<'a> {
             CoreTask::Lift(others) => self.builder.lift(others),
             CoreTask::LiftArm(others) => self.builder.lift_arm(others),
         }
+    }
+
+    fn binding(&mut self, alloc: Global) -> Result<(), AllocError>
+        ensures { OnOk result (self.new ≡ core_step Binding self.old) }
+    {
+        let of = self.environment.variable_tree(alloc)?;
+        self.builder.binding(alloc, of)
     }
 
     fn operation(&mut self, alloc: Global, operation: Op) -> Result<(), AllocError>
@@ -58,15 +65,32 @@ impl<'a> Elaboration<'a> {
     fn conversion(&mut self, alloc: Global) -> Result<(), AllocError>
         ensures { OnOk result (self.new ≡ core_step Conversion self.old) }
     {
-        let ty = self.environment.scalar()?;
-        self.builder.conversion(alloc, ty)
+        let from = self.environment.scalar()?;
+        let to = self.environment.scalar_below()?;
+        self.builder.conversion(alloc, from, to)
+    }
+
+    fn element(&mut self, alloc: Global) -> Result<(), AllocError>
+        ensures { OnOk result (self.new ≡ core_step Element self.old) }
+    {
+        let of = self.environment.tree_below(alloc)?;
+        let places = self.environment.scalar()?;
+        self.builder.element(alloc, of, places)
+    }
+
+    fn update(&mut self, alloc: Global) -> Result<(), AllocError>
+        ensures { OnOk result (self.new ≡ core_step Update self.old) }
+    {
+        let of = self.environment.tree(alloc)?;
+        let places = self.environment.scalar_below()?;
+        self.builder.update(alloc, of, places)
     }
 
     fn alternatives(&mut self, alloc: Global, count: usize) -> Result<(), AllocError>
         ensures { OnOk result (self.new ≡ core_step (Alternatives count) self.old) }
     {
-        let forms = self.environment.forms()?;
-        self.builder.alternatives(alloc, forms, count)
+        let of = self.environment.tree(alloc)?;
+        self.builder.alternatives(alloc, of, count)
     }
 
     fn own_tuple(&mut self, alloc: Global, count: usize) -> Result<(), AllocError>

@@ -20,12 +20,12 @@ impl<'a> Model for Elaboration<'a> {
     ghost use Rattle.hume_base.specs.contracts.types.Ty as ty;
     ghost use Rattle.check_typing.specs.declared.signatures.Signatures.{Signatures};
     ghost use Rattle.check_typing.specs.contracts.signatures.Signatures as sigs;
-    ghost use Rattle.hume_model.specs.declared.core_tree.Expr.{Expr};
+    ghost use Rattle.typed_core.specs.declared.typed_tree.TypedExpr.{TypedExpr};
     ghost use Rattle.hume_model.specs.declared.core_tree.PatC.{PatC};
-    ghost use Rattle.hume_model.specs.contracts.core_tree.Expr as expr;
+    ghost use Rattle.typed_core.specs.contracts.typed_tree.TypedExpr as expr;
     ghost use Rattle.hume_model.specs.contracts.core_tree.PatC as pat;
 
-    ghost Value = { (List (List ℕ × Ty) × List Ty × Signatures) × List (Expr × Bool) × List (PatC × Bool) × List ((PatC × Bool) × (Expr × Bool)) };
+    ghost Value = { (List (List ℕ × Ty) × List Ty × Signatures) × List (TypedExpr × Bool) × List (PatC × Bool) × List ((PatC × Bool) × (TypedExpr × Bool)) };
 
     ghost coded = { Prim.hlevel (codes, ty.the_row.coded, sigs.the_row.coded, expr.the_row.coded, pat.the_row.coded) };
 

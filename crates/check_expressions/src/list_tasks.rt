@@ -230,16 +230,16 @@ pub(crate) fn index_tasks<'a>(
     ensures ok { OnOk result (run tasks.new at.now ≡ given (step (IndexTask b.entry) at.now) (run tasks.old)) }
     ensures none { IfErr result (λ stop. stop ≡ NoType → step (IndexTask b.entry) at.now ≡ None) }
 {
-    let count = at.expect_vector()?;
+    let _count = at.expect_vector()?;
     first(
         tasks,
         &[
-            Task::Types(TypeTask::PushItem),
-            Task::Types(TypeTask::PopBelow),
             Task::Own(b),
             Task::Types(TypeTask::IsNumber),
+            Task::Cores(CoreTask::Element),
             Task::Types(TypeTask::Pop),
-            Task::Cores(CoreTask::Element(count)),
+            Task::Types(TypeTask::PushItem),
+            Task::Types(TypeTask::PopBelow),
         ],
     )
 }
@@ -255,17 +255,19 @@ pub(crate) fn update_tasks<'a>(
     ensures ok { OnOk result (run tasks.new at.now ≡ given (step (UpdateTask b.entry d.entry) at.now) (run tasks.old)) }
     ensures none { IfErr result (λ stop. stop ≡ NoType → step (UpdateTask b.entry d.entry) at.now ≡ None) }
 {
-    let count = at.expect_vector()?;
+    let _count = at.expect_vector()?;
     first(
         tasks,
         &[
             Task::Own(b),
             Task::Types(TypeTask::IsNumber),
-            Task::Types(TypeTask::Pop),
+            Task::Types(TypeTask::RepeatBelow),
             Task::Types(TypeTask::PushItem),
             Task::Against(d),
             Task::Types(TypeTask::Pop),
-            Task::Cores(CoreTask::Update(count)),
+            Task::Cores(CoreTask::Update),
+            Task::Types(TypeTask::Pop),
+            Task::Types(TypeTask::Pop),
         ],
     )
 }

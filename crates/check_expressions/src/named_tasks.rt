@@ -185,8 +185,8 @@ pub(crate) fn cast_own<'a>(
         &[
             Task::Own(a),
             Task::Types(TypeTask::IsNumber),
-            Task::Types(TypeTask::Pop),
             Task::Cores(CoreTask::Conversion),
+            Task::Types(TypeTask::Pop),
         ],
     )
 }

@@ -35,8 +35,8 @@ pub(crate) fn let_own<'a>(
             Task::Own(a),
             Task::Enter(name.bytes()),
             Task::Own(b),
-            Task::Leave(count),
             Task::Cores(CoreTask::Binding),
+            Task::Leave(count),
         ],
     )
 }

@@ -18,6 +18,7 @@ use Rattle.hume_model.specs.declared.core_tree.BoxC.{BoxC}
 use Rattle.hume_model.specs.declared.core_tree.NodeC.TheVariants.{Rules}
 use Rattle.hume_model.specs.declared.core_tree.Core.{Core}
 use Rattle.hume_model.specs.BoxTyping.{BoxHasFrame}
+use Rattle.typed_core.specs.Erasing.{erased_handler}
 use Rattle.check_typing.specs.Declarations.{CoredHandler, WrittenHandler, IsHandler, cores_alone}
 use Rattle.check_typing.specs.declared.signatures.Signatures.{Signatures}
 use Rattle.check_typing.proofs.Maybe.{some-same}
@@ -71,10 +72,11 @@ once names never i j x e f = elim (cases_lt i j) [
   ]
 ]
 
-cored_at : {A : Type 0} (cs : List (A × Bool)) (n : ℕ) (y : A) → slice_get (cores_alone cs) n ≡ Some y → (c : A × Bool) × (slice_get cs n ≡ Some c) × (c.0 ≡ y)
-cored_at [] n y e = cc
-cored_at (c ∷ cs) zero y e = (c, refl, some-same _ _ e)
-cored_at (c ∷ cs) (suc n) y e = cored_at cs n y e
+cored_at : {A B : Type 0} (erase : A → B) (cs : List (A × Bool)) (n : ℕ) (y : B) → slice_get (map erase (cores_alone cs)) n ≡ Some y
+    → (c : A × Bool) × (slice_get cs n ≡ Some c) × (erase c.0 ≡ y)
+cored_at erase [] n y e = cc
+cored_at erase (c ∷ cs) zero y e = (c, refl, some-same _ _ e)
+cored_at erase (c ∷ cs) (suc n) y e = cored_at erase cs n y e
 
 module _ (text : List ℕ) (program : Program) (core : Core) (fine : IsFine program.decls) (p : IsCoreOf text program core) where
   abbrev of_name : ExnDef → List ℕ
@@ -99,8 +101,8 @@ module _ (text : List ℕ) (program : Program) (core : Core) (fine : IsFine prog
         positions = λ number rule at. (typed.rules number rule at).positions;
         handlers = λ number handler at. (typed.handlers number handler at).is;
         apart = λ first second handler other at_first at_second same.
-            let x = cored_at box.is.handler_cores first handler (ap (λ (hs : List HandC). slice_get hs first) (sym box.is.handlers_are) ∙ at_first) in
-            let y = cored_at box.is.handler_cores second other (ap (λ (hs : List HandC). slice_get hs second) (sym box.is.handlers_are) ∙ at_second) in
+            let x = cored_at erased_handler box.is.handler_cores first handler (ap (λ (hs : List HandC). slice_get hs first) (sym box.is.handlers_are) ∙ at_first) in
+            let y = cored_at erased_handler box.is.handler_cores second other (ap (λ (hs : List HandC). slice_get hs second) (sym box.is.handlers_are) ∙ at_second) in
             let v = from_right (IsHandler p.signatures have.outs) box.handlers box.is.handler_cores have.handlers_have first x.0 x.1 in
             let w = from_right (IsHandler p.signatures have.outs) box.handlers box.is.handler_cores have.handlers_have second y.0 y.1 in
             let exns : v.2.number ≡ w.2.number = ap (λ (c : CoredHandler). c.0.exn) (sym v.2.is) ∙ ap (λ (h : HandC). h.exn) x.2 ∙ same

@@ -12,9 +12,11 @@ use Rattle.hume_model.specs.declared.core_tree.BoxC.{BoxC}
 use Rattle.hume_model.specs.declared.core_tree.NodeC.TheVariants.{Rules}
 use Rattle.hume_model.specs.declared.core_tree.Core.{Core}
 use Rattle.hume_model.specs.OwnExceptions.{HasOwnExceptions, own_exceptions}
-use Rattle.hume_model.specs.Typing.{FunctionsAreTyped}
+use Rattle.hume_model.specs.Typing.{EquationsHave, FunctionsAreTyped}
 use Rattle.hume_model.specs.BoxTyping.{port_types, BoxIsTyped}
-use Rattle.check_typing.specs.Declarations.{InPlaces, some_so, WrittenRule, WrittenHandler, HasWideLiteral, signature_written, ports_written}
+use Rattle.typed_core.specs.declared.typed_tree.TypedDeclaration.TheVariants.{Equations, Rules as RulesOf}
+use Rattle.typed_core.proofs.Typed.{equations_have}
+use Rattle.check_typing.specs.Declarations.{InPlaces, some_so, cores_alone, WrittenRule, WrittenHandler, HasWideLiteral, signature_written, ports_written}
 use Rattle.check_typing.specs.CoreSignatures.{HasSignatures}
 use Rattle.check_typing.specs.declared.signatures.Signature.{Signature}
 use Rattle.check_typing.specs.declared.signatures.Signatures.{Signatures}
@@ -102,10 +104,12 @@ module _ (text : List ℕ) (program : Program) (core : Core) (fine : IsFine prog
       let c = from_right (IsFunctionOf text p.signatures) _ _ p.funs number function there in
       let d = declared function_of p.are.funs.order program.decls number c.0 c.1 in
       let is = function_is d.1 c.0 d.3 in
+      let trees = Equations (cores_alone c.2.cores) in
       let off : some_so c.2.cores ≡ false = not_so _ (λ wide. narrow program.decls p.signatures fine p.are d.0 d.1 d.2
-      (subst (HasWideLiteral p.signatures) (sym is) (c.2.cores, c.2.typed, wide))) in
-      function_typed p.signatures core has_signatures c.0.name c.0.types c.0.equations c.2.cores _ function c.2.typed off c.2.signature
-      (record { params = refl; gives = refl }) c.2.equations
+      (subst (HasWideLiteral p.signatures) (sym is) (trees, (c.2.cores, c.2.typed, λ i. (trees, wide i))))) in
+      let are = function_typed p.signatures core has_signatures c.0.name c.0.types c.0.equations c.2.cores _ function c.2.typed off c.2.signature
+      (record { params = refl; gives = refl }) c.2.equations in
+      subst (EquationsHave core function) are.erases (equations_have core function (cores_alone c.2.cores) are.typed)
 
   -- a box of the core is declared
   pub box_declared : (n : ℕ) (b : BoxC) → slice_get core.nodes n ≡ Some (Rules b)
@@ -118,8 +122,9 @@ module _ (text : List ℕ) (program : Program) (core : Core) (fine : IsFine prog
   boxes_typed n b there =
       let c = box_declared n b there in
       let box = c.2 in
+      let trees = RulesOf (cores_alone box.is.rule_cores) (cores_alone box.is.handler_cores) in
       let off : (some_so box.is.rule_cores || some_so box.is.handler_cores) ≡ false = not_so _ (λ wide. narrow program.decls p.signatures fine p.are c.0.number (c.0.place, c.0.decl) c.1
-      (subst (HasWideLiteral p.signatures) (sym box.decl) (box.is.rule_cores, box.is.handler_cores, box.is.typed, wide))) in
+      (subst (HasWideLiteral p.signatures) (sym box.decl) (trees, (box.is.rule_cores, box.is.handler_cores, box.is.typed, λ i. (trees, wide i))))) in
       let flags = or_parts (some_so box.is.rule_cores) (some_so box.is.handler_cores) off in
       box_typed p.signatures core has_signatures box.ins box.outs box.rules box.handlers box.is.rule_cores box.is.handler_cores b box.is.typed flags.0 flags.1
       (ports_are p.signatures.types box.ins b.ins box.is.ins) (ports_are p.signatures.types box.outs b.outs box.is.outs) box.is.rules_are box.is.handlers_are

@@ -19,7 +19,8 @@ use Rattle.hume_model.specs.declared.core_tree.WireC.{WireC}
 use Rattle.hume_model.specs.declared.core_tree.FunC.{FunC}
 use Rattle.hume_model.specs.declared.core_tree.Core.{Core}
 use Rattle.hume_model.specs.WireEnds.{is_stream, output_type, input_type, type_of_ends}
-use Rattle.check_typing.specs.Declarations.{InPlaces, CoredEquation, CoredRule, CoredHandler, WrittenRule, WrittenHandler, IsFunction}
+use Rattle.typed_core.specs.Erasing.{erased_equation, erased_rule, erased_handler}
+use Rattle.check_typing.specs.Declarations.{InPlaces, CoredEquation, CoredRule, CoredHandler, cores_alone, WrittenRule, WrittenHandler, IsFunction}
 use Rattle.check_typing.specs.inner.DeclarationWalk.{function_walk}
 use Rattle.check_typing.specs.declared.signatures.Signature.{Signature}
 use Rattle.check_typing.specs.declared.signatures.Signatures.{Signatures}
@@ -38,7 +39,7 @@ function_once text s f a b p q =
     let params = ap (λ (g : Signature). g.params) signature in
     let gives = ap (λ (g : Signature). g.gives) signature in
     let cores = only_one (IsFunction s f.name f.types) (function_walk s f.name f.types) (finds_function s f.name f.types) f.equations p.cores q.cores p.typed q.typed in
-    let equations = p.equations ∙ ap (map (λ (c : CoredEquation). c.0)) cores ∙ sym q.equations in
+    let equations = p.equations ∙ ap (λ (cs : List CoredEquation). map erased_equation (cores_alone cs)) cores ∙ sym q.equations in
     λ i. record { name = name i; line = line i; params = params i; gives = gives i; equations = equations i }
 
 port_once : (types : Types) (place : List ℕ × TyExp) (a b : PortC) → IsPort types place a → IsPort types place b → a ≡ b
@@ -57,8 +58,8 @@ box_once text s d title inputs outputs is_fair rs hs a b p q =
     let outs = in_place_once (IsPort s.types) (port_once s.types) outputs a.outs b.outs p.outs q.outs in
     let fair = p.fair ∙ sym q.fair in
     let cores = some-same _ _ (sym (box_to s inputs outputs rs hs p.rule_cores p.handler_cores p.typed) ∙ box_to s inputs outputs rs hs q.rule_cores q.handler_cores q.typed) in
-    let rules = p.rules_are ∙ ap (λ r. map (λ (c : CoredRule). c.0) r.0) cores ∙ sym q.rules_are in
-    let handlers = p.handlers_are ∙ ap (λ r. map (λ (c : CoredHandler). c.0) r.1) cores ∙ sym q.handlers_are in
+    let rules = p.rules_are ∙ ap (λ (r : List CoredRule × List CoredHandler). map erased_rule (cores_alone r.0)) cores ∙ sym q.rules_are in
+    let handlers = p.handlers_are ∙ ap (λ (r : List CoredRule × List CoredHandler). map erased_handler (cores_alone r.1)) cores ∙ sym q.handlers_are in
     λ i. record { name = name i; line = line i; declaration = declaration i; ins = ins i; outs = outs i; fair = fair i; rules = rules i; handlers = handlers i }
 
 node_once : (text : List ℕ) (s : Signatures) (d : Numbered) (decl : Decl) (a b : NodeC) → IsNodeOf text s d decl a → IsNodeOf text s d decl b → a ≡ b

@@ -27,8 +27,9 @@ use Rattle.hume_model.specs.BoxTyping.{port_types}
 use Rattle.hume_model.specs.TypeLimits.{is_type, IsWrittenType}
 use Rattle.hume_model.specs.PartLimits.{is_written_pattern, is_written_equation, is_written_rule, is_written_result}
 use Rattle.hume_model.specs.Limits.{IsSmallException}
+use Rattle.typed_core.specs.Erasing.{erased_result, erased_equation, erased_rule, erased_handler}
 use Rattle.check_typing.specs.Signatures.{Scope}
-use Rattle.check_typing.specs.Declarations.{InPlaces, CoredEquation, CoredRule, CoredHandler, WrittenEquation, WrittenRule, WrittenHandler, IsEquation, IsRule, IsHandler, carried_layer, carried_vars, signature_written}
+use Rattle.check_typing.specs.Declarations.{InPlaces, CoredEquation, CoredRule, CoredHandler, cores_alone, WrittenEquation, WrittenRule, WrittenHandler, IsEquation, IsRule, IsHandler, carried_layer, carried_vars, signature_written}
 use Rattle.check_typing.specs.declared.signatures.Signature.{Signature}
 use Rattle.check_typing.specs.declared.signatures.Signatures.{Signatures}
 use Rattle.check_typing.proofs.Maybe.{some-same}
@@ -60,19 +61,19 @@ module _ (s : Signatures) (have : HaveTypes s) (numbers : Counts) where
   equation_written : (signature : Signature) → AreTys s signature.params → IsTy s signature.gives
       → (count : ℕ) (equation : WrittenEquation) (c : CoredEquation)
       → IsEquation s signature equation c → EquationFits MAX_DEPTH equation → equation_miscounts numbers count equation ≡ false
-      → is_written_equation s.types c.0 ≡ true
+      → is_written_equation s.types (erased_equation c.0) ≡ true
   equation_written signature are gives count equation c h proper off =
       let flags = or_parts (not (length equation.1 == count)) (list_any (pattern_miscounts numbers) equation.1 || miscounts numbers equation.2) off in
       let body = or_parts (list_any (pattern_miscounts numbers) equation.1) (miscounts numbers equation.2) flags.1 in
       let bound = patterns_written s have.fields equation.1 signature.params (h.vars, h.pats) are h.binds in
-      ap (λ (c : CoredEquation). is_written_equation s.types c.0) h.is
+      ap (λ (c : CoredEquation). is_written_equation s.types (erased_equation c.0)) h.is
       ∙ both _ _ (each_alike _ bound.pats) ((expression_written s have numbers equation.2 MAX_DEPTH 1 proper.1 body.1).checked h.vars signature.gives h.body bound.vars gives h.typed)
 
   equations_written : (signature : Signature) → AreTys s signature.params → IsTy s signature.gives
       → (count : ℕ) (equations : List WrittenEquation) (cs : List CoredEquation)
       → InPlaces (IsEquation s signature) equations cs → Each (EquationFits MAX_DEPTH) equations
       → list_any (equation_miscounts numbers count) equations ≡ false
-      → list_all (is_written_equation s.types) (map (λ (c : CoredEquation). c.0) cs) ≡ true
+      → list_all (is_written_equation s.types) (map erased_equation (cores_alone cs)) ≡ true
   equations_written signature are gives count [] [] h proper off = refl
   equations_written signature are gives count [] (c ∷ cs) h proper off = absurd h
   equations_written signature are gives count (x ∷ xs) [] h proper off = absurd h
@@ -81,18 +82,18 @@ module _ (s : Signatures) (have : HaveTypes s) (numbers : Counts) where
       both _ _ (equation_written signature are gives count x c h.0 proper.0 flags.0) (equations_written signature are gives count xs cs h.1 proper.1 flags.1)
 
   rule_written : (ins outs : List Ty) → AreTys s ins → AreTys s outs → (m n : ℕ) (rule : WrittenRule) (c : CoredRule)
-      → IsRule s ins outs rule c → RuleFits MAX_DEPTH rule → rule_miscounts numbers m n rule ≡ false → is_written_rule s.types c.0 ≡ true
+      → IsRule s ins outs rule c → RuleFits MAX_DEPTH rule → rule_miscounts numbers m n rule ≡ false → is_written_rule s.types (erased_rule c.0) ≡ true
   rule_written ins outs ins_are outs_are m n rule c h proper off =
       let flags = or_parts (not (length rule.0 == m)) (list_any (pattern_miscounts numbers) rule.0 || result_miscounts numbers n rule.1) off in
       let result = or_parts (list_any (pattern_miscounts numbers) rule.0) (result_miscounts numbers n rule.1) flags.1 in
       let inner = or_parts (miscounts numbers rule.1) _ result.1 in
       let bound = positions_written s have.fields rule.0 ins (h.vars, h.pats) ins_are h.binds in
-      ap (λ (c : CoredRule). is_written_rule s.types c.0) h.is
+      ap (λ (c : CoredRule). is_written_rule s.types (erased_rule c.0)) h.is
       ∙ both _ _ bound.pats ((result_written s have numbers rule.1 MAX_DEPTH 1 proper.1 inner.0).result h.vars outs h.result bound.vars outs_are h.gives)
 
   rules_written : (ins outs : List Ty) → AreTys s ins → AreTys s outs → (m n : ℕ) (rules : List WrittenRule) (cs : List CoredRule)
       → InPlaces (IsRule s ins outs) rules cs → Each (RuleFits MAX_DEPTH) rules → list_any (rule_miscounts numbers m n) rules ≡ false
-      → list_all (is_written_rule s.types) (map (λ (c : CoredRule). c.0) cs) ≡ true
+      → list_all (is_written_rule s.types) (map erased_rule (cores_alone cs)) ≡ true
   rules_written ins outs ins_are outs_are m n [] [] h proper off = refl
   rules_written ins outs ins_are outs_are m n [] (c ∷ cs) h proper off = absurd h
   rules_written ins outs ins_are outs_are m n (x ∷ xs) [] h proper off = absurd h
@@ -116,17 +117,17 @@ module _ (s : Signatures) (have : HaveTypes s) (numbers : Counts) where
 
   handler_written : (outs : List Ty) → AreTys s outs → (n : ℕ) (handler : WrittenHandler) (c : CoredHandler)
       → IsHandler s outs handler c → HandlerFits MAX_DEPTH handler → handler_miscounts numbers n handler ≡ false
-      → is_written_result s.types c.0.result ≡ true
+      → is_written_result s.types (erased_result c.0.result) ≡ true
   handler_written outs outs_are n handler c h proper off =
       let flags = or_parts (is_other numbers.exceptions handler.0 (bound_values handler.1)) (result_miscounts numbers n handler.2) off in
       let inner = or_parts (miscounts numbers handler.2) _ flags.1 in
       let vars = vars_typed h.exn.carries (λ t e. carried_ty s have handler.0 h.number h.exn t h.known e) handler.1 h.vars h.bound h.binds in
-      ap (λ (c : CoredHandler). is_written_result s.types c.0.result) h.is
+      ap (λ (c : CoredHandler). is_written_result s.types (erased_result c.0.result)) h.is
       ∙ (result_written s have numbers handler.2 MAX_DEPTH 1 proper.1 inner.0).result h.vars outs h.result vars outs_are h.gives
 
   handlers_written : (outs : List Ty) → AreTys s outs → (n : ℕ) (handlers : List WrittenHandler) (cs : List CoredHandler)
       → InPlaces (IsHandler s outs) handlers cs → Each (HandlerFits MAX_DEPTH) handlers → list_any (handler_miscounts numbers n) handlers ≡ false
-      → list_all (λ (handler : HandC). is_written_result s.types handler.result) (map (λ (c : CoredHandler). c.0) cs) ≡ true
+      → list_all (λ (handler : HandC). is_written_result s.types handler.result) (map erased_handler (cores_alone cs)) ≡ true
   handlers_written outs outs_are n [] [] h proper off = refl
   handlers_written outs outs_are n [] (c ∷ cs) h proper off = absurd h
   handlers_written outs outs_are n (x ∷ xs) [] h proper off = absurd h

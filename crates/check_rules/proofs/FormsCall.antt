@@ -9,11 +9,12 @@ use Rattle.hume_ast.specs.declared.tree.TyExp.{TyExp}
 use Rattle.hume_model.specs.declared.core_tree.Op.{Op}
 use Rattle.hume_model.specs.declared.core_tree.Op.TheVariants as op
 use Rattle.hume_model.specs.declared.core_tree.PatC.{PatC}
-use Rattle.hume_model.specs.declared.core_tree.Expr.{Expr, roll-Expr, map-Expr, fold-roll-Expr, Word, Var, Con, Tuple, Vect, Prim, Index, Update, If, Case, Let, Call, Raise}
-use Rattle.hume_model.specs.declared.core_tree.Expr.TheOpen.{Expr-F}
-use Rattle.hume_model.specs.declared.core_tree.Expr.TheVariants.{rolls-Word, rolls-Var, rolls-Con, rolls-Tuple, rolls-Vect, rolls-Prim, rolls-Index, rolls-Update, rolls-If, rolls-Case, rolls-Let, rolls-Call, rolls-Raise}
+use Rattle.hume_model.specs.declared.core_tree.Expr.{Expr, roll-Expr, map-Expr, fold-roll-Expr}
+use Rattle.typed_core.specs.declared.typed_tree.TypedExpr.{TypedExpr, roll-TypedExpr, map-TypedExpr, fold-roll-TypedExpr, Word, Var, Con, Tuple, Vect, Prim, Convert, Index, Update, If, Case, Let, Call, Raise}
+use Rattle.typed_core.specs.declared.typed_tree.TypedExpr.TheOpen.{TypedExpr-F}
+use Rattle.typed_core.specs.declared.typed_tree.TypedExpr.TheVariants.{rolls-Word, rolls-Var, rolls-Con, rolls-Tuple, rolls-Vect, rolls-Prim, rolls-Convert, rolls-Index, rolls-Update, rolls-If, rolls-Case, rolls-Let, rolls-Call, rolls-Raise}
+use Rattle.typed_core.specs.Erasing.{erased, erased_layer}
 use Rattle.hume_model.specs.Calls.{all_true, calls_step, calls_below}
-use Rattle.hume_model.specs.Forms.{forms_of}
 use Rattle.check_typing.specs.Signatures.{Scope, fun_named}
 use Rattle.check_typing.specs.Patterns.{literal_word, word_of_truth}
 use Rattle.check_typing.specs.Cores.{Cored, CoredArm, cores, arm_cores, letter_core, truth_core, literal_core, variable_core, let_core, if_core, and_core, or_core, operation_core, neg_core, not_core, convert_core, index_core, update_core, case_core, raise_core, raise_with_core, call_core, con_core, tuple_core, vector_core}
@@ -26,29 +27,32 @@ both true b p q = q
 both false b p q = cc
 
 module _ (s : Signatures) (bound : ℕ) where
-  abbrev pub Calls : Expr → Type 0
-  Calls e = calls_below bound e ≡ true
+  abbrev pub Calls : TypedExpr → Type 0
+  Calls e = calls_below bound (erased e) ≡ true
 
-  abbrev pub AllCalls : List Expr → Type 0
-  AllCalls es = all_true (map (calls_below bound) es) ≡ true
+  abbrev pub AllCalls : List TypedExpr → Type 0
+  AllCalls es = all_true (map (calls_below bound) (map erased es)) ≡ true
 
-  rolled : (x : Expr-F Expr) (e : Expr) → roll-Expr x ≡ e → calls_step bound (map-Expr Expr Bool (calls_below bound) x) ≡ true → Calls e
-  rolled x e r h = ap (calls_below bound) (sym r) ∙ fold-roll-Expr Bool (calls_step bound) x ∙ h
+  rolled : (x : TypedExpr-F TypedExpr) (e : TypedExpr) → roll-TypedExpr x ≡ e
+      → calls_step bound (map-Expr Expr Bool (calls_below bound) (erased_layer (map-TypedExpr TypedExpr Expr erased x))) ≡ true → Calls e
+  rolled x e r h =
+      ap (λ e. calls_below bound (erased e)) (sym r) ∙ ap (calls_below bound) (fold-roll-TypedExpr Expr (λ y. roll-Expr (erased_layer y)) x)
+      ∙ fold-roll-Expr Bool (calls_step bound) (erased_layer (map-TypedExpr TypedExpr Expr erased x)) ∙ h
 
   calls_word : (w : ℕ) → Calls (Word w)
-  calls_word w = rolled (Expr-F.Word w) (Word w) (rolls-Word w) refl
+  calls_word w = rolled (TypedExpr-F.Word w) (Word w) (rolls-Word w) refl
 
   calls_var : (n : ℕ) → Calls (Var n)
-  calls_var n = rolled (Expr-F.Var n) (Var n) (rolls-Var n) refl
+  calls_var n = rolled (TypedExpr-F.Var n) (Var n) (rolls-Var n) refl
 
-  calls_if : (a b d : Expr) → Calls a → Calls b → Calls d → Calls (If a b d)
-  calls_if a b d p q r = rolled (Expr-F.If a b d) (If a b d) (rolls-If a b d) (both _ _ p (both _ _ q r))
+  calls_if : (a b d : TypedExpr) → Calls a → Calls b → Calls d → Calls (If a b d)
+  calls_if a b d p q r = rolled (TypedExpr-F.If a b d) (If a b d) (rolls-If a b d) (both _ _ p (both _ _ q r))
 
-  calls_let : (a b : Expr) → Calls a → Calls b → Calls (Let a b)
-  calls_let a b p q = rolled (Expr-F.Let a b) (Let a b) (rolls-Let a b) (both _ _ p q)
+  calls_let : (of : Ty) (a b : TypedExpr) → Calls a → Calls b → Calls (Let of a b)
+  calls_let of a b p q = rolled (TypedExpr-F.Let of a b) (Let of a b) (rolls-Let of a b) (both _ _ p q)
 
-  calls_prim : (o : Op) (t : Ty) (es : List Expr) → AllCalls es → Calls (Prim o t es)
-  calls_prim o t es p = rolled (Expr-F.Prim o t es) (Prim o t es) (rolls-Prim o t es) p
+  calls_prim : (o : Op) (t : Ty) (es : List TypedExpr) → AllCalls es → Calls (Prim o t es)
+  calls_prim o t es p = rolled (TypedExpr-F.Prim o t es) (Prim o t es) (rolls-Prim o t es) p
 
   -- what is said of a core that calls only functions below the bound
   abbrev pub AllCall : (Scope → Ty → Cored → Type 0) → Type 0
@@ -59,7 +63,7 @@ module _ (s : Signatures) (bound : ℕ) where
     pub checked : AllCall j.checked
 
   shown : (c d : Cored) → c ≡ d → Calls d.0 → Calls c.0
-  shown c d e p = ap (λ (r : Cored). calls_below bound r.0) e ∙ p
+  shown c d e p = ap (λ (r : Cored). calls_below bound (erased r.0)) e ∙ p
 
   goes_closed : (P : Scope → Ty → Cored → Type 0) → AllCall P → Goes (closed P)
   goes_closed P p = record { has = p; checked = p }
@@ -81,7 +85,7 @@ module _ (s : Signatures) (bound : ℕ) where
 
   binding : (name : List ℕ) (a : Judged) (Body : Scope → Ty → Cored → Type 0) → AllCall a.has → AllCall Body → AllCall (Binding name a Body)
   binding name a Body p q scope t c h =
-      shown c (let_core h.1 h.2) h.5 (calls_let h.1.0 h.2.0 (p scope h.0 h.1 h.3) (q (scope ++ (name, h.0) ∷ []) t h.2 h.4))
+      shown c (let_core h.0 h.1 h.2) h.5 (calls_let h.0 h.1.0 h.2.0 (p scope h.0 h.1 h.3) (q (scope ++ (name, h.0) ∷ []) t h.2 h.4))
 
   pub goes_let : (name : List ℕ) (a b : Judged) → Goes a → Goes b → Goes (let_typing name a b)
   goes_let name a b p q = record { has = binding name a b.has p.has q.has; checked = binding name a b.checked p.has q.checked }
@@ -116,8 +120,9 @@ module _ (s : Signatures) (bound : ℕ) where
         (calls_if h.0.0 h.1.0 (Word 0) (p.checked scope BoolTy h.0 h.3) (q.checked scope BoolTy h.1 h.4) (calls_word 0)))
 
     goes_index : Goes (index_typing a b)
-    goes_index = goes_closed _ (λ scope t c h. shown c (index_core h.0 h.2 h.3) h.7
-        (rolled (Expr-F.Index h.0 h.2.0 h.3.0) (Index h.0 h.2.0 h.3.0) (rolls-Index h.0 h.2.0 h.3.0) (both _ _ (p.has scope (VectorTy h.0 t) h.2 h.4) (q.has scope h.1 h.3 h.5))))
+    goes_index = goes_closed _ (λ scope t c h. shown c (index_core (VectorTy h.0 t) h.1 h.2 h.3) h.7
+        (rolled (TypedExpr-F.Index (VectorTy h.0 t) h.1 h.2.0 h.3.0) (Index (VectorTy h.0 t) h.1 h.2.0 h.3.0)
+        (rolls-Index (VectorTy h.0 t) h.1 h.2.0 h.3.0) (both _ _ (p.has scope (VectorTy h.0 t) h.2 h.4) (q.has scope h.1 h.3 h.5))))
 
     pub goes_binary : (sign : BinOp) → Goes (binary_typing sign a b)
     goes_binary sign.Or = goes_or
@@ -136,8 +141,8 @@ module _ (s : Signatures) (bound : ℕ) where
     goes_binary sign.At = goes_index
 
     updated : (Vector : Scope → Ty → Cored → Type 0) → AllCall Vector → AllCall (Updated Vector a b)
-    updated Vector v scope t c h = shown c (update_core h.0 h.3 h.4 h.5) h.11
-        (rolled (Expr-F.Update h.0 h.3.0 h.4.0 h.5.0) (Update h.0 h.3.0 h.4.0 h.5.0) (rolls-Update h.0 h.3.0 h.4.0 h.5.0)
+    updated Vector v scope t c h = shown c (update_core t h.2 h.3 h.4 h.5) h.11
+        (rolled (TypedExpr-F.Update t h.2 h.3.0 h.4.0 h.5.0) (Update t h.2 h.3.0 h.4.0 h.5.0) (rolls-Update t h.2 h.3.0 h.4.0 h.5.0)
         (both _ _ (v scope t h.3 h.7) (both _ _ (p.has scope h.2 h.4 h.8) (q.checked scope h.1 h.5 h.10))))
 
   pub goes_update : (a b d : Judged) → Goes a → Goes b → Goes d → Goes (update_typing a b d)
@@ -154,14 +159,15 @@ module _ (s : Signatures) (bound : ℕ) where
     goes_neg = record { has = negation a.has p.has; checked = negation a.checked p.checked }
 
     pub goes_cast : (type : TyExp) → Goes (cast_typing s a type)
-    goes_cast type = goes_closed _ (λ scope t c h. shown c (convert_core t h.1) h.6 (calls_prim op.Convert t (h.1.0 ∷ []) (both _ true (p.has scope h.0 h.1 h.4) refl)))
+    goes_cast type = goes_closed _ (λ scope t c h. shown c (convert_core h.0 t h.1) h.6
+        (rolled (TypedExpr-F.Convert h.0 t h.1.0) (Convert h.0 t h.1.0) (rolls-Convert h.0 t h.1.0) (both _ true (p.has scope h.0 h.1 h.4) refl)))
 
   pub goes_raise : (name : List ℕ) → Goes (raise_typing s name)
-  goes_raise name = goes_opened _ (λ scope t c h. shown c (raise_core h.0) h.2 (rolled (Expr-F.Raise h.0 None) (Raise h.0 None) (rolls-Raise h.0 None) refl))
+  goes_raise name = goes_opened _ (λ scope t c h. shown c (raise_core h.0) h.2 (rolled (TypedExpr-F.Raise h.0 None) (Raise h.0 None) (rolls-Raise h.0 None) refl))
 
   pub goes_raise_with : (name : List ℕ) (a : Judged) → Goes a → Goes (raise_with_typing s name a)
   goes_raise_with name a p = goes_opened _ (λ scope t c h. shown c (raise_with_core h.0 h.1) h.3
-      (rolled (Expr-F.Raise h.0 (Some h.1.0)) (Raise h.0 (Some h.1.0)) (rolls-Raise h.0 (Some h.1.0)) (p.checked scope h.2.1 h.1 h.2.4)))
+      (rolled (TypedExpr-F.Raise h.0 (Some h.1.0)) (Raise h.0 (Some h.1.0)) (rolls-Raise h.0 (Some h.1.0)) (p.checked scope h.2.1 h.1 h.2.4)))
 
   -- parts
   abbrev pub AllGo : List Judged → Type 0
@@ -199,16 +205,16 @@ module _ (s : Signatures) (bound : ℕ) where
 
   pub goes_app : (name : List ℕ) → IsBelow name → (j : Judged) (js : List Judged) → AllGo (j ∷ js) → Goes (app_typing s name (j ∷ js))
   goes_app name below j js g = goes_closed _ (λ scope t c h. shown c (call_core h.0 h.2) h.6
-      (rolled (Expr-F.Call h.0 (cores h.2)) (Call h.0 (cores h.2)) (rolls-Call h.0 (cores h.2))
+      (rolled (TypedExpr-F.Call h.0 (cores h.2)) (Call h.0 (cores h.2)) (rolls-Call h.0 (cores h.2))
       (both _ _ ((Decides-ltb h.0 bound).1 (below h.0 h.1 h.3)) (all_checked (j ∷ js) g scope h.1.params h.2 h.5))))
 
   module _ (js : List Judged) (g : AllGo js) where
     pub goes_con : (name : List ℕ) → Goes (con_typing s name js)
     goes_con name = goes_closed _ (λ scope t c h. shown c (con_core h.0.place h.1) h.5
-        (rolled (Expr-F.Con h.0.place (cores h.1)) (Con h.0.place (cores h.1)) (rolls-Con h.0.place (cores h.1)) (all_checked js g scope h.0.fields h.1 h.4)))
+        (rolled (TypedExpr-F.Con h.0.place (cores h.1)) (Con h.0.place (cores h.1)) (rolls-Con h.0.place (cores h.1)) (all_checked js g scope h.0.fields h.1 h.4)))
 
     tuple : (cs : List Cored) → AllCalls (cores cs) → Calls (Tuple (cores cs))
-    tuple cs p = rolled (Expr-F.Tuple (cores cs)) (Tuple (cores cs)) (rolls-Tuple (cores cs)) p
+    tuple cs p = rolled (TypedExpr-F.Tuple (cores cs)) (Tuple (cores cs)) (rolls-Tuple (cores cs)) p
 
     pub goes_tuple : Goes (tuple_typing js)
     goes_tuple = record {
@@ -218,7 +224,7 @@ module _ (s : Signatures) (bound : ℕ) where
 
     elements : (scope : Scope) (item t : Ty) (c : Cored) → Elements js scope item t c → Calls c.0
     elements scope item t c h = shown c (vector_core h.0) h.3
-        (rolled (Expr-F.Vect (cores h.0)) (Vect (cores h.0)) (rolls-Vect (cores h.0)) (each_checked js g scope item h.0 h.2))
+        (rolled (TypedExpr-F.Vect (cores h.0)) (Vect (cores h.0)) (rolls-Vect (cores h.0)) (each_checked js g scope item h.0 h.2))
 
     pub goes_vector : Goes (vector_typing js)
     goes_vector = record { has = λ scope t c h. elements scope h.0 t c h.2; checked = λ scope t c h. elements scope h.0 t c h.1 }
@@ -228,8 +234,8 @@ module _ (s : Signatures) (bound : ℕ) where
   AllArmsGo [] = Unit {0}
   AllArmsGo (arm ∷ arms) = Goes arm.body × AllArmsGo arms
 
-  abbrev answers : List (PatC × Expr) → List (PatC × Bool)
-  answers arms = map (λ arm. (arm.0, calls_below bound arm.1)) arms
+  abbrev answers : List (PatC × TypedExpr) → List (PatC × Bool)
+  answers arms = map (λ (arm : PatC × Expr). (arm.0, calls_below bound arm.1)) (map (λ (arm : PatC × TypedExpr). (arm.0, erased arm.1)) arms)
 
   arms_call : (scope : Scope) (u t : Ty) (arms : List Arm) → AllArmsGo arms → (cs : List CoredArm) → ArmsChecked s scope u arms t cs
       → list_all (λ (arm : PatC × Bool). arm.1) (answers (arm_cores cs)) ≡ true
@@ -240,8 +246,8 @@ module _ (s : Signatures) (bound : ℕ) where
 
   module _ (a : Judged) (p : Goes a) (arms : List Arm) (g : AllArmsGo arms) where
     alternatives : (scope : Scope) (u t : Ty) (c : Cored) → Alternatives s a arms scope u t c → Calls c.0
-    alternatives scope u t c h = shown c (case_core (forms_of u) h.0 h.1) h.4
-        (rolled (Expr-F.Case h.0.0 (forms_of u) (arm_cores h.1)) (Case h.0.0 (forms_of u) (arm_cores h.1)) (rolls-Case h.0.0 (forms_of u) (arm_cores h.1))
+    alternatives scope u t c h = shown c (case_core u h.0 h.1) h.4
+        (rolled (TypedExpr-F.Case u h.0.0 (arm_cores h.1)) (Case u h.0.0 (arm_cores h.1)) (rolls-Case u h.0.0 (arm_cores h.1))
         (both _ _ (p.has scope u h.0 h.2) (arms_call scope u t arms g h.1 h.3)))
 
     pub goes_case : Goes (case_typing s a arms)

@@ -19,13 +19,14 @@ use Rattle.hume_model.specs.declared.core_tree.ExnDef.{ExnDef}
 use Rattle.hume_model.specs.declared.core_tree.Op.{Op}
 use Rattle.hume_model.specs.declared.core_tree.Op.TheVariants as op
 use Rattle.hume_model.specs.declared.core_tree.PatC.{PatC}
-use Rattle.hume_model.specs.declared.core_tree.Expr.{Expr, roll-Expr, map-Expr, fold-roll-Expr, Word, Var, Con, Tuple, Vect, Prim, Index, Update, If, Case, Let, Call, Raise}
-use Rattle.hume_model.specs.declared.core_tree.Expr.TheOpen.{Expr-F}
-use Rattle.hume_model.specs.declared.core_tree.Expr.TheVariants.{rolls-Word, rolls-Var, rolls-Con, rolls-Tuple, rolls-Vect, rolls-Prim, rolls-Index, rolls-Update, rolls-If, rolls-Case, rolls-Let, rolls-Call, rolls-Raise}
+use Rattle.hume_model.specs.declared.core_tree.Expr.{Expr, roll-Expr, map-Expr, fold-roll-Expr}
+use Rattle.typed_core.specs.declared.typed_tree.TypedExpr.{TypedExpr, roll-TypedExpr, map-TypedExpr, fold-roll-TypedExpr, Word, Var, Con, Tuple, Vect, Prim, Convert, Index, Update, If, Case, Let, Call, Raise}
+use Rattle.typed_core.specs.declared.typed_tree.TypedExpr.TheOpen.{TypedExpr-F}
+use Rattle.typed_core.specs.declared.typed_tree.TypedExpr.TheVariants.{rolls-Word, rolls-Var, rolls-Con, rolls-Tuple, rolls-Vect, rolls-Prim, rolls-Convert, rolls-Index, rolls-Update, rolls-If, rolls-Case, rolls-Let, rolls-Call, rolls-Raise}
+use Rattle.typed_core.specs.Erasing.{count_of, erased, erased_layer}
 use Rattle.hume_model.specs.Calls.{all_true}
 use Rattle.hume_model.specs.TypeLimits.{is_between, type_step, is_type}
 use Rattle.hume_model.specs.PartLimits.{is_written_pattern, is_length, expression_step, is_written}
-use Rattle.hume_model.specs.Forms.{forms_of}
 use Rattle.hume_model.proofs.FormsThere.{forms_there}
 use Rattle.check_typing.specs.Signatures.{Scope, exn_named}
 use Rattle.check_typing.specs.WrittenTypes.{written}
@@ -35,6 +36,7 @@ use Rattle.check_typing.specs.Typing.{Judged, Arm, int32, closed, opened, AllHav
 use Rattle.check_typing.specs.declared.signatures.Signature.{Signature}
 use Rattle.check_typing.specs.declared.signatures.Signatures.{Signatures}
 use Rattle.check_typing.proofs.NamesFound.{first_stands, variable_stands, con_stands}
+use Rattle.typed_core.proofs.Erased.{count_is}
 use Rattle.check_rules.proofs.TypesWritten.{both}
 use Rattle.check_rules.proofs.PatternsWritten.{IsTy, AreTys, HasTypes, types_append, type_at, pattern_written}
 
@@ -76,26 +78,29 @@ module _ (s : Signatures) (have : HaveTypes s) where
   same_ty t u e h = ap (is_type types) e ∙ h
 
   -- cores
-  abbrev pub Written : Expr → Type 0
-  Written e = is_written types e ≡ true
+  abbrev pub Written : TypedExpr → Type 0
+  Written e = is_written types (erased e) ≡ true
 
-  abbrev pub AllWritten : List Expr → Type 0
-  AllWritten es = all_true (map (is_written types) es) ≡ true
+  abbrev pub AllWritten : List TypedExpr → Type 0
+  AllWritten es = all_true (map (is_written types) (map erased es)) ≡ true
 
-  rolled : (x : Expr-F Expr) (e : Expr) → roll-Expr x ≡ e → expression_step types (map-Expr Expr Bool (is_written types) x) ≡ true → Written e
-  rolled x e r h = ap (is_written types) (sym r) ∙ fold-roll-Expr Bool (expression_step types) x ∙ h
+  rolled : (x : TypedExpr-F TypedExpr) (e : TypedExpr) → roll-TypedExpr x ≡ e
+      → expression_step types (map-Expr Expr Bool (is_written types) (erased_layer (map-TypedExpr TypedExpr Expr erased x))) ≡ true → Written e
+  rolled x e r h =
+      ap (λ e. is_written types (erased e)) (sym r) ∙ ap (is_written types) (fold-roll-TypedExpr Expr (λ y. roll-Expr (erased_layer y)) x)
+      ∙ fold-roll-Expr Bool (expression_step types) (erased_layer (map-TypedExpr TypedExpr Expr erased x)) ∙ h
 
   shown : (c d : Cored) → c ≡ d → Written d.0 → Written c.0
-  shown c d e p = ap (λ (r : Cored). is_written types r.0) e ∙ p
+  shown c d e p = ap (λ (r : Cored). is_written types (erased r.0)) e ∙ p
 
   w_word : (w : ℕ) → Written (Word w)
-  w_word w = rolled (Expr-F.Word w) (Word w) (rolls-Word w) refl
+  w_word w = rolled (TypedExpr-F.Word w) (Word w) (rolls-Word w) refl
 
-  w_if : (a b d : Expr) → Written a → Written b → Written d → Written (If a b d)
-  w_if a b d p q r = rolled (Expr-F.If a b d) (If a b d) (rolls-If a b d) (both _ _ p (both _ _ q r))
+  w_if : (a b d : TypedExpr) → Written a → Written b → Written d → Written (If a b d)
+  w_if a b d p q r = rolled (TypedExpr-F.If a b d) (If a b d) (rolls-If a b d) (both _ _ p (both _ _ q r))
 
-  w_prim : (o : Op) (t : Ty) (es : List Expr) → IsTy s t → AllWritten es → Written (Prim o t es)
-  w_prim o t es is p = rolled (Expr-F.Prim o t es) (Prim o t es) (rolls-Prim o t es) (both _ _ is p)
+  w_prim : (o : Op) (t : Ty) (es : List TypedExpr) → IsTy s t → AllWritten es → Written (Prim o t es)
+  w_prim o t es is p = rolled (TypedExpr-F.Prim o t es) (Prim o t es) (rolls-Prim o t es) (both _ _ is p)
 
   -- what is said by itself comes with a type; what is checked against a type has a core as a source may write it
   abbrev pub Tells : (Scope → Ty → Cored → Type 0) → Type 0
@@ -134,19 +139,19 @@ module _ (s : Signatures) (have : HaveTypes s) where
   pub good_star : IsGood star_typing
   good_star = good_closed _ (λ scope t c vars h. absurd h)
 
-  w_let : (a b : Expr) → Written a → Written b → Written (Let a b)
-  w_let a b p q = rolled (Expr-F.Let a b) (Let a b) (rolls-Let a b) (both _ _ p q)
+  w_let : (of : Ty) (a b : TypedExpr) → Written a → Written b → Written (Let of a b)
+  w_let of a b p q = rolled (TypedExpr-F.Let of a b) (Let of a b) (rolls-Let of a b) (both _ _ p q)
 
   pub good_let : (name : List ℕ) (a b : Judged) → IsGood a → IsGood b → IsGood (let_typing name a b)
   good_let name a b p q = record {
     has = λ scope t c vars h.
         let first = p.has scope h.0 h.1 vars h.3 in
         let body = q.has (scope ++ (name, h.0) ∷ []) t h.2 (types_append s scope ((name, h.0) ∷ []) vars (first.0, tt)) h.4 in
-        (body.0, shown c (let_core h.1 h.2) h.5 (w_let h.1.0 h.2.0 first.1 body.1));
+        (body.0, shown c (let_core h.0 h.1 h.2) h.5 (w_let h.0 h.1.0 h.2.0 first.1 body.1));
     checked = λ scope t c vars is h.
         let first = p.has scope h.0 h.1 vars h.3 in
         let body = q.checked (scope ++ (name, h.0) ∷ []) t h.2 (types_append s scope ((name, h.0) ∷ []) vars (first.0, tt)) is h.4 in
-        shown c (let_core h.1 h.2) h.5 (w_let h.1.0 h.2.0 first.1 body);
+        shown c (let_core h.0 h.1 h.2) h.5 (w_let h.0 h.1.0 h.2.0 first.1 body);
   }
 
   module _ (a b : Judged) (p : IsGood a) (q : IsGood b) where
@@ -205,8 +210,10 @@ module _ (s : Signatures) (have : HaveTypes s) where
         let place = q.has scope h.1 h.3 vars h.5 in
         let is = vector_is h.0 t vector.0 in (
           is.1,
-          shown c (index_core h.0 h.2 h.3) h.7
-              (rolled (Expr-F.Index h.0 h.2.0 h.3.0) (Index h.0 h.2.0 h.3.0) (rolls-Index h.0 h.2.0 h.3.0) (both _ _ is.0 (both _ _ vector.1 place.1))),
+          shown c (index_core (VectorTy h.0 t) h.1 h.2 h.3) h.7
+              (rolled (TypedExpr-F.Index (VectorTy h.0 t) h.1 h.2.0 h.3.0) (Index (VectorTy h.0 t) h.1 h.2.0 h.3.0)
+              (rolls-Index (VectorTy h.0 t) h.1 h.2.0 h.3.0)
+              (both _ _ (subst (λ n. is_length n ≡ true) (sym (count_is h.0 t)) is.0) (both _ _ vector.1 place.1))),
         ))
 
     pub good_binary : (sign : BinOp) → IsGood (binary_typing sign a b)
@@ -229,9 +236,10 @@ module _ (s : Signatures) (have : HaveTypes s) where
         → ((vector : Cored) → Vector scope t vector → Written vector.0) → Updated Vector a b scope t c → Written c.0
     updated Vector scope t c vars is v h =
         let parts = vector_is h.0 h.1 (same_ty (VectorTy h.0 h.1) t (sym h.6) is) in
-        shown c (update_core h.0 h.3 h.4 h.5) h.11
-        (rolled (Expr-F.Update h.0 h.3.0 h.4.0 h.5.0) (Update h.0 h.3.0 h.4.0 h.5.0) (rolls-Update h.0 h.3.0 h.4.0 h.5.0)
-        (both _ _ parts.0 (both _ _ (v h.3 h.7) (both _ _ (p.has scope h.2 h.4 vars h.8).1 (q.checked scope h.1 h.5 vars parts.1 h.10)))))
+        shown c (update_core t h.2 h.3 h.4 h.5) h.11
+        (rolled (TypedExpr-F.Update t h.2 h.3.0 h.4.0 h.5.0) (Update t h.2 h.3.0 h.4.0 h.5.0) (rolls-Update t h.2 h.3.0 h.4.0 h.5.0)
+        (both _ _ (subst (λ n. is_length n ≡ true) (sym (ap count_of h.6 ∙ count_is h.0 h.1)) parts.0)
+        (both _ _ (v h.3 h.7) (both _ _ (p.has scope h.2 h.4 vars h.8).1 (q.checked scope h.1 h.5 vars parts.1 h.10)))))
 
   pub good_update : (a b d : Judged) → IsGood a → IsGood b → IsGood d → IsGood (update_typing a b d)
   good_update a b d p q r = record {
@@ -257,10 +265,15 @@ module _ (s : Signatures) (have : HaveTypes s) where
 
     pub good_cast : (type : TyExp) → ((t : Ty) → written types type ≡ Some t → IsTy s t) → IsGood (cast_typing s a type)
     good_cast type is_type = good_closed _ (λ scope t c vars h.
-        let is = is_type t h.2 in (is, shown c (convert_core t h.1) h.6 (w_prim op.Convert t (h.1.0 ∷ []) is (both _ true (p.has scope h.0 h.1 vars h.4).1 refl))))
+        let is = is_type t h.2 in (
+          is,
+          shown c (convert_core h.0 t h.1) h.6
+              (rolled (TypedExpr-F.Convert h.0 t h.1.0) (Convert h.0 t h.1.0) (rolls-Convert h.0 t h.1.0)
+              (both _ _ is (both _ true (p.has scope h.0 h.1 vars h.4).1 refl))),
+        ))
 
   pub good_raise : (name : List ℕ) → IsGood (raise_typing s name)
-  good_raise name = good_opened _ (λ scope t c vars is h. shown c (raise_core h.0) h.2 (rolled (Expr-F.Raise h.0 None) (Raise h.0 None) (rolls-Raise h.0 None) refl))
+  good_raise name = good_opened _ (λ scope t c vars is h. shown c (raise_core h.0) h.2 (rolled (TypedExpr-F.Raise h.0 None) (Raise h.0 None) (rolls-Raise h.0 None) refl))
 
   -- what an exception carries is of a type
   pub carried_ty : (name : List ℕ) (number : ℕ) (exn : ExnDef) (t : Ty) → exn_named name s ≡ Some (number, exn) → exn.carries ≡ Some t → IsTy s t
@@ -268,7 +281,7 @@ module _ (s : Signatures) (have : HaveTypes s) where
 
   pub good_raise_with : (name : List ℕ) (a : Judged) → IsGood a → IsGood (raise_with_typing s name a)
   good_raise_with name a p = good_opened _ (λ scope t c vars is h. shown c (raise_with_core h.0 h.1) h.3
-      (rolled (Expr-F.Raise h.0 (Some h.1.0)) (Raise h.0 (Some h.1.0)) (rolls-Raise h.0 (Some h.1.0))
+      (rolled (TypedExpr-F.Raise h.0 (Some h.1.0)) (Raise h.0 (Some h.1.0)) (rolls-Raise h.0 (Some h.1.0))
       (p.checked scope h.2.1 h.1 vars (carried_ty name h.0 h.2.0 h.2.1 h.2.2 h.2.3) h.2.4)))
 
   -- parts
@@ -317,14 +330,14 @@ module _ (s : Signatures) (have : HaveTypes s) where
 
   pub good_variable : (name : List ℕ) → IsGood (app_typing s name [])
   good_variable name = good_closed _ (λ scope t c vars h.
-      (type_at s scope vars h.0 t (variable_stands name scope h.0 t h.1), shown c (variable_core h.0) h.2 (rolled (Expr-F.Var h.0) (Var h.0) (rolls-Var h.0) refl)))
+      (type_at s scope vars h.0 t (variable_stands name scope h.0 t h.1), shown c (variable_core h.0) h.2 (rolled (TypedExpr-F.Var h.0) (Var h.0) (rolls-Var h.0) refl)))
 
   pub good_app : (name : List ℕ) (j : Judged) (js : List Judged) → AllGood (j ∷ js) → IsGood (app_typing s name (j ∷ js))
   good_app name j js g = good_closed _ (λ scope t c vars h.
       let there = first_stands (λ (function : Signature). function.name) name s.funs h.0 h.1 h.3 in (
         same_ty t h.1.gives h.4 (have.gives h.0 h.1 there),
         shown c (call_core h.0 h.2) h.6
-            (rolled (Expr-F.Call h.0 (cores h.2)) (Call h.0 (cores h.2)) (rolls-Call h.0 (cores h.2))
+            (rolled (TypedExpr-F.Call h.0 (cores h.2)) (Call h.0 (cores h.2)) (rolls-Call h.0 (cores h.2))
             (all_checked (j ∷ js) g scope h.1.params h.2 vars (have.params h.0 h.1 there) h.5).each),
       ))
 
@@ -337,14 +350,14 @@ module _ (s : Signatures) (have : HaveTypes s) where
         is_ty (Ty-F.Named h.0.sum) (NamedTy h.0.sum) (ty.rolls-Named h.0.sum) ((Decides-ltb h.0.sum (length types.sums)).1 (slice_get_within types.sums h.0.sum is.sum is.there)) in (
           same_ty t (NamedTy h.0.sum) h.3 named,
           shown c (con_core h.0.place h.1) h.5
-              (rolled (Expr-F.Con h.0.place (cores h.1)) (Con h.0.place (cores h.1)) (rolls-Con h.0.place (cores h.1)) (all_checked js g scope h.0.fields h.1 vars fields h.4).each),
+              (rolled (TypedExpr-F.Con h.0.place (cores h.1)) (Con h.0.place (cores h.1)) (rolls-Con h.0.place (cores h.1)) (all_checked js g scope h.0.fields h.1 vars fields h.4).each),
         ))
 
-    core_count : (cs : List Cored) → length (map (is_written types) (cores cs)) ≡ length cs
-    core_count cs = length-map (cores cs) (is_written types) ∙ length-map cs (λ (c : Cored). c.0)
+    core_count : (cs : List Cored) → length (map (is_written types) (map erased (cores cs))) ≡ length cs
+    core_count cs = length-map (map erased (cores cs)) (is_written types) ∙ length-map (cores cs) erased ∙ length-map cs (λ (c : Cored). c.0)
 
     tuple : (cs : List Cored) → is_between 2 MAX_PARTS (length cs) ≡ true → AllWritten (cores cs) → Written (Tuple (cores cs))
-    tuple cs few p = rolled (Expr-F.Tuple (cores cs)) (Tuple (cores cs)) (rolls-Tuple (cores cs))
+    tuple cs few p = rolled (TypedExpr-F.Tuple (cores cs)) (Tuple (cores cs)) (rolls-Tuple (cores cs))
         (both _ _ (subst (λ n. is_between 2 MAX_PARTS n ≡ true) (sym (core_count cs)) few) p)
 
     pub good_tuple : is_between 2 MAX_PARTS (length js) ≡ true → IsGood (tuple_typing js)
@@ -368,7 +381,7 @@ module _ (s : Signatures) (have : HaveTypes s) where
     elements scope item t c vars is few h =
         let r = each_checked js g scope item h.0 vars is h.2 in
         shown c (vector_core h.0) h.3
-        (rolled (Expr-F.Vect (cores h.0)) (Vect (cores h.0)) (rolls-Vect (cores h.0))
+        (rolled (TypedExpr-F.Vect (cores h.0)) (Vect (cores h.0)) (rolls-Vect (cores h.0))
         (both _ _ (subst (λ n. is_length n ≡ true) (sym (core_count h.0 ∙ r.long)) few) r.each))
 
     pub good_vector : is_length (length js) ≡ true → IsGood (vector_typing js)
@@ -395,8 +408,8 @@ module _ (s : Signatures) (have : HaveTypes s) where
       either arm.body.is_open (FirstArmType s scope u arms t) (ArmHas s scope u arm t) h (first_arm scope u t arms g.1 vars is) (λ r.
       let bound = pattern_written s have.fields arm.pat u (r.0, r.1) is r.3 in (g.0.has (scope ++ r.0) t r.2 (types_append s scope r.0 vars bound.vars) r.4).0)
 
-  abbrev answers : List (PatC × Expr) → List (PatC × Bool)
-  answers arms = map (λ arm. (arm.0, is_written types arm.1)) arms
+  abbrev answers : List (PatC × TypedExpr) → List (PatC × Bool)
+  answers arms = map (λ (arm : PatC × Expr). (arm.0, is_written types arm.1)) (map (λ (arm : PatC × TypedExpr). (arm.0, erased arm.1)) arms)
 
   record AreArms (count : ℕ) (cs : List CoredArm) : Type 0 where
     each : list_all (λ (arm : PatC × Bool). is_written_pattern arm.0 && arm.1) (answers (arm_cores cs)) ≡ true
@@ -418,8 +431,8 @@ module _ (s : Signatures) (have : HaveTypes s) where
     alternatives scope u t c vars is h =
         let part = p.has scope u h.0 vars h.2 in
         let r = arms_written scope u t arms g vars part.0 is h.1 h.3 in
-        shown c (case_core (forms_of u) h.0 h.1) h.4
-        (rolled (Expr-F.Case h.0.0 (forms_of u) (arm_cores h.1)) (Case h.0.0 (forms_of u) (arm_cores h.1)) (rolls-Case h.0.0 (forms_of u) (arm_cores h.1))
+        shown c (case_core u h.0 h.1) h.4
+        (rolled (TypedExpr-F.Case u h.0.0 (arm_cores h.1)) (Case u h.0.0 (arm_cores h.1)) (rolls-Case u h.0.0 (arm_cores h.1))
         (both _ _ (forms_there s.types u part.0) (both _ _ part.1 (both _ _ (le-leb 1 _ (subst (λ n. 1 ≤ n) (sym r.long) some)) r.each))))
 
     pub good_case : IsGood (case_typing s a arms)

@@ -15,10 +15,11 @@ use Rattle.check_names.specs.Mentions.{Mention, ByScope, all_in, alternatives_in
 use Rattle.check_names.specs.Leading.{names_of_kind}
 use Rattle.hume_model.specs.declared.core_tree.Core.{Core}
 use Rattle.hume_model.specs.Calls.{calls_below, equation_calls, CallsGoDown}
+use Rattle.typed_core.specs.Erasing.{erased, erased_equation}
 use Rattle.check_typing.specs.Partial.{given}
 use Rattle.check_typing.specs.WrittenTypes.{all_written}
 use Rattle.check_typing.specs.Typing.{arm_with, typing, typing_step}
-use Rattle.check_typing.specs.Declarations.{InPlaces, parted, signature_written, WrittenEquation, CoredEquation, IsEquation}
+use Rattle.check_typing.specs.Declarations.{InPlaces, parted, signature_written, WrittenEquation, CoredEquation, cores_alone, IsEquation}
 use Rattle.check_typing.specs.declared.signatures.Signature.{Signature}
 use Rattle.check_typing.specs.declared.signatures.Signatures.{Signatures}
 use Rattle.check_typing.proofs.Maybe.{some-same, given-inv, given-at}
@@ -125,15 +126,15 @@ module _ (s : Signatures) (bound : ℕ) where
 
   pub equations_call : (signature : Signature) (equations : List WrittenEquation) (cs : List CoredEquation) → InPlaces (IsEquation s signature) equations cs
       → Below (joined (map (λ (equation : WrittenEquation). clause_mentions equation.1 equation.2) equations))
-      → list_all (equation_calls bound) (map (λ (c : CoredEquation). c.0) cs) ≡ true
+      → list_all (equation_calls bound) (map erased_equation (cores_alone cs)) ≡ true
   equations_call signature [] [] h below = refl
   equations_call signature [] (c ∷ cs) h below = absurd h
   equations_call signature (x ∷ xs) [] h below = absurd h
   equations_call signature (x ∷ xs) (c ∷ cs) h below =
       let rest = joined (map (λ (equation : WrittenEquation). clause_mentions equation.1 equation.2) xs) in
       let mine = below_right (patterns_mentions x.1) (mentions x.2 (bound_by x.1)) (below_left (clause_mentions x.1 x.2) rest below) in
-      let body : calls_below bound h.0.body.0 ≡ true = (goes x.2 (bound_by x.1) mine).checked h.0.vars signature.gives h.0.body h.0.typed in
-      let first : equation_calls bound c.0 ≡ true = ap (λ (c : CoredEquation). equation_calls bound c.0) h.0.is ∙ body in
+      let body : calls_below bound (erased h.0.body.0) ≡ true = (goes x.2 (bound_by x.1) mine).checked h.0.vars signature.gives h.0.body h.0.typed in
+      let first : equation_calls bound (erased_equation c.0) ≡ true = ap (λ (c : CoredEquation). equation_calls bound (erased_equation c.0)) h.0.is ∙ body in
       let others = equations_call signature xs cs h.1 (below_right (clause_mentions x.1 x.2) rest below) in
       rw (first, others) refl
 

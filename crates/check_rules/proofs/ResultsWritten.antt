@@ -14,14 +14,16 @@ use Rattle.check_counts.specs.Counted.{is_other}
 use Rattle.check_names.specs.Twice.{any_true}
 use Rattle.check_counts.specs.Miscounts.{has_many, pattern_miscounts, arm_miscounts, expression_step, miscounts}
 use Rattle.hume_model.specs.declared.core_tree.PatC.{PatC}
-use Rattle.hume_model.specs.declared.core_tree.Expr.{Expr}
-use Rattle.hume_model.specs.declared.core_tree.Res.{Res, roll-Res, map-Res, fold-roll-Res, Outs, If, Case, Let, Raise}
-use Rattle.hume_model.specs.declared.core_tree.Res.TheOpen.{Res-F}
-use Rattle.hume_model.specs.declared.core_tree.Res.TheVariants.{rolls-Outs, rolls-If, rolls-Case, rolls-Let, rolls-Raise}
+use Rattle.hume_model.specs.declared.core_tree.Res.{Res, roll-Res, map-Res, fold-roll-Res}
+use Rattle.typed_core.specs.declared.typed_tree.TypedExpr.{TypedExpr}
+use Rattle.typed_core.specs.declared.typed_tree.TypedResult.{TypedResult, roll-TypedResult, map-TypedResult, fold-roll-TypedResult, Outs, If, Case, Let, Raise}
+use Rattle.typed_core.specs.declared.typed_tree.TypedResult.TheOpen.{TypedResult-F}
+use Rattle.typed_core.specs.declared.typed_tree.TypedResult.TheVariants.{rolls-Outs, rolls-If, rolls-Case, rolls-Let, rolls-Raise}
+use Rattle.typed_core.specs.Erasing.{erased, erased_result, erased_result_layer}
+use Rattle.std.specs.Option.{option_map}
 use Rattle.hume_model.specs.TypeLimits.{is_type}
 use Rattle.hume_model.specs.PartLimits.{is_written_pattern, is_written, is_written_if_there, is_written_result}
 use Rattle.hume_model.specs.PartLimits as model
-use Rattle.hume_model.specs.Forms.{forms_of}
 use Rattle.hume_model.proofs.FormsThere.{forms_there}
 use Rattle.check_typing.specs.Signatures.{Scope}
 use Rattle.check_typing.specs.Typing.{Judged, typing}
@@ -35,27 +37,38 @@ use Rattle.check_rules.proofs.FormsWritten.{HaveTypes, bool_ty, carried_ty, IsGo
 use Rattle.check_rules.proofs.ExpressionsWritten.{counted_arms, expression_written}
 
 module _ (s : Signatures) (have : HaveTypes s) where
-  abbrev pub Written : Res → Type 0
-  Written r = is_written_result s.types r ≡ true
+  abbrev pub Written : TypedResult → Type 0
+  Written r = is_written_result s.types (erased_result r) ≡ true
 
-  rolled : (x : Res-F Res) (r : Res) → roll-Res x ≡ r → model.result_step s.types (map-Res Res Bool (is_written_result s.types) x) ≡ true → Written r
-  rolled x r e h = ap (is_written_result s.types) (sym e) ∙ fold-roll-Res Bool (model.result_step s.types) x ∙ h
+  rolled : (x : TypedResult-F TypedResult) (r : TypedResult) → roll-TypedResult x ≡ r
+      → model.result_step s.types (map-Res Res Bool (is_written_result s.types) (erased_result_layer (map-TypedResult TypedResult Res erased_result x))) ≡ true
+      → Written r
+  rolled x r e h =
+      ap (λ r. is_written_result s.types (erased_result r)) (sym e)
+      ∙ ap (is_written_result s.types) (fold-roll-TypedResult Res (λ y. roll-Res (erased_result_layer y)) x)
+      ∙ fold-roll-Res Bool (model.result_step s.types) (erased_result_layer (map-TypedResult TypedResult Res erased_result x)) ∙ h
 
   shown : (c d : CoredRes) → c ≡ d → Written d.0 → Written c.0
-  shown c d e p = ap (λ (r : CoredRes). is_written_result s.types r.0) e ∙ p
+  shown c d e p = ap (λ (r : CoredRes). is_written_result s.types (erased_result r.0)) e ∙ p
 
-  abbrev outs_of : List CoredOut → List (Option Expr)
+  abbrev outs_of : List CoredOut → List (Option TypedExpr)
   outs_of outs = map (λ (out : CoredOut). out.0) outs
+
+  abbrev is_written_out : Option TypedExpr → Bool
+  is_written_out out = is_written_if_there s.types (option_map erased out)
+
+  abbrev are_written : List CoredOut → Bool
+  are_written outs = list_all (is_written_if_there s.types) (map (option_map erased) (outs_of outs))
 
   -- what results are, what one output is, and what several are
   abbrev Gives : (Scope → List Ty → CoredRes → Type 0) → Type 0
   Gives R = (scope : Scope) (tys : List Ty) (c : CoredRes) → HasTypes s scope → AreTys s tys → R scope tys c → Written c.0
 
   abbrev PutsOut : (Scope → Ty → CoredOut → Type 0) → Type 0
-  PutsOut P = (scope : Scope) (t : Ty) (out : CoredOut) → HasTypes s scope → IsTy s t → P scope t out → is_written_if_there s.types out.0 ≡ true
+  PutsOut P = (scope : Scope) (t : Ty) (out : CoredOut) → HasTypes s scope → IsTy s t → P scope t out → is_written_out out.0 ≡ true
 
   abbrev PutsAll : (Scope → List Ty → List CoredOut → Type 0) → Type 0
-  PutsAll Q = (scope : Scope) (tys : List Ty) (outs : List CoredOut) → HasTypes s scope → AreTys s tys → Q scope tys outs → list_all (is_written_if_there s.types) (outs_of outs) ≡ true
+  PutsAll Q = (scope : Scope) (tys : List Ty) (outs : List CoredOut) → HasTypes s scope → AreTys s tys → Q scope tys outs → are_written outs ≡ true
 
   pub record IsGoodResult (r : AsResult) : Type 0 where
     pub result : Gives r.result
@@ -67,13 +80,13 @@ module _ (s : Signatures) (have : HaveTypes s) where
     outs_written scope [] outs vars are h = q scope [] outs vars are h
     outs_written scope (t ∷ []) outs vars are h =
         let is = (and_parts (is_type s.types t) true are).0 in
-        ap (λ outs. list_all (is_written_if_there s.types) (outs_of outs)) h.2 ∙ both _ true (p scope t h.0 vars is h.1) refl
+        ap are_written h.2 ∙ both _ true (p scope t h.0 vars is h.1) refl
     outs_written scope (t ∷ u ∷ ts) outs vars are h = q scope (t ∷ u ∷ ts) outs vars are h
 
     good_leaf : IsGoodResult (leaf P Q)
     good_leaf = record {
       result = λ scope tys c vars are h. shown c (outs_core h.0) h.2
-          (rolled (Res-F.Outs (outs_of h.0)) (Outs (outs_of h.0)) (rolls-Outs (outs_of h.0)) (outs_written scope tys h.0 vars are h.1));
+          (rolled (TypedResult-F.Outs (outs_of h.0)) (Outs (outs_of h.0)) (rolls-Outs (outs_of h.0)) (outs_written scope tys h.0 vars are h.1));
       output = p;
       outputs = q;
     }
@@ -87,7 +100,7 @@ module _ (s : Signatures) (have : HaveTypes s) where
 
   all_outs : (rs : List AsResult) → AllGoodResults rs → (scope : Scope) (ts : List Ty) (outs : List CoredOut) → HasTypes s scope → AreTys s ts
       → AllOutputs scope rs ts outs
-      → list_all (is_written_if_there s.types) (outs_of outs) ≡ true
+      → are_written outs ≡ true
   all_outs [] g scope [] [] vars are h = refl
   all_outs [] g scope (t ∷ ts) outs vars are h = absurd h
   all_outs [] g scope [] (out ∷ outs) vars are h = absurd h
@@ -101,8 +114,9 @@ module _ (s : Signatures) (have : HaveTypes s) where
   AllGoodArms [] = Unit {0}
   AllGoodArms (arm ∷ arms) = IsGoodResult arm.body × AllGoodArms arms
 
-  abbrev arm_answers : List (PatC × Res) → List (PatC × Bool)
-  arm_answers arms = map (λ arm. (arm.0, is_written_result s.types arm.1)) arms
+  abbrev arm_answers : List (PatC × TypedResult) → List (PatC × Bool)
+  arm_answers arms =
+      map (λ (arm : PatC × Res). (arm.0, is_written_result s.types arm.1)) (map (λ (arm : PatC × TypedResult). (arm.0, erased_result arm.1)) arms)
 
   record AreResultArms (count : ℕ) (cs : List CoredResArm) : Type 0 where
     each : list_all (λ (arm : PatC × Bool). is_written_pattern arm.0 && arm.1) (arm_answers (result_arm_cores cs)) ≡ true
@@ -122,7 +136,7 @@ module _ (s : Signatures) (have : HaveTypes s) where
 
   module _ (j : Judged) (w : IsGood s have j) where
     value_out : PutsOut (Valued j)
-    value_out scope t out vars is h = ap (λ (out : CoredOut). is_written_if_there s.types out.0) h.2 ∙ w.checked scope t h.0 vars is h.1
+    value_out scope t out vars is h = ap (λ (out : CoredOut). is_written_out out.0) h.2 ∙ w.checked scope t h.0 vars is h.1
 
     good_plain : IsGoodResult (plain_result j)
     good_plain = good_leaf (Valued j) NoOutputs value_out no_outs
@@ -135,35 +149,35 @@ module _ (s : Signatures) (have : HaveTypes s) where
 
     good_raise : (name : List ℕ) → IsGoodResult (raise_result s name j)
     good_raise name = good_followed _ (λ scope tys c vars are h. shown c (raise_result_core h.0) h.2
-        (rolled (Res-F.Raise h.0 None) (Raise h.0 None) (rolls-Raise h.0 None) refl))
+        (rolled (TypedResult-F.Raise h.0 None) (Raise h.0 None) (rolls-Raise h.0 None) refl))
 
     module _ (a : Judged) (p : IsGood s have a) where
       good_raise_with : (name : List ℕ) → IsGoodResult (raise_with_result s name j a)
       good_raise_with name = good_followed _ (λ scope tys c vars are h. shown c (raise_with_result_core h.0 h.1) h.3
-          (rolled (Res-F.Raise h.0 (Some h.1.0)) (Raise h.0 (Some h.1.0)) (rolls-Raise h.0 (Some h.1.0))
+          (rolled (TypedResult-F.Raise h.0 (Some h.1.0)) (Raise h.0 (Some h.1.0)) (rolls-Raise h.0 (Some h.1.0))
           (p.checked scope h.2.1 h.1 vars (carried_ty s have name h.0 h.2.0 h.2.1 h.2.2 h.2.3) h.2.4)))
 
       good_let : (name : List ℕ) (r : AsResult) → IsGoodResult r → IsGoodResult (let_result j name a r)
       good_let name r q = good_followed _ (λ scope tys c vars are h.
           let first = p.has scope h.0 h.1 vars h.3 in
-          shown c (let_result_core h.1 h.2) h.5 (rolled (Res-F.Let h.1.0 h.2.0) (Let h.1.0 h.2.0) (rolls-Let h.1.0 h.2.0)
+          shown c (let_result_core h.0 h.1 h.2) h.5 (rolled (TypedResult-F.Let h.0 h.1.0 h.2.0) (Let h.0 h.1.0 h.2.0) (rolls-Let h.0 h.1.0 h.2.0)
           (both _ _ first.1 (q.result (scope ++ (name, h.0) ∷ []) tys h.2 (types_append s scope ((name, h.0) ∷ []) vars (first.0, tt)) are h.4))))
 
       good_if : (r q : AsResult) → IsGoodResult r → IsGoodResult q → IsGoodResult (if_result j a r q)
       good_if r q rs qs = good_followed _ (λ scope tys c vars are h. shown c (if_result_core h.0 h.1 h.2) h.6
-          (rolled (Res-F.If h.0.0 h.1.0 h.2.0) (If h.0.0 h.1.0 h.2.0) (rolls-If h.0.0 h.1.0 h.2.0)
+          (rolled (TypedResult-F.If h.0.0 h.1.0 h.2.0) (If h.0.0 h.1.0 h.2.0) (rolls-If h.0.0 h.1.0 h.2.0)
           (both _ _ (p.checked scope BoolTy h.0 vars (bool_ty s have) h.3) (both _ _ (rs.result scope tys h.1 vars are h.4) (qs.result scope tys h.2 vars are h.5)))))
 
       good_case : (arms : List ResultArm) → AllGoodArms arms → 1 ≤ length arms → IsGoodResult (case_result s j a arms)
       good_case arms g some = good_followed _ (λ scope tys c vars are h.
           let part = p.has scope h.0 h.1 vars h.3 in
           let r = arms_written scope h.0 tys arms g vars part.0 are h.2 h.4 in
-          shown c (case_result_core (forms_of h.0) h.1 h.2) h.5
-          (rolled (Res-F.Case h.1.0 (forms_of h.0) (result_arm_cores h.2)) (Case h.1.0 (forms_of h.0) (result_arm_cores h.2)) (rolls-Case h.1.0 (forms_of h.0) (result_arm_cores h.2))
+          shown c (case_result_core h.0 h.1 h.2) h.5
+          (rolled (TypedResult-F.Case h.0 h.1.0 (result_arm_cores h.2)) (Case h.0 h.1.0 (result_arm_cores h.2)) (rolls-Case h.0 h.1.0 (result_arm_cores h.2))
           (both _ _ (forms_there s.types h.0 part.0) (both _ _ part.1 (both _ _ (le-leb 1 _ (subst (λ n. 1 ≤ n) (sym r.long) some)) r.each)))))
 
   good_star : IsGoodResult star_result
-  good_star = good_leaf _ NoOutputs (λ scope t out vars is h. ap (λ (out : CoredOut). is_written_if_there s.types out.0) h) no_outs
+  good_star = good_leaf _ NoOutputs (λ scope t out vars is h. ap (λ (out : CoredOut). is_written_out out.0) h) no_outs
 
   module _ (counts : Counts) where
     abbrev Whole : Exp → Type 0

@@ -19,7 +19,8 @@ use Rattle.hume_model.specs.declared.core_tree.NodeC.TheVariants.{Rules}
 use Rattle.hume_model.specs.declared.core_tree.Core.{Core}
 use Rattle.hume_model.specs.PartLimits.{is_written_rule, is_written_result}
 use Rattle.hume_model.specs.Limits.{IsName, IsSmallBoxPort, IsSmallBox, IsSmallNode}
-use Rattle.check_typing.specs.Declarations.{CoredRule, IsRule}
+use Rattle.typed_core.specs.Erasing.{erased_rule}
+use Rattle.check_typing.specs.Declarations.{CoredRule, cores_alone, IsRule}
 use Rattle.check_rules.specs.Declared.{Numbered, nodes_in}
 use Rattle.check_rules.specs.CheckRules.{IsFine}
 use Rattle.check_rules.specs.OfTokens.{IsOfTokens, HasNames}
@@ -55,7 +56,8 @@ module _ (text : List ℕ) (program : Program) (core : Core) (fine : IsFine prog
       let cores : length box.rules ≡ length box.is.rule_cores =
       same_long (IsRule p.signatures box.is.typed.ins box.is.typed.outs) box.rules box.is.rule_cores box.is.typed.rules_have in
       let rules : length box.rules ≡ length b.rules =
-      cores ∙ sym (ap (λ (rules : List RuleC). length rules) box.is.rules_are ∙ length-map box.is.rule_cores (λ (c : CoredRule). c.0)) in
+      cores ∙ sym (ap (λ (rules : List RuleC). length rules) box.is.rules_are ∙ length-map (cores_alone box.is.rule_cores) erased_rule
+      ∙ length-map box.is.rule_cores (λ (c : CoredRule). c.0)) in
       record {
         name = subst IsName (sym box.is.name) names.0;
         some_inputs = subst (λ n. 1 ≤ n) ins proper.0.0;

@@ -28,10 +28,11 @@ use Rattle.hume_model.specs.OwnExceptions.{own_exceptions}
 use Rattle.hume_model.specs.TypeLimits.{IsWrittenType}
 use Rattle.hume_model.specs.PartLimits.{is_written_equation}
 use Rattle.hume_model.specs.Limits.{IsName, IsSmallConstructor, IsSmallData, IsSmallException, IsSmallFunction}
+use Rattle.typed_core.specs.Erasing.{erased_equation}
 use Rattle.check_typing.specs.Partial.{given}
 use Rattle.check_typing.specs.Signatures.{sum_named}
 use Rattle.check_typing.specs.WrittenTypes.{all_written}
-use Rattle.check_typing.specs.Declarations.{CoredEquation, WrittenEquation, parted, signature_written, IsEquation}
+use Rattle.check_typing.specs.Declarations.{CoredEquation, cores_alone, WrittenEquation, parted, signature_written, IsEquation}
 use Rattle.check_typing.specs.declared.signatures.Signature.{Signature}
 use Rattle.check_typing.proofs.Maybe.{some-same, not_some, given-inv, given-at}
 use Rattle.check_rules.specs.Declared.{ExceptionDecl, exception_of, FunctionDecl, function_of}
@@ -228,7 +229,8 @@ module _ (text : List ℕ) (program : Program) (core : Core) (fine : IsFine prog
       let some : 1 ≤ length f.equations = (fits d.number (d.place, decl) d.there).2.0 in
       let cores : length f.equations ≡ length d.is.cores = same_long (IsEquation p.signatures d.is.typed.signature) f.equations d.is.cores d.is.typed.have in
       let count : length function.equations ≡ length d.is.cores =
-      ap (λ (es : List EqC). length es) d.is.equations ∙ length-map d.is.cores (λ (c : CoredEquation). c.0) in
+      ap (λ (es : List EqC). length es) d.is.equations ∙ length-map (cores_alone d.is.cores) erased_equation
+      ∙ length-map d.is.cores (λ (c : CoredEquation). c.0) in
       record {
         name = subst IsName (sym d.is.name) (named d.number (d.place, decl) d.there);
         some_params = omega arith;

@@ -18,30 +18,31 @@ use Rattle.hume_model.specs.declared.core_tree.WireC.{WireC}
 use Rattle.hume_model.specs.declared.core_tree.FunC.{FunC}
 use Rattle.hume_model.specs.declared.core_tree.Core.{Core}
 use Rattle.hume_model.specs.WireEnds.{is_stream, output_type, input_type, type_of_ends}
+use Rattle.typed_core.specs.Erasing.{erased_equation, erased_handler, erased_rule}
 use Rattle.check_typing.specs.Partial.{given}
 use Rattle.check_typing.specs.Signatures.{first_named}
 use Rattle.check_typing.specs.WrittenTypes.{written}
-use Rattle.check_typing.specs.Declarations.{InPlaces, CoredEquation, CoredRule, CoredHandler, WrittenRule, WrittenHandler, IsFunction, IsBox, signature_written}
+use Rattle.check_typing.specs.Declarations.{InPlaces, CoredEquation, CoredRule, CoredHandler, cores_alone, WrittenRule, WrittenHandler, IsFunction, IsBox, signature_written}
 use Rattle.check_typing.specs.declared.signatures.Signatures.{Signatures}
 use Rattle.check_rules.specs.Declared.{FunctionDecl, function_of, in_order, Numbered, nodes_in, WireDecl, wires_in}
 use Rattle.check_rules.specs.SignaturesOf.{AreSignatures}
 use Rattle.check_rules.specs.Constants.{constant}
 
--- a function has its name, its line, its signature, and the cores of its equations
+-- a function has its name, its line, its signature, and what the trees of its equations erase to
 pub record IsFunctionOf (text : List ℕ) (signatures : Signatures) (f : FunctionDecl) (function : FunC) : Type 0 where
   pub name : function.name ≡ f.name
   pub line : function.line ≡ line_at text f.place
   pub signature : signature_written signatures.types f.name f.types ≡ Some (record { name = f.name; params = function.params; gives = function.gives })
   pub cores : List CoredEquation
   pub typed : IsFunction signatures f.name f.types f.equations cores
-  pub equations : function.equations ≡ map (λ (c : CoredEquation). c.0) cores
+  pub equations : function.equations ≡ map erased_equation (cores_alone cores)
 
 -- an input or an output has its name and the type that is written
 pub record IsPort (types : Types) (place : List ℕ × TyExp) (port : PortC) : Type 0 where
   pub name : port.name ≡ place.0
   pub ty : written types place.1 ≡ Some port.ty
 
--- a box has its name, its line, its inputs and outputs, and the cores of its rules and of its handlers
+-- a box has its name, its line, its inputs and outputs, and what the trees of its rules and of its handlers erase to
 pub record IsBoxOf (text : List ℕ) (signatures : Signatures) (d : Numbered) (title : List ℕ) (inputs outputs : List (List ℕ × TyExp)) (is_fair : Bool)
     (rules : List WrittenRule) (handlers : List WrittenHandler) (b : BoxC) : Type 0 where
   pub name : b.name ≡ title
@@ -53,8 +54,8 @@ pub record IsBoxOf (text : List ℕ) (signatures : Signatures) (d : Numbered) (t
   pub rule_cores : List CoredRule
   pub handler_cores : List CoredHandler
   pub typed : IsBox signatures inputs outputs rules handlers rule_cores handler_cores
-  pub rules_are : b.rules ≡ map (λ (c : CoredRule). c.0) rule_cores
-  pub handlers_are : b.handlers ≡ map (λ (c : CoredHandler). c.0) handler_cores
+  pub rules_are : b.rules ≡ map erased_rule (cores_alone rule_cores)
+  pub handlers_are : b.handlers ≡ map erased_handler (cores_alone handler_cores)
 
 -- a stream has its name, its line, its declaration and its port
 abbrev pub stream_core : List ℕ → Numbered → List ℕ → List ℕ → StreamC

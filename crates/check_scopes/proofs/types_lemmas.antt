@@ -1,4 +1,5 @@
 pub mod Held
 pub mod Numbers
+pub mod Trees
 pub mod TreeSteps
 pub mod Vars

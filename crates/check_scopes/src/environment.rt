@@ -1,8 +1,7 @@
 ghost use Rattle.std.specs.Prelude.{◌≡◌, ◌↔◌, ◌∷◌, ◌++◌, [], IsTrue, length, take, drop, reverse, OnOk, IfOk};
 ghost use Rattle.hume_base.specs.declared.types.Ty.{Tuple as TupleTy, Vector as VectorTy, out-Ty};
 ghost use Rattle.check_scopes.specs.types.Nodes.{ty_of, IsWithin};
-ghost use Rattle.check_scopes.specs.types.Contexts.{top, below, shape_of as shape_seen, part_at, item_of};
-ghost use Rattle.hume_model.specs.Forms.{forms_of};
+ghost use Rattle.check_scopes.specs.types.Contexts.{top, below, last_type, shape_of as shape_seen, part_at, item_of};
 ghost use Rattle.check_typing.specs.Signatures.{variable_named};
 ghost use Rattle.check_scopes.specs.Known.{with_type, with_variable};
 
@@ -10,8 +9,7 @@ use crate::signatures::SignatureTable;
 use crate::signed::signed_context;
 use crate::types::{Context, Node, Shape};
 use check_typing::Signatures;
-use hume_base::Ty;
-use hume_model::Forms;
+use hume_base::{Shared, Ty};
 use std::alloc::{AllocError, Global};
 use std::marker::Model;
 
@@ -121,20 +119,47 @@ impl<'a> Environment<'a> {
         Ok(same)
     }
 
-    /// The forms of the values of the last type of the stack.
-    pub fn forms(&self) -> Result<Forms, AllocError>
-        ensures { IfOk result (λ forms. forms ≡ forms_of (top self.now.1)) }
-    {
-        let forms = self.context.forms()?;
-        Ok(forms)
-    }
-
     /// The last type of the stack, one of numbers, `char` or `bool`, as a tree. Any other is answered with want of memory.
     pub fn scalar(&self) -> Result<Ty, AllocError>
         ensures { IfOk result (λ ty. ty ≡ top self.now.1) }
     {
         let ty = self.context.scalar()?;
         Ok(ty)
+    }
+
+    /// The last but one type of the stack, one of numbers, `char` or `bool`, as a tree. Any other is answered with want of memory.
+    pub fn scalar_below(&self) -> Result<Ty, AllocError>
+        ensures { IfOk result (λ ty. ty ≡ top (below self.now.1)) }
+    {
+        let ty = self.context.scalar_below()?;
+        Ok(ty)
+    }
+
+    /// The last type of the stack as a tree, which shares its parts.
+    pub fn tree(&mut self, alloc: Global) -> Result<Shared<Ty>, AllocError>
+        ensures is { IfOk result (λ tree. tree ≡ top self.old.1) }
+        ensures keeps { OnOk result (self.new ≡ self.old) }
+    {
+        let tree = self.context.tree(alloc)?;
+        Ok(tree)
+    }
+
+    /// The last but one type of the stack as a tree, which shares its parts.
+    pub fn tree_below(&mut self, alloc: Global) -> Result<Shared<Ty>, AllocError>
+        ensures is { IfOk result (λ tree. tree ≡ top (below self.old.1)) }
+        ensures keeps { OnOk result (self.new ≡ self.old) }
+    {
+        let tree = self.context.tree_below(alloc)?;
+        Ok(tree)
+    }
+
+    /// The type of the last variable as a tree, which shares its parts.
+    pub fn variable_tree(&mut self, alloc: Global) -> Result<Shared<Ty>, AllocError>
+        ensures is { IfOk result (λ tree. tree ≡ last_type self.old.0) }
+        ensures keeps { OnOk result (self.new ≡ self.old) }
+    {
+        let tree = self.context.variable_tree(alloc)?;
+        Ok(tree)
     }
 
     /// Puts a part of the last type of the stack, a tuple, on the stack.

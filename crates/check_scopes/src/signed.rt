@@ -6,7 +6,7 @@ ghost use Rattle.check_scopes.specs.inner.Kept.{kept_types, type_or_bool, carrie
 
 use crate::types::{Context, Node};
 use check_typing::{Signature, Signatures};
-use hume_base::{ConDef, SumDef, Ty};
+use hume_base::{ConDef, Shared, SumDef, Ty};
 use hume_model::ExnDef;
 use std::alloc::{AllocError, Global};
 
@@ -111,7 +111,7 @@ fn keep_constructors(
 }
 
 #[tactic(auto, using(crate::proofs::Keeping::keeping_steps))]
-fn push_tuple(alloc: Global, context: &mut Context, types: &[Ty]) -> Result<(), AllocError>
+fn push_tuple(alloc: Global, context: &mut Context, types: &[Shared<Ty>]) -> Result<(), AllocError>
     ensures { OnOk result (context.new ≡ (context.old.0, TupleTy types.now ∷ context.old.1, context.old.2)) }
 {
     push_all(alloc, context, types)?;
@@ -119,7 +119,7 @@ fn push_tuple(alloc: Global, context: &mut Context, types: &[Ty]) -> Result<(), 
 }
 
 #[tactic(auto, using(crate::proofs::Keeping::keeping_steps))]
-fn push_all(alloc: Global, context: &mut Context, types: &[Ty]) -> Result<(), AllocError>
+fn push_all(alloc: Global, context: &mut Context, types: &[Shared<Ty>]) -> Result<(), AllocError>
     ensures { OnOk result (context.new ≡ (context.old.0, reverse types.now ++ context.old.1, context.old.2)) }
 {
     for ty in types {

@@ -2,8 +2,8 @@
 //!
 //! A page of source can declare types of 2^60 words, so types are numbered. `Context` is the state of an elaboration: the
 //! variables in scope, a stack of types, and the types that declarations wrote down. Contracts speak of types alone
-//! (`Contexts.antt`). `TypeTable` gives each type its one number (`Nodes.antt`). No type becomes a tree again but one of a single
-//! node (`Context::scalar`).
+//! (`Contexts.antt`). `TypeTable` gives each type its one number (`Nodes.antt`), and makes one tree of it, whose parts are shared with
+//! other trees (`TypeTable::tree`).
 //!
 //! Proved: a type has one number in a table (`TypeTable::number`, `is_same`). Each call of `Context` changes the variables, the
 //! stack of types and the kept types exactly as it says of types; where a call fails, the kept types stay.
@@ -15,6 +15,7 @@ mod node;
 mod shape;
 mod stack;
 mod table;
+mod tree_table;
 mod trees;
 mod variables;
 

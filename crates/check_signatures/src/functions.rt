@@ -9,7 +9,7 @@ use crate::types::written_all;
 use check_tables::names::NameTable;
 use check_typing::Signature;
 use hume_ast::{Decl, TyExp};
-use hume_base::{List, Text, Ty};
+use hume_base::{List, Shared, Text, Ty, copy_ty};
 use std::alloc::{AllocError, Global};
 
 /// The functions in the order of their numbers, if their types are types.
@@ -64,13 +64,17 @@ fn signature(
 {
     match written_all(alloc, names, tys)? {
         None => Ok(None),
-        Some(tys) => parted_signature(name, tys),
+        Some(tys) => parted_signature(alloc, name, tys),
     }
 }
 
 // The last type is that of what the function gives.
 #[tactic(auto, using(crate::proofs::Steps::parted_steps))]
-fn parted_signature(name: &Text, tys: List<Ty>) -> Result<Option<Signature>, AllocError>
+fn parted_signature(
+    alloc: Global,
+    name: &Text,
+    tys: List<Shared<Ty>>,
+) -> Result<Option<Signature>, AllocError>
     ensures { IfOk result (λ found. found ≡ given (parted tys) (λ p. Some (signature_of name.now p.0 p.1))) }
 {
     let mut params = tys.into_vec();
@@ -78,6 +82,7 @@ fn parted_signature(name: &Text, tys: List<Ty>) -> Result<Option<Signature>, All
         None => Ok(None),
         Some(gives) => {
             let name = name.copy()?;
+            let gives = copy_ty(alloc, &gives)?;
             Ok(Some(Signature {
                 name,
                 params: List::from_vec(params),

@@ -4,7 +4,7 @@ ghost use Rattle.hume_base.specs.declared.types.ConDef.{ConDef as Constructor};
 ghost use Rattle.hume_base.specs.Sizes.{named_size, sizes_with, greatest, written_size, HaveTheirSizes};
 
 use hume_base::limits::MAX_TYPE_WORDS;
-use hume_base::{ConDef, Ty, Types, size};
+use hume_base::{ConDef, Shared, Ty, Types, size};
 
 /// The words of a data type of these constructors, which hold only data types that are there already.
 #[tactic(auto, using(crate::proofs::Words::size_steps))]
@@ -21,7 +21,7 @@ pub(crate) fn words_of(types: &Types, cons: &[ConDef]) -> u32
 }
 
 #[tactic(auto, using(crate::proofs::Words::size_steps))]
-fn fields_words(types: &Types, fields: &[Ty]) -> u32
+fn fields_words(types: &Types, fields: &[Shared<Ty>]) -> u32
     requires { HaveTheirSizes types.now }
     ensures { result ≡ written_size (sizes_with (named_size types.now (length types.now.sums)) fields.now) }
 {

@@ -8,7 +8,7 @@ ghost use Rattle.check_signatures.specs.inner.Named.{written_by, all_by};
 use check_tables::names::NameTable;
 use hume_ast::TyExp;
 use hume_base::limits::{MAX_LENGTH, MAX_WIDTH};
-use hume_base::{Box, List, Ty};
+use hume_base::{List, Shared, Ty};
 use std::alloc::{AllocError, Global};
 
 /// The type that is written, by the numbers of data types.
@@ -48,7 +48,7 @@ fn vector(
     }
     match written(alloc, names, item)? {
         None => Ok(None),
-        Some(item) => Ok(Some(Ty::Vector(count as u32, Box::new(alloc, item)?))),
+        Some(item) => Ok(Some(Ty::Vector(count as u32, Shared::new(alloc, item)?))),
     }
 }
 
@@ -70,14 +70,14 @@ pub(crate) fn written_all(
     alloc: Global,
     names: &NameTable,
     tys: &[TyExp],
-) -> Result<Option<List<Ty>>, AllocError>
+) -> Result<Option<List<Shared<Ty>>>, AllocError>
     ensures { IfOk result (λ found. found ≡ all_by names.now tys.now) }
 {
     let mut found = List::new(alloc);
     for ty in tys {
         match written(alloc, names, ty)? {
             None => return Ok(None),
-            Some(ty) => found.push(ty)?,
+            Some(ty) => found.push(Shared::new(alloc, ty)?)?,
         }
     }
     Ok(Some(found))

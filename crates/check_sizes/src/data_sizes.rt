@@ -4,7 +4,7 @@ ghost use Rattle.hume_base.specs.Sizes.{sizes_with};
 ghost use Rattle.check_sizes.specs.inner.Capped.{capped, named_in, data_words, sizes_of};
 
 use crate::words::{sum, words};
-use hume_base::{ConDef, List, SumDef, Ty};
+use hume_base::{ConDef, List, Shared, SumDef, Ty};
 use std::alloc::{AllocError, Global};
 
 /// The sizes of the data types by their numbers.
@@ -32,7 +32,7 @@ fn size_of_constructors(sizes: &[u32], cons: &[ConDef]) -> u32
 }
 
 #[tactic(auto, using(crate::proofs::Steps::size_steps))]
-fn fields_words(sizes: &[u32], fields: &[Ty]) -> u32
+fn fields_words(sizes: &[u32], fields: &[Shared<Ty>]) -> u32
     ensures { result ≡ capped (sizes_with (named_in sizes.now) fields.now) }
 {
     let mut total: u32 = 0;

@@ -21,14 +21,14 @@ use Rattle.check_tasks.specs.Tasks.{run, step, own_of, against_of, two_of, updat
 use Rattle.check_tasks.proofs.Given.{by_case, by_test, form_steps}
 
 pub let_own : (st : State) (a : Bor Exp) (b : Bor Exp) (name : Bor (List ℕ)) →
-    run (task.Own a ∷ task.Enter name ∷ task.Own b ∷ task.Leave (length st.0.0) ∷ task.Cores cores.Binding ∷ []) st
+    run (task.Own a ∷ task.Enter name ∷ task.Own b ∷ task.Cores cores.Binding ∷ task.Leave (length st.0.0) ∷ []) st
     ≡ own_of ((let_walk name.now (walk st.0.2 a.now) (walk st.0.2 b.now)).own st.0.0) st
 let_own st a b name =
     by_case ((walk st.0.2 a.now).own st.0.0) (λ n. grind (arith, form_steps)) (λ part h.
     by_case ((walk st.0.2 b.now).own (st.0.0 ++ (name.now, part.0) ∷ [])) (λ n. grind (arith, form_steps)) (λ body g. grind (arith, form_steps)))
 
 pub let_against : (st : State) (a : Bor Exp) (b : Bor Exp) (name : Bor (List ℕ)) →
-    run (task.Own a ∷ task.Enter name ∷ task.Against b ∷ task.Leave (length st.0.0) ∷ task.Cores cores.Binding ∷ []) st
+    run (task.Own a ∷ task.Enter name ∷ task.Against b ∷ task.Cores cores.Binding ∷ task.Leave (length st.0.0) ∷ []) st
     ≡ against_of ((let_walk name.now (walk st.0.2 a.now) (walk st.0.2 b.now)).against st.0.0 (top st.0.1)) st
 let_against st a b name =
     by_case ((walk st.0.2 a.now).own st.0.0) (λ n. grind (arith, form_steps)) (λ part h.

@@ -5,6 +5,7 @@ use Rattle.std.proofs.lemmas.Grind.{common_steps}
 use Rattle.std.proofs.lemmas.List.{reverse-append, length-reverse, reverse-reverse, append_assoc}
 use Rattle.std.proofs.Math.Seq.{take-append_seam, drop-append_seam, drop-append-add}
 use Rattle.check_cores.specs.Stacks.{lifted}
+use Rattle.check_scopes.specs.types.Contexts.{last_of}
 use Rattle.hume_base.specs.declared.types.Ty.{the_lemmas as ty_lemmas}
 use Rattle.check_typing.specs.Partial.{given, when}
 
@@ -55,4 +56,10 @@ module _ {A : Type 0} where
       ap (λ l. reverse after ++ l) (lifted_seam (reverse before) rest x count (length-reverse before ∙ h))
       ∙ sym (reverse_joined before (x ∷ after) rest ∙ reverse_more x after (reverse before ++ rest))
 
-pub ruleset form_steps = (common_steps, ty_lemmas, given_some, given_none, take-append_seam)
+-- the last variable is the one that has come into scope
+pub last_entered : {A : Type 0} (variables : List (List ℕ × A)) (name : List ℕ) (x : A) → last_of (variables ++ (name, x) ∷ []) ≡ Some x
+last_entered [] name x = refl
+last_entered (v ∷ []) name x = refl
+last_entered (v ∷ w ∷ variables) name x = last_entered (w ∷ variables) name x
+
+pub ruleset form_steps = (common_steps, ty_lemmas, given_some, given_none, take-append_seam, last_entered)

@@ -146,21 +146,23 @@ opened_own st None = refl
 opened_own st (Some core) = refl
 
 pub cast_own : (st : State) (a : Bor Exp) (type : TyExp) (ty : Ty) → written st.0.2.types type ≡ Some ty → is_number_type ty ≡ true →
-    run (task.Own a ∷ task.Types types.IsNumber ∷ task.Types types.Pop ∷ task.Cores cores.Conversion ∷ []) (with_types (ty ∷ st.0.1) st)
+    run (task.Own a ∷ task.Types types.IsNumber ∷ task.Cores cores.Conversion ∷ task.Types types.Pop ∷ []) (with_types (ty ∷ st.0.1) st)
     ≡ own_of ((cast_walk st.0.2 (walk st.0.2 a.now) type).own st.0.0) st
 cast_own st a type ty is number =
     by_case ((walk st.0.2 a.now).own st.0.0) (λ n. grind (arith, whole_steps)) (λ part f.
     by_test (is_number_type part.0) (λ t. grind (arith, whole_steps)) (λ t. grind (arith, whole_steps)))
 
 pub index_more : (st : State) (b : Bor Exp) (count : ℕ) → vector_parts (top st.0.1) ≡ Some (count, item_of (out-Ty (top st.0.1))) →
-    run (task.Types types.PushItem ∷ task.Types types.PopBelow ∷ task.Own b ∷ task.Types types.IsNumber ∷ task.Types types.Pop ∷ task.Cores (cores.Element count) ∷ []) st
+    run (task.Own b ∷ task.Types types.IsNumber ∷ task.Cores cores.Element ∷ task.Types types.Pop ∷ task.Types types.PushItem
+    ∷ task.Types types.PopBelow ∷ []) st
     ≡ step (task.Index b) st
 index_more st b count is =
     by_case ((walk st.0.2 b.now).own st.0.0) (λ n. grind (arith, whole_steps)) (λ place f.
     by_test (is_number_type place.0) (λ t. grind (arith, whole_steps)) (λ t. grind (arith, whole_steps)))
 
 pub update_more : (st : State) (b d : Bor Exp) (count : ℕ) → vector_parts (top st.0.1) ≡ Some (count, item_of (out-Ty (top st.0.1))) →
-    run (task.Own b ∷ task.Types types.IsNumber ∷ task.Types types.Pop ∷ task.Types types.PushItem ∷ task.Against d ∷ task.Types types.Pop ∷ task.Cores (cores.Update count) ∷ []) st
+    run (task.Own b ∷ task.Types types.IsNumber ∷ task.Types types.RepeatBelow ∷ task.Types types.PushItem ∷ task.Against d ∷ task.Types types.Pop
+    ∷ task.Cores cores.Update ∷ task.Types types.Pop ∷ task.Types types.Pop ∷ []) st
     ≡ step (task.Update b d) st
 update_more st b d count is =
     by_case ((walk st.0.2 b.now).own st.0.0) (λ n. grind (arith, whole_steps)) (λ place f.

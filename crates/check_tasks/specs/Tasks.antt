@@ -5,8 +5,7 @@ use Rattle.hume_ast.specs.declared.tree.Pat.{Pat}
 use Rattle.hume_ast.specs.declared.tree.Exp.{Exp}
 use Rattle.hume_model.specs.declared.core_tree.PatC.{Con as ConPat, Tuple as TuplePat}
 use Rattle.hume_model.specs.Typing.{is_number_type, is_comparison}
-use Rattle.hume_model.specs.Forms.{forms_of}
-use Rattle.check_scopes.specs.types.Contexts.{top, below, part_at, item_of}
+use Rattle.check_scopes.specs.types.Contexts.{top, below, last_type, part_at, item_of}
 use Rattle.check_typing.specs.Partial.{given, when}
 use Rattle.check_typing.specs.Patterns.{CoredPat, Bound, pat_cores, some_pat_too_wide, pattern, patterns}
 use Rattle.check_typing.specs.Cores.{Cored, CoredArm, let_core, if_core, and_core, or_core, operation_core, neg_core, not_core, convert_core, index_core, update_core, case_core, raise_with_core, call_core, con_core, tuple_core, vector_core}
@@ -62,16 +61,18 @@ abbrev pub last_ones : ℕ → State → List Cored
 last_ones count state = reverse (take count state.1)
 
 abbrev pub core_step : CoreTask → State → State
-core_step cores.Binding state = of_cores (let_core (second_last state) (last state) ∷ drop 2 state.1) state
+core_step cores.Binding state = of_cores (let_core (last_type state.0.0) (second_last state) (last state) ∷ drop 2 state.1) state
 core_step cores.Branches state = of_cores (if_core (third_last state) (second_last state) (last state) ∷ drop 3 state.1) state
 core_step cores.Both state = of_cores (and_core (second_last state) (last state) ∷ drop 2 state.1) state
 core_step cores.Either state = of_cores (or_core (second_last state) (last state) ∷ drop 2 state.1) state
 core_step (cores.Operation operation) state = of_cores (operation_core operation (top state.0.1) (second_last state) (last state) ∷ drop 2 state.1) state
 core_step cores.Negation state = of_cores (neg_core (top state.0.1) (last state) ∷ drop 1 state.1) state
 core_step cores.Opposite state = of_cores (not_core (last state) ∷ drop 1 state.1) state
-core_step cores.Conversion state = of_cores (convert_core (top state.0.1) (last state) ∷ drop 1 state.1) state
-core_step (cores.Element count) state = of_cores (index_core count (second_last state) (last state) ∷ drop 2 state.1) state
-core_step (cores.Update count) state = of_cores (update_core count (third_last state) (second_last state) (last state) ∷ drop 3 state.1) state
+core_step cores.Conversion state = of_cores (convert_core (top state.0.1) (top (below state.0.1)) (last state) ∷ drop 1 state.1) state
+core_step cores.Element state =
+    of_cores (index_core (top (below state.0.1)) (top state.0.1) (second_last state) (last state) ∷ drop 2 state.1) state
+core_step cores.Update state =
+    of_cores (update_core (top state.0.1) (top (below state.0.1)) (third_last state) (second_last state) (last state) ∷ drop 3 state.1) state
 core_step (cores.RaiseWith exn) state = of_cores (raise_with_core exn (last state) ∷ drop 1 state.1) state
 core_step (cores.Call number count) state = of_cores (call_core number (last_ones count state) ∷ drop count state.1) state
 core_step (cores.Constructor place count) state = of_cores (con_core place (last_ones count state) ∷ drop count state.1) state
@@ -88,7 +89,7 @@ core_step (cores.OwnVector count) state =
     ((state.0.0, VectorTy count (top state.0.1) ∷ below state.0.1, state.0.2), vector_core (last_ones count state) ∷ drop count state.1, state.2, state.3)
 core_step cores.Arm state = (state.0, drop 1 state.1, drop 1 state.2, (top_pattern state.2, last state) ∷ state.3)
 core_step (cores.Alternatives count) state =
-    (state.0, case_core (forms_of (top state.0.1)) (last state) (reverse (take count state.3)) ∷ drop 1 state.1, state.2, drop count state.3)
+    (state.0, case_core (top state.0.1) (last state) (reverse (take count state.3)) ∷ drop 1 state.1, state.2, drop count state.3)
 core_step (cores.SameConstructor place count) state = (
   state.0,
   state.1,
@@ -104,7 +105,7 @@ core_step (cores.LiftArm others) state = (state.0, state.1, state.2, lifted othe
 -- an element of the last core at a place that has a number
 abbrev pub index_step : Walk → State → Option State
 index_step b state = given (vector_parts (top state.0.1)) (λ parts. given (b.own state.0.0) (λ place. when (is_number_type place.0)
-    (Some ((state.0.0, parts.1 ∷ below state.0.1, state.0.2), index_core parts.0 (last state) place.1 ∷ drop 1 state.1, state.2, state.3))))
+    (Some ((state.0.0, parts.1 ∷ below state.0.1, state.0.2), index_core (top state.0.1) place.0 (last state) place.1 ∷ drop 1 state.1, state.2, state.3))))
 
 -- the last core with another element
 abbrev pub update_step : Walk → Walk → State → Option State

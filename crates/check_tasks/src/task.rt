@@ -68,7 +68,7 @@ pub enum TypeTask {
 /// What is done to the stacks of cores, at the last type where the core has a type.
 #[derive(Clone, Copy)]
 pub enum CoreTask {
-    /// `let`, with the last two cores.
+    /// `let`, with the last two cores, of which the first is the last variable.
     Binding,
     /// `if`, with the last three cores.
     Branches,
@@ -77,11 +77,12 @@ pub enum CoreTask {
     Operation(Op),
     Negation,
     Opposite,
+    /// From the last type to the one before it.
     Conversion,
-    /// An element of a vector of so many.
-    Element(u32),
-    /// A vector of so many with another element.
-    Update(u32),
+    /// An element of a vector of the last but one type, at a place of the last one.
+    Element,
+    /// A vector of the last type with another element, at a place of the last but one.
+    Update,
     RaiseWith(u32),
     /// A call of a function with so many of the last cores.
     Call(u32, usize),

@@ -2,7 +2,6 @@
 use Rattle.std.proofs.Common.{◌≡◌, List, [], ◌∷◌, ◌++◌, Option, Some, refl, ap, sym, subst, ◌∙◌, Bool, true, false, ◌&&◌, if◌then◌else◌}
 use Rattle.hume_base.specs.declared.types.Ty.{Ty}
 use Rattle.hume_ast.specs.declared.tree.Pat.{Pat}
-use Rattle.hume_model.specs.Forms.{forms_of}
 use Rattle.check_typing.specs.Partial.{given}
 use Rattle.check_typing.specs.Signatures.{Scope}
 use Rattle.check_typing.specs.Patterns.{pattern}
@@ -127,17 +126,17 @@ agrees_case s j w arms ws q g = record {
   own_has = own;
   checked_against = to;
   against_checked = λ scope t c h.
-      let k = given-inv (w.own scope) (λ r. given (arms_against s scope r.0 ws t) (λ cs. Some (case_core (forms_of r.0) r.1 cs))) c h in
-      let m = given-inv (arms_against s scope k.0.0 ws t) (λ cs. Some (case_core (forms_of k.0.0) k.0.1 cs)) c k.2 in
+      let k = given-inv (w.own scope) (λ r. given (arms_against s scope r.0 ws t) (λ cs. Some (case_core r.0 r.1 cs))) c h in
+      let m = given-inv (arms_against s scope k.0.0 ws t) (λ cs. Some (case_core k.0.0 k.0.1 cs)) c k.2 in
       (k.0.0, (k.0.1, m.0, q.own_has scope k.0.0 k.0.1 k.1, arms_from s scope k.0.0 arms ws g t m.0 m.1, sym (some-same _ _ m.2)));
   own_against = λ scope t c h. let k = own scope t c h in to scope t c (k.0, k.2);
 }
   where
     own : (scope : Scope) (t : Ty) (c : Cored) → (case_walk s w ws).own scope ≡ Some (t, c) → (case_typing s j arms).has scope t c
     own scope t c h =
-        let k = given-inv (w.own scope) (λ r. given (arms_own s scope r.0 ws) (λ a. Some (a.0, case_core (forms_of r.0) r.1 a.1))) (t, c) h in
-        let m = given-inv (arms_own s scope k.0.0 ws) (λ a. Some (a.0, case_core (forms_of k.0.0) k.0.1 a.1)) (t, c) k.2 in
-        let e : (m.0.0, case_core (forms_of k.0.0) k.0.1 m.0.1) ≡ (t, c) = some-same _ _ m.2 in
+        let k = given-inv (w.own scope) (λ r. given (arms_own s scope r.0 ws) (λ a. Some (a.0, case_core r.0 r.1 a.1))) (t, c) h in
+        let m = given-inv (arms_own s scope k.0.0 ws) (λ a. Some (a.0, case_core k.0.0 k.0.1 a.1)) (t, c) k.2 in
+        let e : (m.0.0, case_core k.0.0 k.0.1 m.0.1) ≡ (t, c) = some-same _ _ m.2 in
         let f = arms_own_from s scope k.0.0 arms ws g (t, m.0.1) (m.1 ∙ (λ i. Some ((e i).0, m.0.1))) in
         (k.0.0, f.0, (k.0.1, m.0.1, q.own_has scope k.0.0 k.0.1 k.1, f.1, sym (ap (λ r. r.1) e)))
 

@@ -1,5 +1,5 @@
 -- The walk over equations, rules, handlers and declarations finds exactly what is said of them.
-use Rattle.std.proofs.Common.{◌≡◌, ◌↔◌, ℕ, List, [], ◌∷◌, Option, Some, None, refl, ap, sym, subst, ◌∙◌, Bool, ◌||◌}
+use Rattle.std.proofs.Common.{◌≡◌, ◌↔◌, ℕ, List, [], ◌∷◌, Option, Some, None, refl, ap, sym, subst, ◌∙◌}
 use Rattle.hume_base.specs.declared.types.Ty.{Ty}
 use Rattle.hume_ast.specs.declared.tree.TyExp.{TyExp}
 use Rattle.hume_ast.specs.declared.tree.Decl.{Decl}
@@ -8,7 +8,7 @@ use Rattle.hume_model.specs.declared.core_tree.ExnDef.{ExnDef}
 use Rattle.check_typing.specs.Partial.{given}
 use Rattle.check_typing.specs.Signatures.{exn_named}
 use Rattle.check_typing.specs.Patterns.{patterns, positions}
-use Rattle.check_typing.specs.Declarations.{InPlaces, CoredRule, CoredHandler, some_so, equation_core, IsEquation, WrittenRule, rule_core, IsRule, WrittenHandler, carried_vars, handler_core, IsHandler, signature_written, ports_written, IsFunction, IsBox, IsTyped, HasNoType}
+use Rattle.check_typing.specs.Declarations.{InPlaces, CoredRule, CoredHandler, CoredDeclaration, function_core, box_core, equation_core, IsEquation, WrittenRule, rule_core, IsRule, WrittenHandler, carried_vars, handler_core, IsHandler, signature_written, ports_written, IsFunction, IsBox, IsTyped, HasNoType}
 use Rattle.check_typing.specs.inner.Walk.{walk}
 use Rattle.check_typing.specs.inner.ResultWalk.{result_walk}
 use Rattle.check_typing.specs.inner.DeclarationWalk.{found_of_all, equation_walk, rule_walk, handler_walk, function_walk, box_walk, declaration_walk}
@@ -158,34 +158,34 @@ module _ (s : Signatures) where
         handlers_have = (finds_all (IsHandler s l.0) (handler_walk s l.0) (finds_handler l.0) handlers hs).1 (n.1 ∙ (λ i. Some ((e i).1)));
       }
 
-  typed_to : (decl : Decl) (b : Bool) → IsTyped s decl b → declaration_walk s decl ≡ Some b
-  typed_to (Fun name tys equations) b h = given-at _ _ h.0 ((finds_function name tys equations h.0).0 h.1) ∙ ap Some (sym h.2)
-  typed_to (BoxD name inputs outputs fair rules handlers) b h = given-at _ _ (h.0, h.1) (box_to inputs outputs rules handlers h.0 h.1 h.2)
+  typed_to : (decl : Decl) (c : CoredDeclaration) → IsTyped s decl c → declaration_walk s decl ≡ Some c
+  typed_to (Fun name tys equations) c h = given-at _ _ h.0 ((finds_function name tys equations h.0).0 h.1) ∙ ap Some (sym h.2)
+  typed_to (BoxD name inputs outputs fair rules handlers) c h = given-at _ _ (h.0, h.1) (box_to inputs outputs rules handlers h.0 h.1 h.2)
       ∙ ap Some (sym h.3)
-  typed_to (Sum name constructors) b h = ap Some (sym h)
-  typed_to (Exn name carries) b h = ap Some (sym h)
-  typed_to (Stream name from port) b h = ap Some (sym h)
-  typed_to (Wire source target depth initial) b h = ap Some (sym h)
+  typed_to (Sum name constructors) c h = ap Some (sym h)
+  typed_to (Exn name carries) c h = ap Some (sym h)
+  typed_to (Stream name from port) c h = ap Some (sym h)
+  typed_to (Wire source target depth initial) c h = ap Some (sym h)
 
-  typed_from : (decl : Decl) (b : Bool) → declaration_walk s decl ≡ Some b → IsTyped s decl b
-  typed_from (Fun name tys equations) b h =
-      let k = given-inv (function_walk s name tys equations) (λ cs. Some (some_so cs)) b h in
+  typed_from : (decl : Decl) (c : CoredDeclaration) → declaration_walk s decl ≡ Some c → IsTyped s decl c
+  typed_from (Fun name tys equations) c h =
+      let k = given-inv (function_walk s name tys equations) (λ cs. Some (function_core cs)) c h in
       (k.0, (finds_function name tys equations k.0).1 k.1, sym (some-same _ _ k.2))
-  typed_from (BoxD name inputs outputs fair rules handlers) b h =
-      let k = given-inv (box_walk s inputs outputs rules handlers) (λ found. Some (some_so found.0 || some_so found.1)) b h in
+  typed_from (BoxD name inputs outputs fair rules handlers) c h =
+      let k = given-inv (box_walk s inputs outputs rules handlers) (λ found. Some (box_core found.0 found.1)) c h in
       (k.0.0, k.0.1, box_from inputs outputs rules handlers k.0.0 k.0.1 k.1, sym (some-same _ _ k.2))
-  typed_from (Sum name constructors) b h = sym (some-same _ _ h)
-  typed_from (Exn name carries) b h = sym (some-same _ _ h)
-  typed_from (Stream name from port) b h = sym (some-same _ _ h)
-  typed_from (Wire source target depth initial) b h = sym (some-same _ _ h)
+  typed_from (Sum name constructors) c h = sym (some-same _ _ h)
+  typed_from (Exn name carries) c h = sym (some-same _ _ h)
+  typed_from (Stream name from port) c h = sym (some-same _ _ h)
+  typed_from (Wire source target depth initial) c h = sym (some-same _ _ h)
 
   pub finds_declaration : Finds (IsTyped s) (declaration_walk s)
-  finds_declaration decl b = (typed_to decl b, typed_from decl b)
+  finds_declaration decl c = (typed_to decl c, typed_from decl c)
 
-  none_to : (decl : Decl) (o : Option Bool) → declaration_walk s decl ≡ o → HasNoType s decl → o ≡ None
+  none_to : (decl : Decl) (o : Option CoredDeclaration) → declaration_walk s decl ≡ o → HasNoType s decl → o ≡ None
   none_to decl None is untyped = refl
-  none_to decl (Some b) is untyped = absurd (untyped b (typed_from decl b is))
+  none_to decl (Some c) is untyped = absurd (untyped c (typed_from decl c is))
 
   -- what is not found is not typed
   pub finds_none : (decl : Decl) → HasNoType s decl ↔ (declaration_walk s decl ≡ None)
-  finds_none decl = (none_to decl (declaration_walk s decl) refl, λ e b h. not_some b (sym e ∙ typed_to decl b h))
+  finds_none decl = (none_to decl (declaration_walk s decl) refl, λ e c h. not_some c (sym e ∙ typed_to decl c h))

@@ -98,8 +98,8 @@ agrees_let x ja jb a b p q = record {
   checked_against = λ scope t c h. given-at _ _ (h.0, h.1) (p.has_own scope h.0 h.1 h.3) ∙ given-at _ _ h.2 (q.checked_against _ t h.2 h.4)
       ∙ ap Some (sym h.5);
   against_checked = λ scope t c h.
-      let k = given-inv (a.own scope) (λ p. given (b.against (scope ++ (x, p.0) ∷ []) t) (λ d. Some (let_core p.1 d))) c h in
-      let m = given-inv (b.against (scope ++ (x, k.0.0) ∷ []) t) (λ d. Some (let_core k.0.1 d)) c k.2 in
+      let k = given-inv (a.own scope) (λ p. given (b.against (scope ++ (x, p.0) ∷ []) t) (λ d. Some (let_core p.0 p.1 d))) c h in
+      let m = given-inv (b.against (scope ++ (x, k.0.0) ∷ []) t) (λ d. Some (let_core k.0.0 k.0.1 d)) c k.2 in
       (k.0.0, k.0.1, m.0, p.own_has scope k.0.0 k.0.1 k.1, q.against_checked _ t m.0 m.1, sym (some-same _ _ m.2));
   own_against = λ scope t c h.
       let k = own scope t c h in
@@ -108,11 +108,11 @@ agrees_let x ja jb a b p q = record {
   where
     own : (scope : Scope) (t : Ty) (c : Cored) → (let_walk x a b).own scope ≡ Some (t, c)
         → (u : Ty) × (first : Cored) × (second : Cored) × (a.own scope ≡ Some (u, first)) × (b.own (scope ++ (x, u) ∷ []) ≡ Some (t, second))
-        × (c ≡ let_core first second)
+        × (c ≡ let_core u first second)
     own scope t c h =
-        let k = given-inv (a.own scope) (λ p. given (b.own (scope ++ (x, p.0) ∷ [])) (λ q. Some (q.0, let_core p.1 q.1))) (t, c) h in
-        let m = given-inv (b.own (scope ++ (x, k.0.0) ∷ [])) (λ q. Some (q.0, let_core k.0.1 q.1)) (t, c) k.2 in
-        let e : (m.0.0, let_core k.0.1 m.0.1) ≡ (t, c) = some-same _ _ m.2 in
+        let k = given-inv (a.own scope) (λ p. given (b.own (scope ++ (x, p.0) ∷ [])) (λ q. Some (q.0, let_core p.0 p.1 q.1))) (t, c) h in
+        let m = given-inv (b.own (scope ++ (x, k.0.0) ∷ [])) (λ q. Some (q.0, let_core k.0.0 k.0.1 q.1)) (t, c) k.2 in
+        let e : (m.0.0, let_core k.0.0 k.0.1 m.0.1) ≡ (t, c) = some-same _ _ m.2 in
         (k.0.0, k.0.1, m.0.1, k.1, m.1 ∙ (λ i. Some ((e i).0, m.0.1)), sym (ap (λ r. r.1) e))
 
 -- two parts of one type
@@ -233,12 +233,12 @@ module _ (ja jb : Judged) (a b : Walk) (p : Agrees ja a) (q : Agrees jb b) where
       ∙ (λ i. Some (t, sym h.7 i)))
       (λ scope t c h.
       let k = given-inv (a.own scope) (λ vector. given (vector_parts vector.0) (λ parts. given (b.own scope) (λ place.
-      when (is_number_type place.0) (Some (parts.1, index_core parts.0 vector.1 place.1))))) (t, c) h in
+      when (is_number_type place.0) (Some (parts.1, index_core vector.0 place.0 vector.1 place.1))))) (t, c) h in
       let l = given-inv (vector_parts k.0.0) (λ parts. given (b.own scope) (λ place.
-      when (is_number_type place.0) (Some (parts.1, index_core parts.0 k.0.1 place.1)))) (t, c) k.2 in
-      let m = given-inv (b.own scope) (λ place. when (is_number_type place.0) (Some (l.0.1, index_core l.0.0 k.0.1 place.1))) (t, c) l.2 in
-      let n = when-inv (is_number_type m.0.0) (Some (l.0.1, index_core l.0.0 k.0.1 m.0.1)) (t, c) m.2 in
-      let e : (l.0.1, index_core l.0.0 k.0.1 m.0.1) ≡ (t, c) = some-same _ _ n.1 in
+      when (is_number_type place.0) (Some (parts.1, index_core k.0.0 place.0 k.0.1 place.1)))) (t, c) k.2 in
+      let m = given-inv (b.own scope) (λ place. when (is_number_type place.0) (Some (l.0.1, index_core k.0.0 place.0 k.0.1 place.1))) (t, c) l.2 in
+      let n = when-inv (is_number_type m.0.0) (Some (l.0.1, index_core k.0.0 m.0.0 k.0.1 m.0.1)) (t, c) m.2 in
+      let e : (l.0.1, index_core k.0.0 m.0.0 k.0.1 m.0.1) ≡ (t, c) = some-same _ _ n.1 in
       let is = vector_parts-inv k.0.0 l.0.0 t (l.1 ∙ (λ i. Some (l.0.0, (e i).0))) in (
         l.0.0,
         m.0.0,
@@ -248,7 +248,8 @@ module _ (ja jb : Judged) (a b : Walk) (p : Agrees ja a) (q : Agrees jb b) where
             ∙ (λ i. Some (is i, k.0.1))),
         q.own_has scope m.0.0 m.0.1 m.1,
         n.0,
-        sym (ap (λ r. r.1) e),
+        sym (ap (λ r. r.1) e)
+            ∙ ap (λ u. index_core u m.0.0 k.0.1 m.0.1) is,
       ))
 
   pub agrees_if : (jt : Judged) (test : Walk) → Agrees jt test → Agrees (if_typing jt ja jb) (if_walk test a b)
@@ -340,12 +341,12 @@ module _ (j : Judged) (a : Walk) (p : Agrees j a) where
       ∙ (λ i. Some (t, sym h.6 i)))
       (λ scope t c h.
       let k = given-inv (written s.types type) (λ ty. when (is_number_type ty) (given (a.own scope)
-      (λ part. when (is_number_type part.0) (Some (ty, convert_core ty part.1))))) (t, c) h in
+      (λ part. when (is_number_type part.0) (Some (ty, convert_core part.0 ty part.1))))) (t, c) h in
       let l = when-inv (is_number_type k.0) (given (a.own scope)
-      (λ part. when (is_number_type part.0) (Some (k.0, convert_core k.0 part.1)))) (t, c) k.2 in
-      let m = given-inv (a.own scope) (λ part. when (is_number_type part.0) (Some (k.0, convert_core k.0 part.1))) (t, c) l.1 in
-      let n = when-inv (is_number_type m.0.0) (Some (k.0, convert_core k.0 m.0.1)) (t, c) m.2 in
-      let e : (k.0, convert_core k.0 m.0.1) ≡ (t, c) = some-same _ _ n.1 in
+      (λ part. when (is_number_type part.0) (Some (k.0, convert_core part.0 k.0 part.1)))) (t, c) k.2 in
+      let m = given-inv (a.own scope) (λ part. when (is_number_type part.0) (Some (k.0, convert_core part.0 k.0 part.1))) (t, c) l.1 in
+      let n = when-inv (is_number_type m.0.0) (Some (k.0, convert_core m.0.0 k.0 m.0.1)) (t, c) m.2 in
+      let e : (k.0, convert_core m.0.0 k.0 m.0.1) ≡ (t, c) = some-same _ _ n.1 in
       let is : k.0 ≡ t = ap (λ r. r.0) e in (
         m.0.0,
         m.0.1,
@@ -353,7 +354,7 @@ module _ (j : Judged) (a : Walk) (p : Agrees j a) where
         subst (λ u. is_number_type u ≡ true) is l.0,
         p.own_has scope m.0.0 m.0.1 m.1,
         n.0,
-        sym (ap (λ r. r.1) e) ∙ (λ i. convert_core (is i) m.0.1),
+        sym (ap (λ r. r.1) e) ∙ (λ i. convert_core m.0.0 (is i) m.0.1),
       ))
 
 -- exceptions
@@ -405,7 +406,7 @@ module _ (ja jb jd : Judged) (a b d : Walk) (p : Agrees ja a) (q : Agrees jb b) 
   Rest scope t vector c =
       (count : ℕ) × (item : Ty) × (of : Ty) × (place : Cored) × (new_item : Cored) × (vector_parts t ≡ Some (count, item)) × jb.has scope of place
       × (is_number_type of ≡ true)
-      × jd.checked scope item new_item × (c ≡ update_core count vector place new_item)
+      × jd.checked scope item new_item × (c ≡ update_core t of vector place new_item)
 
   rest_to : (scope : Scope) (t : Ty) (vector c : Cored) → Rest scope t vector c → updated b d scope t vector ≡ Some c
   rest_to scope t vector c h =
@@ -415,11 +416,11 @@ module _ (ja jb jd : Judged) (a b d : Walk) (p : Agrees ja a) (q : Agrees jb b) 
   rest_from : (scope : Scope) (t : Ty) (vector c : Cored) → updated b d scope t vector ≡ Some c → Rest scope t vector c
   rest_from scope t vector c h =
       let k = given-inv (vector_parts t) (λ parts. given (b.own scope) (λ place. when (is_number_type place.0)
-      (given (d.against scope parts.1) (λ new_item. Some (update_core parts.0 vector place.1 new_item))))) c h in
+      (given (d.against scope parts.1) (λ new_item. Some (update_core t place.0 vector place.1 new_item))))) c h in
       let l = given-inv (b.own scope) (λ place. when (is_number_type place.0) (given (d.against scope k.0.1)
-      (λ new_item. Some (update_core k.0.0 vector place.1 new_item)))) c k.2 in
-      let m = when-inv (is_number_type l.0.0) (given (d.against scope k.0.1) (λ new_item. Some (update_core k.0.0 vector l.0.1 new_item))) c l.2 in
-      let n = given-inv (d.against scope k.0.1) (λ new_item. Some (update_core k.0.0 vector l.0.1 new_item)) c m.1 in
+      (λ new_item. Some (update_core t place.0 vector place.1 new_item)))) c k.2 in
+      let m = when-inv (is_number_type l.0.0) (given (d.against scope k.0.1) (λ new_item. Some (update_core t l.0.0 vector l.0.1 new_item))) c l.2 in
+      let n = given-inv (d.against scope k.0.1) (λ new_item. Some (update_core t l.0.0 vector l.0.1 new_item)) c m.1 in
       (k.0.0, k.0.1, l.0.0, l.0.1, n.0, k.1, q.own_has scope l.0.0 l.0.1 l.1, m.0, r.against_checked scope k.0.1 n.0 n.1, sym (some-same _ _ n.2))
 
   joined : (Vector : Scope → Ty → Cored → Type 0) (scope : Scope) (t : Ty) (vector c : Cored) → Vector scope t vector → Rest scope t vector c

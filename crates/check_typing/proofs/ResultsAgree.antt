@@ -2,7 +2,6 @@
 use Rattle.std.proofs.Common.{◌≡◌, ℕ, List, [], ◌∷◌, ◌++◌, Option, Some, refl, ap, sym, subst, ◌∙◌}
 use Rattle.hume_base.specs.declared.types.Ty.{Ty, Bool as BoolTy}
 use Rattle.hume_ast.specs.declared.tree.Pat.{Pat}
-use Rattle.hume_model.specs.Forms.{forms_of}
 use Rattle.check_typing.specs.Partial.{given}
 use Rattle.check_typing.specs.Signatures.{Scope, exn_named}
 use Rattle.check_typing.specs.Patterns.{pattern}
@@ -183,8 +182,8 @@ module _ (j : Judged) (w : Walk) (whole : Agrees j w) where
     agrees_let_result x r b q = agrees_followed _ _
         (λ scope tys c h. given-at _ _ (h.0, h.1) (p.has_own scope h.0 h.1 h.3) ∙ given-at _ _ h.2 (q.result_to _ tys h.2 h.4) ∙ ap Some (sym h.5))
         (λ scope tys c h.
-        let k = given-inv (a.own scope) (λ p. given (b.result (scope ++ (x, p.0) ∷ []) tys) (λ r. Some (let_result_core p.1 r))) c h in
-        let m = given-inv (b.result (scope ++ (x, k.0.0) ∷ []) tys) (λ r. Some (let_result_core k.0.1 r)) c k.2 in
+        let k = given-inv (a.own scope) (λ p. given (b.result (scope ++ (x, p.0) ∷ []) tys) (λ r. Some (let_result_core p.0 p.1 r))) c h in
+        let m = given-inv (b.result (scope ++ (x, k.0.0) ∷ []) tys) (λ r. Some (let_result_core k.0.0 k.0.1 r)) c k.2 in
         (k.0.0, k.0.1, m.0, p.own_has scope k.0.0 k.0.1 k.1, q.result_from _ tys m.0 m.1, sym (some-same _ _ m.2)))
 
     pub agrees_if_result : (r q : AsResult) (b d : ResultWalk) → ResultAgrees r b → ResultAgrees q d
@@ -206,6 +205,6 @@ module _ (j : Judged) (w : Walk) (whole : Agrees j w) where
         (λ scope tys c h. given-at _ _ (h.0, h.1) (p.has_own scope h.0 h.1 h.3) ∙ given-at _ _ h.2 (arms_to s scope h.0 tys arms ws g h.2 h.4)
         ∙ ap Some (sym h.5))
         (λ scope tys c h.
-        let k = given-inv (a.own scope) (λ p. given (arms_result s scope p.0 ws tys) (λ all. Some (case_result_core (forms_of p.0) p.1 all))) c h in
-        let m = given-inv (arms_result s scope k.0.0 ws tys) (λ all. Some (case_result_core (forms_of k.0.0) k.0.1 all)) c k.2 in
+        let k = given-inv (a.own scope) (λ p. given (arms_result s scope p.0 ws tys) (λ all. Some (case_result_core p.0 p.1 all))) c h in
+        let m = given-inv (arms_result s scope k.0.0 ws tys) (λ all. Some (case_result_core k.0.0 k.0.1 all)) c k.2 in
         (k.0.0, k.0.1, m.0, p.own_has scope k.0.0 k.0.1 k.1, arms_from s scope k.0.0 tys arms ws g m.0 m.1, sym (some-same _ _ m.2)))

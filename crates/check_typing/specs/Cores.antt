@@ -1,20 +1,19 @@
--- The core of each form of expression, by the cores of its parts. Parentheses vanish.
+-- The typed core of each form of expression, by those of its parts. Parentheses vanish.
 use Rattle.std.specs.Prelude.{ℕ, ◌||◌, Bool, true, false, List, [], ◌∷◌, map, Some, None}
 use Rattle.std.specs.List.{list_any}
 use Rattle.hume_base.specs.declared.types.Ty.{Ty, Bool as BoolTy}
 use Rattle.hume_model.specs.declared.core_tree.Op.{Op}
 use Rattle.hume_model.specs.declared.core_tree.Op.TheVariants as op
 use Rattle.hume_model.specs.declared.core_tree.PatC.{PatC}
-use Rattle.hume_model.specs.declared.core_tree.Forms.{Forms}
-use Rattle.hume_model.specs.declared.core_tree.Expr.{Expr, Word, Var, Con, Tuple, Vect, Prim, Index, Update, If, Case, Let, Call, Raise}
+use Rattle.typed_core.specs.declared.typed_tree.TypedExpr.{TypedExpr, Word, Var, Con, Tuple, Vect, Prim, Convert, Index, Update, If, Case, Let, Call, Raise}
 use Rattle.check_typing.specs.Patterns.{CoredPat, literal_word, is_too_wide, is_no_char, word_of_truth}
 
--- a core, and whether a literal in it is out of the range of its type
+-- a typed core, and whether a literal in it is out of the range of its type
 abbrev pub Cored : Type 0
-Cored = Expr × Bool
+Cored = TypedExpr × Bool
 
 -- the cores alone
-abbrev pub cores : List Cored → List Expr
+abbrev pub cores : List Cored → List TypedExpr
 cores parts = map (λ c. c.0) parts
 
 -- a literal in one of them is out of range
@@ -26,7 +25,7 @@ abbrev pub CoredArm : Type 0
 CoredArm = CoredPat × Cored
 
 -- the alternatives alone
-abbrev pub arm_cores : List CoredArm → List (PatC × Expr)
+abbrev pub arm_cores : List CoredArm → List (PatC × TypedExpr)
 arm_cores arms = map (λ arm. (arm.0.0, arm.1.0)) arms
 
 -- a literal in the pattern or the body of one of them is out of range
@@ -49,9 +48,9 @@ literal_core negative amount ty = (Word (literal_word negative amount), is_too_w
 abbrev pub variable_core : ℕ → Cored
 variable_core number = (Var number, false)
 
--- `let`
-abbrev pub let_core : Cored → Cored → Cored
-let_core part body = (Let part.0 body.0, part.1 || body.1)
+-- `let`, with the type of what is bound
+abbrev pub let_core : Ty → Cored → Cored → Cored
+let_core of part body = (Let of part.0 body.0, part.1 || body.1)
 
 -- `if`
 abbrev pub if_core : Cored → Cored → Cored → Cored
@@ -77,21 +76,21 @@ neg_core ty part = (Prim op.Neg ty (part.0 ∷ []), part.1)
 abbrev pub not_core : Cored → Cored
 not_core part = (Prim op.Not BoolTy (part.0 ∷ []), part.1)
 
--- `as`, with the type of the result
-abbrev pub convert_core : Ty → Cored → Cored
-convert_core ty part = (Prim op.Convert ty (part.0 ∷ []), part.1)
+-- `as`, with the types of the operand and of the result
+abbrev pub convert_core : Ty → Ty → Cored → Cored
+convert_core from to part = (Convert from to part.0, part.1)
 
--- of a vector of so many elements
-abbrev pub index_core : ℕ → Cored → Cored → Cored
-index_core count vector place = (Index count vector.0 place.0, vector.1 || place.1)
+-- `@`, with the types of the vector and of the place
+abbrev pub index_core : Ty → Ty → Cored → Cored → Cored
+index_core of places vector place = (Index of places vector.0 place.0, vector.1 || place.1)
 
--- of a vector of so many elements
-abbrev pub update_core : ℕ → Cored → Cored → Cored → Cored
-update_core count vector place item = (Update count vector.0 place.0 item.0, vector.1 || (place.1 || item.1))
+-- `update`, with the types of the vector and of the place
+abbrev pub update_core : Ty → Ty → Cored → Cored → Cored → Cored
+update_core of places vector place item = (Update of places vector.0 place.0 item.0, vector.1 || (place.1 || item.1))
 
--- with the forms of the values that are matched
-abbrev pub case_core : Forms → Cored → List CoredArm → Cored
-case_core forms part arms = (Case part.0 forms (arm_cores arms), part.1 || some_arm_too_wide arms)
+-- `case`, with the type of the values that are matched
+abbrev pub case_core : Ty → Cored → List CoredArm → Cored
+case_core of part arms = (Case of part.0 (arm_cores arms), part.1 || some_arm_too_wide arms)
 
 -- an exception by its number
 abbrev pub raise_core : ℕ → Cored

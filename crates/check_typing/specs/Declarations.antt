@@ -1,4 +1,4 @@
--- Which equations, rules and handlers have which core, and which declarations have types.
+-- Which equations, rules and handlers have which trees, and which declarations have types.
 use Rattle.std.specs.Prelude.{◌≡◌, ℕ, ◌||◌, Bool, true, false, List, [], ◌∷◌, map, Option, Some, None}
 use Rattle.std.specs.List.{list_any}
 use Rattle.hume_base.specs.declared.types.Ty.{Ty}
@@ -10,9 +10,11 @@ use Rattle.hume_ast.specs.declared.tree.Exp.{Exp}
 use Rattle.hume_ast.specs.declared.tree.Decl.{Decl}
 use Rattle.hume_ast.specs.declared.tree.Decl.TheVariants.{Sum, Exn, Fun, BoxD, Stream, Wire}
 use Rattle.hume_model.specs.declared.core_tree.ExnDef.{ExnDef}
-use Rattle.hume_model.specs.declared.core_tree.EqC.{EqC}
-use Rattle.hume_model.specs.declared.core_tree.RuleC.{RuleC}
-use Rattle.hume_model.specs.declared.core_tree.HandC.{HandC}
+use Rattle.typed_core.specs.declared.typed_tree.TypedEquation.{TypedEquation}
+use Rattle.typed_core.specs.declared.typed_tree.TypedRule.{TypedRule}
+use Rattle.typed_core.specs.declared.typed_tree.TypedHandler.{TypedHandler}
+use Rattle.typed_core.specs.declared.typed_tree.TypedDeclaration.{TypedDeclaration}
+use Rattle.typed_core.specs.declared.typed_tree.TypedDeclaration.TheVariants.{Equations, Rules, NoTrees}
 use Rattle.check_typing.specs.Partial.{given}
 use Rattle.check_typing.specs.Signatures.{Scope, exn_named}
 use Rattle.check_typing.specs.WrittenTypes.{all_there, written, all_written}
@@ -29,23 +31,23 @@ InPlaces Belongs [] [] = Unit {0}
 InPlaces Belongs (x ∷ xs) (y ∷ ys) = Belongs x y × InPlaces Belongs xs ys
 InPlaces Belongs _ _ = ⊥
 
--- a core, and whether a literal in it is out of the range of its type
+-- the tree of an equation, and whether a literal in it is out of the range of its type
 abbrev pub CoredEquation : Type 0
-CoredEquation = EqC × Bool
+CoredEquation = TypedEquation × Bool
 
 -- the same of a rule
 abbrev pub CoredRule : Type 0
-CoredRule = RuleC × Bool
+CoredRule = TypedRule × Bool
 
 -- the same of a handler
 abbrev pub CoredHandler : Type 0
-CoredHandler = HandC × Bool
+CoredHandler = TypedHandler × Bool
 
 -- one of several is so
 abbrev pub some_so : {A : Type 0} → List (A × Bool) → Bool
 some_so cs = list_any (λ c. c.1) cs
 
--- the cores alone
+-- the trees alone
 abbrev pub cores_alone : {A : Type 0} → List (A × Bool) → List A
 cores_alone cs = map (λ c. c.0) cs
 
@@ -53,7 +55,7 @@ cores_alone cs = map (λ c. c.0) cs
 abbrev pub WrittenEquation : Type 0
 WrittenEquation = List ℕ × List Pat × Exp
 
--- the core of an equation
+-- the tree of an equation
 abbrev pub equation_core : List CoredPat → Cored → CoredEquation
 equation_core pats body = (record { pats = pat_cores pats; body = body.0 }, some_pat_too_wide pats || body.1)
 
@@ -70,7 +72,7 @@ pub record IsEquation (signatures : Signatures) (signature : Signature) (equatio
 abbrev pub WrittenRule : Type 0
 WrittenRule = List Pat × Exp
 
--- the core of a rule
+-- the tree of a rule
 abbrev pub rule_core : List CoredPosition → CoredRes → CoredRule
 rule_core pats result = (record { pats = cores_alone pats; result = result.0 }, some_so pats || result.1)
 
@@ -100,7 +102,7 @@ carried_vars None (Some pat) = None
 carried_vars (Some carried) None = None
 carried_vars (Some carried) (Some pat) = carried_layer carried (out-Pat pat)
 
--- the core of a handler for the exception of the number
+-- the tree of a handler for the exception of the number
 abbrev pub handler_core : ℕ → Bool → CoredRes → CoredHandler
 handler_core number bound result = (record { exn = number; bound = bound; result = result.0 }, result.1)
 
@@ -131,14 +133,14 @@ signature_written types name tys =
 abbrev pub ports_written : Types → List (List ℕ × TyExp) → Option (List Ty)
 ports_written types ports = all_there (map (λ (port : List ℕ × TyExp). written types port.1) ports)
 
--- the function has the cores in the places of its equations
+-- the function has the trees in the places of its equations
 pub record IsFunction (signatures : Signatures) (name : List ℕ) (tys : List TyExp) (equations : List WrittenEquation)
     (cs : List CoredEquation) : Type 0 where
   pub signature : Signature
   pub is_written : signature_written signatures.types name tys ≡ Some signature
   pub have : InPlaces (IsEquation signatures signature) equations cs
 
--- the box has the cores in the places of its rules and of its handlers
+-- the box has the trees in the places of its rules and of its handlers
 pub record IsBox (signatures : Signatures) (inputs outputs : List (List ℕ × TyExp)) (rules : List WrittenRule) (handlers : List WrittenHandler)
     (rs : List CoredRule) (hs : List CoredHandler) : Type 0 where
   pub ins : List Ty
@@ -148,21 +150,41 @@ pub record IsBox (signatures : Signatures) (inputs outputs : List (List ℕ × T
   pub rules_have : InPlaces (IsRule signatures ins outs) rules rs
   pub handlers_have : InPlaces (IsHandler signatures outs) handlers hs
 
--- all that the declaration says has types; it is said with whether a literal in it is out of the range of its type
-abbrev pub IsTyped : Signatures → Decl → Bool → Type 0
-IsTyped signatures (Fun name tys equations) too_wide =
-    (cs : List CoredEquation) × IsFunction signatures name tys equations cs × (too_wide ≡ some_so cs)
-IsTyped signatures (BoxD name inputs outputs fair rules handlers) too_wide =
-    (rs : List CoredRule) × (hs : List CoredHandler) × IsBox signatures inputs outputs rules handlers rs hs × (too_wide ≡ some_so rs || some_so hs)
-IsTyped signatures (Sum name constructors) too_wide = too_wide ≡ false
-IsTyped signatures (Exn name carries) too_wide = too_wide ≡ false
-IsTyped signatures (Stream name from port) too_wide = too_wide ≡ false
-IsTyped signatures (Wire source target depth initial) too_wide = too_wide ≡ false
+-- the trees of a declaration, and whether a literal in it is out of the range of its type
+abbrev pub CoredDeclaration : Type 0
+CoredDeclaration = TypedDeclaration × Bool
+
+-- those of a function
+abbrev pub function_core : List CoredEquation → CoredDeclaration
+function_core cs = (Equations (cores_alone cs), some_so cs)
+
+-- those of a box
+abbrev pub box_core : List CoredRule → List CoredHandler → CoredDeclaration
+box_core rs hs = (Rules (cores_alone rs) (cores_alone hs), some_so rs || some_so hs)
+
+-- those of any other declaration
+abbrev pub no_core : CoredDeclaration
+no_core = (NoTrees, false)
+
+-- all that the declaration says has types, and it has these trees
+abbrev pub IsTyped : Signatures → Decl → CoredDeclaration → Type 0
+IsTyped signatures (Fun name tys equations) c =
+    (cs : List CoredEquation) × IsFunction signatures name tys equations cs × (c ≡ function_core cs)
+IsTyped signatures (BoxD name inputs outputs fair rules handlers) c =
+    (rs : List CoredRule) × (hs : List CoredHandler) × IsBox signatures inputs outputs rules handlers rs hs × (c ≡ box_core rs hs)
+IsTyped signatures (Sum name constructors) c = c ≡ no_core
+IsTyped signatures (Exn name carries) c = c ≡ no_core
+IsTyped signatures (Stream name from port) c = c ≡ no_core
+IsTyped signatures (Wire source target depth initial) c = c ≡ no_core
 
 -- something that the declaration says has no type
 abbrev pub HasNoType : Signatures → Decl → Type 0
-HasNoType signatures decl = (too_wide : Bool) → IsTyped signatures decl too_wide → ⊥
+HasNoType signatures decl = (c : CoredDeclaration) → IsTyped signatures decl c → ⊥
 
 -- all of it has types, and a literal is out of the range of its type
 abbrev pub HasWideLiteral : Signatures → Decl → Type 0
-HasWideLiteral signatures decl = IsTyped signatures decl true
+HasWideLiteral signatures decl = (trees : TypedDeclaration) × IsTyped signatures decl (trees, true)
+
+-- all of it has types, no literal is out of the range of its type, and these are its trees
+abbrev pub HasTrees : Signatures → Decl → TypedDeclaration → Type 0
+HasTrees signatures decl trees = IsTyped signatures decl (trees, false)

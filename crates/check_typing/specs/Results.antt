@@ -1,4 +1,4 @@
--- Which results of rules and handlers have which core, by the types of the outputs.
+-- Which results of rules and handlers have which typed core, by the types of the outputs.
 use Rattle.std.specs.Prelude.{◌≡◌, ℕ, ◌||◌, Bool, false, List, [], ◌∷◌, ◌++◌, map, Option, Some, None}
 use Rattle.std.specs.List.{list_any}
 use Rattle.hume_base.specs.declared.types.Ty.{Ty, Bool as BoolTy}
@@ -6,23 +6,21 @@ use Rattle.hume_ast.specs.declared.tree.Pat.{Pat}
 use Rattle.hume_ast.specs.declared.tree.Exp.{Exp, rec-Exp}
 use Rattle.hume_ast.specs.declared.tree.Exp.TheOpen.{Exp-F}
 use Rattle.hume_model.specs.declared.core_tree.PatC.{PatC}
-use Rattle.hume_model.specs.declared.core_tree.Expr.{Expr}
-use Rattle.hume_model.specs.declared.core_tree.Forms.{Forms}
-use Rattle.hume_model.specs.declared.core_tree.Res.{Res, Outs, If, Case, Let, Raise}
-use Rattle.hume_model.specs.Forms.{forms_of}
+use Rattle.typed_core.specs.declared.typed_tree.TypedExpr.{TypedExpr}
+use Rattle.typed_core.specs.declared.typed_tree.TypedResult.{TypedResult, Outs, If, Case, Let, Raise}
 use Rattle.check_typing.specs.Signatures.{Scope}
 use Rattle.check_typing.specs.Patterns.{CoredPat, pattern}
 use Rattle.check_typing.specs.Cores.{Cored}
 use Rattle.check_typing.specs.Typing.{Judged, RaisedAlone, RaisedWith, typing, typing_step}
 use Rattle.check_typing.specs.declared.signatures.Signatures.{Signatures}
 
--- the core of a result, and whether a literal in it is out of the range of its type
+-- the typed core of a result, and whether a literal in it is out of the range of its type
 abbrev pub CoredRes : Type 0
-CoredRes = Res × Bool
+CoredRes = TypedResult × Bool
 
 -- the same of one output: none where `*` stands
 abbrev pub CoredOut : Type 0
-CoredOut = Option Expr × Bool
+CoredOut = Option TypedExpr × Bool
 
 -- the same of an alternative of a `case`
 abbrev pub CoredResArm : Type 0
@@ -40,21 +38,21 @@ value_out c = (Some c.0, c.1)
 abbrev pub outs_core : List CoredOut → CoredRes
 outs_core outs = (Outs (map (λ out. out.0) outs), list_any (λ out. out.1) outs)
 
--- `let`
-abbrev pub let_result_core : Cored → CoredRes → CoredRes
-let_result_core part body = (Let part.0 body.0, part.1 || body.1)
+-- `let`, with the type of what is bound
+abbrev pub let_result_core : Ty → Cored → CoredRes → CoredRes
+let_result_core of part body = (Let of part.0 body.0, part.1 || body.1)
 
 -- `if`
 abbrev pub if_result_core : Cored → CoredRes → CoredRes → CoredRes
 if_result_core test when_true when_false = (If test.0 when_true.0 when_false.0, test.1 || (when_true.1 || when_false.1))
 
 -- the alternatives alone
-abbrev pub result_arm_cores : List CoredResArm → List (PatC × Res)
+abbrev pub result_arm_cores : List CoredResArm → List (PatC × TypedResult)
 result_arm_cores arms = map (λ arm. (arm.0.0, arm.1.0)) arms
 
--- `case`, with the forms of the values that are matched
-abbrev pub case_result_core : Forms → Cored → List CoredResArm → CoredRes
-case_result_core forms part arms = (Case part.0 forms (result_arm_cores arms), part.1 || list_any (λ arm. arm.0.1 || arm.1.1) arms)
+-- `case`, with the type of the values that are matched
+abbrev pub case_result_core : Ty → Cored → List CoredResArm → CoredRes
+case_result_core of part arms = (Case of part.0 (result_arm_cores arms), part.1 || list_any (λ arm. arm.0.1 || arm.1.1) arms)
 
 -- an exception by its number
 abbrev pub raise_result_core : ℕ → CoredRes
@@ -132,7 +130,7 @@ raise_with_result signatures name j a = followed j (λ scope tys c.
 abbrev pub let_result : Judged → List ℕ → Judged → AsResult → AsResult
 let_result j name a b = followed j (λ scope tys c.
     (of : Ty) × (part : Cored) × (body : CoredRes) × a.has scope of part × b.result (scope ++ (name, of) ∷ []) tys body
-    × (c ≡ let_result_core part body))
+    × (c ≡ let_result_core of part body))
 
 -- `if`, of which both branches are results
 abbrev pub if_result : Judged → Judged → AsResult → AsResult → AsResult
@@ -152,7 +150,7 @@ ArmsResult signatures scope of _ tys _ = ⊥
 abbrev pub case_result : Signatures → Judged → Judged → List ResultArm → AsResult
 case_result signatures j a arms = followed j (λ scope tys c.
     (of : Ty) × (part : Cored) × (cs : List CoredResArm) × a.has scope of part × ArmsResult signatures scope of arms tys cs
-    × (c ≡ case_result_core (forms_of of) part cs))
+    × (c ≡ case_result_core of part cs))
 
 -- an alternative, by what is said of its body
 abbrev pub result_arm_with : (X : Type 0) → (X → AsResult) → Pat × X → ResultArm

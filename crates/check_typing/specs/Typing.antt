@@ -1,4 +1,4 @@
--- Which types an expression has, and with which core: a row for each form.
+-- Which types an expression has, and with which typed core: a row for each form.
 use Rattle.std.specs.Prelude.{◌≡◌, ℕ, ◌&&◌, Bool, true, false, List, [], ◌∷◌, ◌++◌, length, map, Some, None}
 use Rattle.hume_base.specs.declared.types.Ty.{Ty, Bool as BoolTy, Char as CharTy, Int, Tuple as TupleTy, Vector as VectorTy, Named as NamedTy}
 use Rattle.hume_ast.specs.declared.tree.BinOp.{BinOp}
@@ -11,7 +11,6 @@ use Rattle.hume_model.specs.declared.core_tree.Op.{Op}
 use Rattle.hume_model.specs.declared.core_tree.Op.TheVariants as op
 use Rattle.hume_model.specs.declared.core_tree.ExnDef.{ExnDef}
 use Rattle.hume_model.specs.Typing.{is_number_type, is_comparison}
-use Rattle.hume_model.specs.Forms.{forms_of}
 use Rattle.check_typing.specs.Signatures.{Scope, Constructor, exn_named, fun_named, con_named, variable_named}
 use Rattle.check_typing.specs.WrittenTypes.{written}
 use Rattle.check_typing.specs.Patterns.{CoredPat, pattern}
@@ -86,7 +85,7 @@ truth_typing truth = closed (λ scope ty c. (ty ≡ BoolTy) × (c ≡ truth_core
 -- the first part has a type by itself, and the body is said of it
 abbrev pub Binding : List ℕ → Judged → (Scope → Ty → Cored → Type 0) → Scope → Ty → Cored → Type 0
 Binding name a Body scope ty c =
-    (of : Ty) × (part : Cored) × (body : Cored) × a.has scope of part × Body (scope ++ (name, of) ∷ []) ty body × (c ≡ let_core part body)
+    (of : Ty) × (part : Cored) × (body : Cored) × a.has scope of part × Body (scope ++ (name, of) ∷ []) ty body × (c ≡ let_core of part body)
 
 -- `let name = a in b`: the variable has the type that a has by itself
 abbrev pub let_typing : List ℕ → Judged → Judged → Judged
@@ -133,7 +132,7 @@ all_arms_open (arm ∷ arms) = arm.body.is_open && all_arms_open arms
 -- what is matched has its type by itself, and the alternatives are checked against both types
 abbrev pub Alternatives : Signatures → Judged → List Arm → Scope → Ty → Ty → Cored → Type 0
 Alternatives signatures a arms scope of ty c =
-    (part : Cored) × (cs : List CoredArm) × a.has scope of part × ArmsChecked signatures scope of arms ty cs × (c ≡ case_core (forms_of of) part cs)
+    (part : Cored) × (cs : List CoredArm) × a.has scope of part × ArmsChecked signatures scope of arms ty cs × (c ≡ case_core of part cs)
 
 -- `case`: what is matched has its type by itself
 abbrev pub case_typing : Signatures → Judged → List Arm → Judged
@@ -202,14 +201,14 @@ neg_typing a = record { is_open = a.is_open; has = Negation a.has; checked = Neg
 abbrev pub index_typing : Judged → Judged → Judged
 index_typing a b = closed (λ scope ty c.
     (count : ℕ) × (of : Ty) × (vector : Cored) × (place : Cored) × a.has scope (VectorTy count ty) vector × b.has scope of place
-    × (is_number_type of ≡ true) × (c ≡ index_core count vector place))
+    × (is_number_type of ≡ true) × (c ≡ index_core (VectorTy count ty) of vector place))
 
 -- the vector is of the type, the place is a number, and the new element is checked against the type of the elements
 abbrev pub Updated : (Scope → Ty → Cored → Type 0) → Judged → Judged → Scope → Ty → Cored → Type 0
 Updated Vector b d scope ty c =
     (count : ℕ) × (item : Ty) × (of : Ty) × (vector : Cored) × (place : Cored) × (new_item : Cored) × (ty ≡ VectorTy count item)
     × Vector scope ty vector × b.has scope of place × (is_number_type of ≡ true) × d.checked scope item new_item
-    × (c ≡ update_core count vector place new_item)
+    × (c ≡ update_core ty of vector place new_item)
 
 -- `update a b d`
 abbrev pub update_typing : Judged → Judged → Judged → Judged
@@ -219,7 +218,7 @@ update_typing a b d = record { is_open = false; has = Updated a.has b d; checked
 abbrev pub cast_typing : Signatures → Judged → TyExp → Judged
 cast_typing signatures a type = closed (λ scope ty c.
     (of : Ty) × (part : Cored) × (written signatures.types type ≡ Some ty) × (is_number_type ty ≡ true) × a.has scope of part
-    × (is_number_type of ≡ true) × (c ≡ convert_core ty part))
+    × (is_number_type of ≡ true) × (c ≡ convert_core of ty part))
 
 -- a small name: a variable where it stands alone, else a function
 abbrev pub app_typing : Signatures → List ℕ → List Judged → Judged

@@ -1,21 +1,24 @@
 //! What types and cores keep.
-ghost use Rattle.std.specs.Prelude.{◌≡◌, ◌↔◌, ℕ, List, ◌∷◌, Bool, true, false, Option, Some, None};
+ghost use Rattle.std.specs.Prelude.{◌≡◌, ◌↔◌, ℕ, List, ◌∷◌, map, true, false, Some, None};
 ghost use Rattle.hume_base.specs.declared.types.Ty.{Ty};
 ghost use Rattle.hume_ast.specs.declared.tree.TyExp.{TyExp};
 ghost use Rattle.hume_ast.specs.declared.tree.Pat.{Pat};
 ghost use Rattle.hume_ast.specs.declared.tree.Exp.{Exp};
 ghost use Rattle.hume_ast.specs.declared.tree.Decl.{Decl};
 ghost use Rattle.hume_model.specs.declared.core_tree.PatC.{PatC};
-ghost use Rattle.hume_model.specs.declared.core_tree.Expr.{Expr};
-ghost use Rattle.hume_model.specs.declared.core_tree.Res.{Res};
 ghost use Rattle.hume_model.specs.declared.core_tree.FunC.{FunC};
-ghost use Rattle.hume_model.specs.declared.core_tree.RuleC.{RuleC};
-ghost use Rattle.hume_model.specs.declared.core_tree.HandC.{HandC};
 ghost use Rattle.hume_model.specs.declared.core_tree.BoxC.{BoxC};
 ghost use Rattle.hume_model.specs.declared.core_tree.Core.{Core};
-ghost use Rattle.hume_model.specs.Typing.{IsPattern, HasType, EquationsHave};
-ghost use Rattle.hume_model.specs.ResultTyping.{GivesOutputs};
-ghost use Rattle.hume_model.specs.BoxTyping.{port_types, PositionsHave, RuleIsTyped, HandlerIsTyped, BoxIsTyped};
+ghost use Rattle.hume_model.specs.Typing.{IsPattern};
+ghost use Rattle.hume_model.specs.BoxTyping.{port_types, PositionsHave, BoxIsTyped};
+ghost use Rattle.typed_core.specs.declared.typed_tree.TypedExpr.{TypedExpr};
+ghost use Rattle.typed_core.specs.declared.typed_tree.TypedResult.{TypedResult};
+ghost use Rattle.typed_core.specs.declared.typed_tree.TypedRule.{TypedRule};
+ghost use Rattle.typed_core.specs.declared.typed_tree.TypedHandler.{TypedHandler};
+ghost use Rattle.typed_core.specs.Declarations.{AreEquationsOf, EquationsAreTyped, TypedHandlerFits, TypedRuleFits};
+ghost use Rattle.typed_core.specs.Erasing.{erased_equation, erased_handler, erased_rule};
+ghost use Rattle.typed_core.specs.ResultTyping.{ResultIsTyped};
+ghost use Rattle.typed_core.specs.Typing.{IsTyped as TreeIsTyped};
 ghost use Rattle.check_typing.specs.CoreSignatures.{scope_types, IsOfSignature, HasSignatures};
 ghost use Rattle.check_typing.specs.Patterns.{CoredPosition, pattern, positions};
 ghost use Rattle.check_typing.specs.Signatures.{Scope};
@@ -25,7 +28,7 @@ ghost use Rattle.check_typing.specs.Results.{CoredRes, IsResult};
 ghost use Rattle.check_typing.specs.Declarations.{InPlaces, some_so, cores_alone, signature_written, ports_written};
 ghost use Rattle.check_typing.specs.Declarations.{WrittenEquation, CoredEquation, IsEquation};
 ghost use Rattle.check_typing.specs.Declarations.{WrittenRule, CoredRule, IsRule, WrittenHandler, CoredHandler, IsHandler};
-ghost use Rattle.check_typing.specs.Declarations.{IsFunction, IsBox, IsTyped, HasNoType, HasWideLiteral};
+ghost use Rattle.check_typing.specs.Declarations.{IsFunction, IsBox, CoredDeclaration, IsTyped, HasNoType};
 ghost use Rattle.check_typing.specs.inner.Walk.{walk};
 ghost use Rattle.check_typing.specs.inner.ResultWalk.{result_walk};
 ghost use Rattle.check_typing.specs.inner.DeclarationWalk.{equation_walk, rule_walk, handler_walk, function_walk, box_walk, declaration_walk};
@@ -52,7 +55,7 @@ pub fn typing_is_unique()
     ensures boxes { (s : Signatures) (ins outs : List (List ℕ × TyExp)) (rs : List WrittenRule) (hs : List WrittenHandler)
         (cs ds : List CoredRule) (es fs : List CoredHandler)
         → IsBox s ins outs rs hs cs es → IsBox s ins outs rs hs ds fs → (cs ≡ ds) × (es ≡ fs) }
-    ensures declaration { (s : Signatures) (decl : Decl) (a b : Bool) → IsTyped s decl a → IsTyped s decl b → a ≡ b }
+    ensures declaration { (s : Signatures) (decl : Decl) (c d : CoredDeclaration) → IsTyped s decl c → IsTyped s decl d → c ≡ d }
 {}
 
 /// What an expression has by itself it may be checked against, with the same core.
@@ -92,22 +95,20 @@ pub fn declaration_walk_is_typing()
     ensures boxes { (s : Signatures) (ins outs : List (List ℕ × TyExp)) (rs : List WrittenRule) (hs : List WrittenHandler) (cs : List CoredRule)
         (ds : List CoredHandler)
         → IsBox s ins outs rs hs cs ds ↔ (box_walk s ins outs rs hs ≡ Some (cs, ds)) }
-    ensures typed { (s : Signatures) (decl : Decl) (too_wide : Bool)
-        → IsTyped s decl too_wide ↔ (declaration_walk s decl ≡ Some too_wide) }
-    ensures too_wide { (s : Signatures) (decl : Decl)
-        → HasWideLiteral s decl ↔ (declaration_walk s decl ≡ Some true) }
+    ensures typed { (s : Signatures) (decl : Decl) (c : CoredDeclaration)
+        → IsTyped s decl c ↔ (declaration_walk s decl ≡ Some c) }
     ensures untyped { (s : Signatures) (decl : Decl) → HasNoType s decl ↔ (declaration_walk s decl ≡ None) }
 {}
 
-/// Where no literal is out of the range of its type, the cores of expressions and results have their types in each core that
-/// has the signatures.
+/// Where no literal is out of the range of its type, the typed cores of expressions and results have their types in each core
+/// that has the signatures.
 pub fn cores_are_typed()
-    ensures by_itself { (s : Signatures) (core : Core) (scope : Scope) (e : Exp) (t : Ty) (c : Expr)
-        → HasSignatures s core → HasByItself s scope e t (c, false) → HasType core (scope_types scope) c t }
-    ensures against { (s : Signatures) (core : Core) (scope : Scope) (e : Exp) (t : Ty) (c : Expr)
-        → HasSignatures s core → IsCheckedAgainst s scope e t (c, false) → HasType core (scope_types scope) c t }
-    ensures result { (s : Signatures) (core : Core) (scope : Scope) (e : Exp) (tys : List Ty) (c : Res)
-        → HasSignatures s core → IsResult s scope e tys (c, false) → GivesOutputs core tys (scope_types scope) c }
+    ensures by_itself { (s : Signatures) (core : Core) (scope : Scope) (e : Exp) (t : Ty) (c : TypedExpr)
+        → HasSignatures s core → HasByItself s scope e t (c, false) → TreeIsTyped core (scope_types scope) c t }
+    ensures against { (s : Signatures) (core : Core) (scope : Scope) (e : Exp) (t : Ty) (c : TypedExpr)
+        → HasSignatures s core → IsCheckedAgainst s scope e t (c, false) → TreeIsTyped core (scope_types scope) c t }
+    ensures result { (s : Signatures) (core : Core) (scope : Scope) (e : Exp) (tys : List Ty) (c : TypedResult)
+        → HasSignatures s core → IsResult s scope e tys (c, false) → ResultIsTyped core tys (scope_types scope) c }
 {}
 
 /// So it is with patterns, positions, equations, rules and handlers.
@@ -118,23 +119,23 @@ pub fn parts_are_typed()
         → positions s ps ins ≡ Some (vars, cs) → some_so cs ≡ false → PositionsHave s.types ins (cores_alone cs) (scope_types vars) }
     ensures equations { (s : Signatures) (core : Core) (f : Signature) (function : FunC) (es : List WrittenEquation) (cs : List CoredEquation)
         → HasSignatures s core → IsOfSignature f function → InPlaces (IsEquation s f) es cs → some_so cs ≡ false
-        → EquationsHave core function (cores_alone cs) }
-    ensures rule { (s : Signatures) (core : Core) (b : BoxC) (r : WrittenRule) (c : RuleC)
-        → HasSignatures s core → IsRule s (port_types b.ins) (port_types b.outs) r (c, false) → RuleIsTyped core b c }
-    ensures handler { (s : Signatures) (core : Core) (b : BoxC) (h : WrittenHandler) (c : HandC)
-        → HasSignatures s core → IsHandler s (port_types b.outs) h (c, false) → HandlerIsTyped core b c }
+        → EquationsAreTyped core function.params function.gives (cores_alone cs) }
+    ensures rule { (s : Signatures) (core : Core) (b : BoxC) (r : WrittenRule) (c : TypedRule)
+        → HasSignatures s core → IsRule s (port_types b.ins) (port_types b.outs) r (c, false) → TypedRuleFits core b c }
+    ensures handler { (s : Signatures) (core : Core) (b : BoxC) (h : WrittenHandler) (c : TypedHandler)
+        → HasSignatures s core → IsHandler s (port_types b.outs) h (c, false) → TypedHandlerFits core b c }
 {}
 
-/// So it is with whole functions and boxes: where a core has the cores that belong to what is written, its function and its
-/// box are typed as `hume_model` says it.
+/// So it is with whole functions and boxes: where a core has what the trees of what is written erase to, these are typed
+/// equations of its function, and its box is typed as `hume_model` says it.
 pub fn declarations_are_typed()
     ensures function { (s : Signatures) (core : Core) (name : List ℕ) (tys : List TyExp) (es : List WrittenEquation) (cs : List CoredEquation)
         (f : Signature) (function : FunC)
         → HasSignatures s core → IsFunction s name tys es cs → some_so cs ≡ false → signature_written s.types name tys ≡ Some f
-        → IsOfSignature f function → function.equations ≡ cores_alone cs → EquationsHave core function function.equations }
+        → IsOfSignature f function → function.equations ≡ map erased_equation (cores_alone cs) → AreEquationsOf core function (cores_alone cs) }
     ensures boxes { (s : Signatures) (core : Core) (ins outs : List (List ℕ × TyExp)) (rs : List WrittenRule) (hs : List WrittenHandler)
         (cs : List CoredRule) (ds : List CoredHandler) (b : BoxC)
         → HasSignatures s core → IsBox s ins outs rs hs cs ds → some_so cs ≡ false → some_so ds ≡ false
         → ports_written s.types ins ≡ Some (port_types b.ins) → ports_written s.types outs ≡ Some (port_types b.outs)
-        → b.rules ≡ cores_alone cs → b.handlers ≡ cores_alone ds → BoxIsTyped core b }
+        → b.rules ≡ map erased_rule (cores_alone cs) → b.handlers ≡ map erased_handler (cores_alone ds) → BoxIsTyped core b }
 {}

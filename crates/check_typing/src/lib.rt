@@ -1,13 +1,14 @@
-//! Which expressions, patterns, results and declarations have which type, and which core belongs to them; definitions and laws,
-//! nothing runs.
+//! Which expressions, patterns, results and declarations have which type, and which typed core belongs to them; definitions and
+//! laws, nothing runs.
 //!
-//! `Typing.antt` says, form by form, which types an expression has and with which core; `Patterns.antt`, `Results.antt` and
+//! `Typing.antt` says, form by form, which types an expression has and with which typed core; `Patterns.antt`, `Results.antt` and
 //! `Declarations.antt` say it of patterns, of the results of rules and handlers, and of whole declarations.
 //!
 //! Proved: nothing has two types by itself, or two cores (`typing_is_unique`). What an expression has by itself it may be
 //! checked against (`own_type_is_accepted`), and an open one is checked against `int 32` (`open_is_int32`). The walk that code
 //! follows finds exactly these types and cores (`walk_is_typing`, `declaration_walk_is_typing`). Where no literal is out of
-//! range, cores are typed as the meaning requires (`cores_are_typed`, `parts_are_typed`, `declarations_are_typed`).
+//! range, typed cores have their types (`cores_are_typed`), and what they erase to is typed as the meaning requires
+//! (`parts_are_typed`, `declarations_are_typed`).
 //!
 //! It knows trees, types and cores. It doesn't know memory, names of boxes and streams, or how code finds a type.
 #![tactic(auto)]

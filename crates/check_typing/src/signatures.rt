@@ -1,12 +1,12 @@
 //! What expressions may use.
-use hume_base::{List, Text, Ty, Types};
+use hume_base::{List, Shared, Text, Ty, Types};
 use hume_model::ExnDef;
 
 /// A function, with the types of its parameters and of what it gives.
 #[derive(Drop)]
 pub struct Signature {
     pub name: Text,
-    pub params: List<Ty>,
+    pub params: List<Shared<Ty>>,
     pub gives: Ty,
 }
 

@@ -1,8 +1,8 @@
 //! Copies of values and types, and whether two types are the same.
 ghost use Rattle.std.specs.Prelude.{◌≡◌, ◌↔◌, IsTrue, IfOk};
 
-use crate::boxed::Box;
 use crate::list::List;
+use crate::shared::Shared;
 use crate::types::{Ty, Value};
 use std::alloc::{AllocError, Global};
 
@@ -29,7 +29,7 @@ pub fn copy_values(alloc: Global, values: &[Value]) -> Result<List<Value>, Alloc
     Ok(copies)
 }
 
-#[cycle(copy_ty)]
+/// A type whose parts are shared with `ty`, so that only one level is copied.
 pub fn copy_ty(alloc: Global, ty: &Ty) -> Result<Ty, AllocError>
     ensures { IfOk result (λ copy. copy ≡ ty.now) }
 {
@@ -38,15 +38,13 @@ pub fn copy_ty(alloc: Global, ty: &Ty) -> Result<Ty, AllocError>
         Ty::Char => Ok(Ty::Char),
         Ty::Int(bits) => Ok(Ty::Int(*bits)),
         Ty::Nat(bits) => Ok(Ty::Nat(*bits)),
-        Ty::Tuple(parts) => Ok(Ty::Tuple(copy_tys(alloc, parts.as_slice())?)),
-        Ty::Vector(count, item) => {
-            Ok(Ty::Vector(*count, Box::new(alloc, copy_ty(alloc, item)?)?))
-        }
+        Ty::Tuple(parts) => Ok(Ty::Tuple(share_tys(alloc, parts.as_slice())?)),
+        Ty::Vector(count, item) => Ok(Ty::Vector(*count, item.share()?)),
         Ty::Named(number) => Ok(Ty::Named(*number)),
     }
 }
 
-#[cycle(copy_ty)]
+/// Copies of types, each of one level.
 pub fn copy_tys(alloc: Global, tys: &[Ty]) -> Result<List<Ty>, AllocError>
     ensures { IfOk result (λ copies. copies ≡ tys.now) }
 {
@@ -55,6 +53,17 @@ pub fn copy_tys(alloc: Global, tys: &[Ty]) -> Result<List<Ty>, AllocError>
         copies.push(copy_ty(alloc, ty)?)?;
     }
     Ok(copies)
+}
+
+/// The same types, each shared.
+pub fn share_tys(alloc: Global, tys: &[Shared<Ty>]) -> Result<List<Shared<Ty>>, AllocError>
+    ensures { IfOk result (λ shared. shared ≡ tys.now) }
+{
+    let mut shared = List::new(alloc);
+    for ty in tys {
+        shared.push(ty.share()?)?;
+    }
+    Ok(shared)
 }
 
 /// Whether two types are the same. A derived `==` would say nothing to a caller's proof.
@@ -75,7 +84,7 @@ pub fn same_ty(left: &Ty, right: &Ty) -> bool
 }
 
 #[cycle(same_ty)]
-fn same_tys(lefts: &[Ty], rights: &[Ty]) -> bool
+fn same_tys(lefts: &[Shared<Ty>], rights: &[Shared<Ty>]) -> bool
     ensures { IsTrue result ↔ (lefts.now ≡ rights.now) }
 {
     if lefts.len() != rights.len() {

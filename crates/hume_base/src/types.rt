@@ -1,6 +1,6 @@
 //! Types and values.
-use crate::boxed::Box;
 use crate::list::List;
+use crate::shared::Shared;
 use crate::text::Text;
 
 /// A type.
@@ -12,9 +12,9 @@ pub enum Ty {
     Int(u8),
     /// Whole numbers of so many bits from 0 on.
     Nat(u8),
-    Tuple(List<Ty>),
+    Tuple(List<Shared<Ty>>),
     /// So many elements of one type.
-    Vector(u32, Box<Ty>),
+    Vector(u32, Shared<Ty>),
     /// A data type, by its number.
     Named(u32),
 }
@@ -34,7 +34,7 @@ pub enum Value {
 #[derive(Drop)]
 pub struct ConDef {
     pub name: Text,
-    pub fields: List<Ty>,
+    pub fields: List<Shared<Ty>>,
 }
 
 /// A data type.

@@ -1,21 +1,11 @@
--- A core of its parts, and why a program that breaks no rule has all of them.
-use Rattle.std.proofs.Common.{◌≡◌, ℕ, List, None, refl, ap, sym, subst}
-use Rattle.hume_base.specs.declared.rule.Rule.TheVariants.{C40}
-use Rattle.hume_base.specs.declared.types.Types.{Types}
+-- A core of its parts.
+use Rattle.std.proofs.Common.{◌≡◌, ℕ, List, refl, sym, subst}
 use Rattle.hume_ast.specs.declared.tree.Program.{Program}
-use Rattle.hume_model.specs.declared.core_tree.ExnDef.{ExnDef}
-use Rattle.hume_model.specs.declared.core_tree.FunC.{FunC}
-use Rattle.hume_model.specs.declared.core_tree.NodeC.{NodeC}
-use Rattle.hume_model.specs.declared.core_tree.WireC.{WireC}
-use Rattle.hume_model.specs.declared.core_tree.Core.{Core}
 use Rattle.check_typing.specs.Declarations.{InPlaces}
 use Rattle.check_typing.specs.declared.signatures.Signatures.{Signatures}
-use Rattle.check_rules.specs.Declared.{Decls, function_of, in_order}
+use Rattle.check_rules.specs.Declared.{function_of, in_order}
 use Rattle.check_rules.specs.SignaturesOf.{AreSignatures}
-use Rattle.check_rules.specs.CheckRules as rules
-use Rattle.check_rules.specs.CheckRules.{IsFine}
 use Rattle.check_rules.specs.CoreOf.{IsFunctionOf, IsCoreOf}
-use Rattle.hume_check.specs.nodes.Untyped.{HasUntyped}
 use Rattle.hume_check.specs.inner.Parts.{AreParts}
 use Rattle.hume_check.specs.declared.assembly.Parts.{Parts}
 
@@ -31,9 +21,3 @@ assembled text program s order parts are same h = record {
   nodes = h.nodes;
   wires = h.wires;
 }
-
--- a program that breaks no rule has no declaration in which something has no type
-pub all_typed : (decls : Decls) (s : Signatures) → IsFine decls → AreSignatures decls s → HasUntyped s decls → ⊥
-all_typed decls s fine are h =
-    fine (record { rule = C40; declaration = h.number })
-    (rules.types (rules.untyped (refl, record { signatures = s; are = are; decl = h.decl; there = h.there; none = h.none })))

@@ -1,4 +1,5 @@
 pub mod Phases
+pub mod TreesOr
 pub mod Assembling
 pub mod fine_lemmas
 pub mod nodes_lemmas

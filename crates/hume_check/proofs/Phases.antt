@@ -1,7 +1,6 @@
 -- The least rule of each phase, and of all phases.
-use Rattle.std.proofs.Common.{◌≡◌, ℕ, ◌<◌, ◌⊎◌, inl, inr, Option, Some, None, refl, ap, sym, ◌∙◌, arith}
-use Rattle.hume_base.specs.declared.rule.Rule.{Rule}
-use Rattle.hume_base.specs.declared.rule.Rule.TheVariants.{C40, C41, C42, C43, C44, C45, C72, C73, C74}
+use Rattle.std.proofs.Common.{◌≡◌, ℕ, ◌<◌, ◌⊎◌, inl, inr, Option, Some, None, ap, arith}
+use Rattle.hume_base.specs.declared.rule.Rule.TheVariants.{C42, C43, C44, C45, C72, C73, C74}
 use Rattle.hume_base.specs.declared.finding.Finding.{Finding}
 use Rattle.hume_base.specs.Rules.{phase_of}
 use Rattle.hume_base.specs.Least.{IsLeast, IsFirst, OfRule, finding_of, earlier_of}

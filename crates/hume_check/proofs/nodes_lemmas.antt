@@ -3,3 +3,4 @@ pub mod FunctionLaws
 pub mod Gathered
 pub mod NodeLaws
 pub mod PortLaws
+pub mod TreeLaws

@@ -1,2 +1,1 @@
-pub mod Untyped
 pub mod inner

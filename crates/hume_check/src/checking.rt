@@ -9,11 +9,13 @@ ghost use Rattle.check_rules.specs.SignaturesOf.{AreSignatures};
 ghost use Rattle.check_rules.specs.CheckRules.{BreaksCounts, BreaksCheck};
 ghost use Rattle.check_rules.specs.CoreOf.{IsCoreOf};
 ghost use Rattle.hume_check.specs.Refused.{IsUnchecked};
+ghost use Rattle.hume_check.specs.inner.Parts.{AreParts};
 
-use crate::assembly::core_of;
+use crate::assembly::{Parts, core_of, parts_of};
 use crate::counts::least_in_names_or_counts;
-use crate::limits::least_in_types_or_limits;
+use crate::limits::trees_or_least;
 use crate::refused::refusal;
+use check_scopes::signatures::SignatureTable;
 use check_signatures::{Ordered, signatures_of};
 use hume_ast::Program;
 use hume_base::lines::LineTable;
@@ -93,8 +95,44 @@ fn check_ordered(
     ensures core { IfOk result (IsCoreOf lines.now program.now) }
     ensures error { IfErr result (IsUnchecked lines.now program.now.decls) }
 {
-    match least_in_types_or_limits(alloc, program, &ordered.signatures)? {
-        Some(finding) => Err(refused(lines, program, finding)),
-        None => Ok(core_of(alloc, lines, program, ordered)?),
+    let parts = parts_checked(alloc, program, lines, &ordered)?;
+    Ok(core_of(ordered.signatures, parts))
+}
+
+// The parts of the core, made with the one table of the signatures.
+fn parts_checked(
+    alloc: Global,
+    program: &Program,
+    lines: &LineTable,
+    ordered: &Ordered,
+) -> Result<Parts, CheckError>
+    requires few { length program.now.decls < 2 ^ 32 }
+    requires named { IsLeast (λ (f : BrokenRule). BreaksNames program.now.decls f ⊎ BreaksCounts program.now.decls f) None }
+    requires are { (are : AreSignatures program.now.decls ordered.now.signatures) × (are.funs.order ≡ ordered.now.functions) }
+    ensures fine { OnOk result (IsLeast (BreaksCheck program.now.decls) None) }
+    ensures parts { IfOk result (AreParts lines.now program.now.decls ordered.now.functions ordered.now.signatures) }
+    ensures error { IfErr result (IsUnchecked lines.now program.now.decls) }
+{
+    let table = SignatureTable::make(alloc, &ordered.signatures)?;
+    parts_by_table(alloc, program, lines, ordered.functions.as_slice(), &table)
+}
+
+fn parts_by_table(
+    alloc: Global,
+    program: &Program,
+    lines: &LineTable,
+    order: &[u32],
+    table: &SignatureTable,
+) -> Result<Parts, CheckError>
+    requires few { length program.now.decls < 2 ^ 32 }
+    requires named { IsLeast (λ (f : BrokenRule). BreaksNames program.now.decls f ⊎ BreaksCounts program.now.decls f) None }
+    requires are { (are : AreSignatures program.now.decls table.now) × (are.funs.order ≡ order.now) }
+    ensures fine { OnOk result (IsLeast (BreaksCheck program.now.decls) None) }
+    ensures parts { IfOk result (AreParts lines.now program.now.decls order.now table.now) }
+    ensures error { IfErr result (IsUnchecked lines.now program.now.decls) }
+{
+    match trees_or_least(alloc, program, table)? {
+        Ok(trees) => Ok(parts_of(alloc, lines, program, order, table, trees.as_slice())?),
+        Err(finding) => Err(refused(lines, program, finding)),
     }
 }

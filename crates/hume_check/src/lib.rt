@@ -15,7 +15,7 @@ mod checking;
 mod counts;
 pub mod fine;
 mod limits;
-pub mod nodes;
+mod nodes;
 mod refused;
 mod types;
 

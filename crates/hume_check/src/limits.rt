@@ -4,30 +4,31 @@ ghost use Rattle.hume_base.specs.declared.finding.Finding.{Finding as BrokenRule
 ghost use Rattle.hume_base.specs.Least.{IsLeast};
 ghost use Rattle.check_rules.specs.SignaturesOf.{AreSignatures};
 ghost use Rattle.check_rules.specs.CheckRules.{BreaksTypes, BreaksLimits};
+ghost use Rattle.hume_check.specs.inner.Trees.{HaveTreesOr};
 
-use crate::types::least_in_types;
+use crate::types::{trees_or_least_in_types, trees_unless};
 use check_counts::first_past_limits;
 use check_scopes::signatures::SignatureTable;
 use check_sizes::{first_large_type, first_past_words};
-use check_typing::Signatures;
 use hume_ast::Program;
-use hume_base::{Finding, Rule, earlier};
+use hume_base::{Finding, List, Rule, earlier};
 use std::alloc::{AllocError, Global};
+use typed_core::TypedDeclaration;
 
-/// The least rule on types or limits that the program breaks.
-pub(crate) fn least_in_types_or_limits(
+/// The trees of the program's declarations, or the least rule on types or limits that it breaks.
+pub(crate) fn trees_or_least(
     alloc: Global,
     program: &Program,
-    signatures: &Signatures,
-) -> Result<Option<Finding>, AllocError>
+    table: &SignatureTable,
+) -> Result<Result<List<TypedDeclaration>, Finding>, AllocError>
     requires few { length program.now.decls < 2 ^ 32 }
-    requires are { AreSignatures program.now.decls signatures.now }
-    ensures { IfOk result (IsLeast (λ (f : BrokenRule). BreaksTypes program.now.decls f ⊎ BreaksLimits program.now.decls f)) }
+    requires are { AreSignatures program.now.decls table.now }
+    ensures { IfOk result (HaveTreesOr
+        (λ (f : BrokenRule). BreaksTypes program.now.decls f ⊎ BreaksLimits program.now.decls f) table.now program.now.decls) }
 {
-    let table = SignatureTable::make(alloc, signatures)?;
-    match least_in_types(alloc, program.decls.as_slice(), signatures, &table)? {
-        Some(finding) => Ok(Some(finding)),
-        None => least_in_limits(alloc, program, &table),
+    match trees_or_least_in_types(alloc, program.decls.as_slice(), table)? {
+        Ok(trees) => Ok(trees_unless(trees, least_in_limits(alloc, program, table)?)),
+        Err(finding) => Ok(Err(finding)),
     }
 }
 

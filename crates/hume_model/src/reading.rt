@@ -5,7 +5,7 @@ ghost use Rattle.hume_base.specs.Sizes.{HaveTheirSizes};
 ghost use Rattle.hume_model.specs.Reading.{AreWordsOf, HaveReadableSizes};
 ghost use Rattle.hume_model.specs.Readers.{Reader, read_with, read_named, read_several, read_con, read_word};
 
-use hume_base::{List, SumDef, Ty, Types, Value};
+use hume_base::{List, Shared, SumDef, Ty, Types, Value};
 use std::alloc::{AllocError, Global};
 
 /// The value of a type with these flat words.
@@ -55,7 +55,7 @@ fn read_parts<'a>(
     alloc: Global,
     types: &Types,
     bound: usize,
-    tys: &[Ty],
+    tys: &[Shared<Ty>],
     words: &'a [u64],
 ) -> Result<(List<Value>, &'a [u64]), AllocError>
     ensures { IfOk result (λ read. (read.0, read.1.now) ≡ read_several (map (read_with (read_named types.now bound)) tys.now) words.now) }

@@ -68,6 +68,10 @@ closed-text r₀ r₁ r₂ old opening first inside last closing all s₁ s₂ e
 pub drop-item : {X : Type 0} (xs : List X) (at : ℕ) (x : X) → at < length xs → x ≡ get_or xs at x → drop at xs ≡ x ∷ drop (at + 1) xs
 drop-item xs at x below is = rw (add-one) (drop-cons xs at x below ∙ ap (λ y. y ∷ drop (suc at) xs) (sym is))
 
+-- so it does with what is seen of that
+pub drop-seen : {X : Type 0} (xs : List X) (at : ℕ) (x y : X) → at < length xs → y ≡ x → x ≡ get_or xs at x → drop at xs ≡ y ∷ drop (at + 1) xs
+drop-seen xs at x y below seen is = drop-item xs at x below is ∙ ap (λ z. z ∷ drop (at + 1) xs) (sym seen)
+
 one_more : {X : Type 0} (count place : ℕ) (x : X) → place < count
     → replicate {A = X} (count - place) x ≡ x ∷ replicate {A = X} (count - (place + 1)) x
 one_more {X} count place x below = let step : count - place ≡ suc (count - (place + 1)) = omega arith in rw step refl

@@ -10,7 +10,7 @@ ghost use Rattle.hume_text.specs.inner.Printers.{Printer, print_with, print_name
 
 use crate::chunk::Chunk;
 use crate::scalars::{print_bool, print_int, print_letter, print_nat};
-use hume_base::{SumDef, Ty, Types};
+use hume_base::{Shared, SumDef, Ty, Types};
 
 /// Appends the text of the value of a type that has these flat words. It takes no memory.
 pub fn print_value(types: &Types, ty: &Ty, words: &[u64], chunk: &mut Chunk)
@@ -55,7 +55,7 @@ pub(crate) fn print_front<'a>(
 fn print_tuple<'a>(
     types: &Types,
     bound: usize,
-    tys: &[Ty],
+    tys: &[Shared<Ty>],
     words: &'a [u64],
     chunk: &mut Chunk,
 ) -> &'a [u64]
@@ -163,7 +163,7 @@ fn print_constructor<'a>(
 fn print_fields<'a>(
     types: &Types,
     bound: usize,
-    tys: &[Ty],
+    tys: &[Shared<Ty>],
     words: &'a [u64],
     chunk: &mut Chunk,
 ) -> &'a [u64]

@@ -9,7 +9,7 @@ use crate::found::{
     take_open_vector, take_place,
 };
 use crate::print::is_compound;
-use hume_base::{SumDef, Ty, Types};
+use hume_base::{Shared, SumDef, Ty, Types};
 
 /// A word, if there is room for it.
 pub(crate) fn put_word<'a>(
@@ -115,7 +115,7 @@ pub(crate) fn read_front<'a>(
 fn read_tuple<'a>(
     types: &Types,
     bound: usize,
-    tys: &[Ty],
+    tys: &[Shared<Ty>],
     line: &'a [u8],
     into: &mut [u64],
     at: usize,
@@ -300,7 +300,7 @@ fn read_constructor<'a>(
 fn read_fields<'a>(
     types: &Types,
     bound: usize,
-    tys: &[Ty],
+    tys: &[Shared<Ty>],
     line: &'a [u8],
     into: &mut [u64],
     at: usize,

@@ -1,5 +1,5 @@
 //! The words that build the inputs of a rule.
-use hume_base::{ConDef, Ty, Types};
+use hume_base::{ConDef, Shared, Ty, Types};
 use hume_model::{InPat, PortC};
 use std::alloc::{AllocError, Global};
 
@@ -22,7 +22,7 @@ fn dearest_build(builds: &[u64], cons: &[ConDef]) -> u64 {
 }
 
 // An object and those of its parts.
-fn object_build(builds: &[u64], fields: &[Ty]) -> u64 {
+fn object_build(builds: &[u64], fields: &[Shared<Ty>]) -> u64 {
     all_builds(builds, fields)
         .saturating_add(fields.len() as u64)
         .saturating_add(1)
@@ -53,7 +53,7 @@ pub(crate) fn build(builds: &[u64], ty: &Ty) -> u64 {
 }
 
 #[cycle(build)]
-fn all_builds(builds: &[u64], tys: &[Ty]) -> u64 {
+fn all_builds(builds: &[u64], tys: &[Shared<Ty>]) -> u64 {
     let mut total: u64 = 0;
     for i in 0..tys.len() {
         total = total.saturating_add(build(builds, &tys[i]));

@@ -1,5 +1,5 @@
 //! Values that are known in part: what isn't known yet is chosen when a pattern asks for it, in each way in turn.
-use hume_base::{ConDef, SumDef, Ty, Types};
+use hume_base::{ConDef, Shared, SumDef, Ty, Types};
 use hume_model::PatC;
 use std::alloc::{AllocError, Global};
 
@@ -243,7 +243,7 @@ impl<'a> Guess<'a> {
 }
 
 /// The types of its own parts.
-pub(crate) fn part_types<'a>(types: &'a Types, part: &Part<'a>) -> &'a [Ty] {
+pub(crate) fn part_types<'a>(types: &'a Types, part: &Part<'a>) -> &'a [Shared<Ty>] {
     if let Ty::Tuple(parts) = part.ty {
         return parts.as_slice();
     }

@@ -2,7 +2,7 @@
 //! has such a constructor, and a literal has none.
 ghost use Rattle.std.specs.Prelude.{◌≤◌};
 
-use hume_base::{List, Ty, same_ty};
+use hume_base::{List, Shared, Ty, same_ty};
 use hume_model::{Core, Forms, PatC};
 use std::alloc::{AllocError, Global};
 
@@ -314,7 +314,7 @@ fn trees<'a>(
     let mut parts = List::new(alloc);
     for at in 0..count {
         let part = tree(alloc, scope, scope.part_of(tuple, at), room)?;
-        parts.push(part)?;
+        parts.push(Shared::new(alloc, part)?)?;
     }
     Ok(Ty::Tuple(parts))
 }

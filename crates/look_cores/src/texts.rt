@@ -3,7 +3,7 @@
 
 ghost use Rattle.look_sources.specs.Pages.{Grows};
 
-use hume_base::{ConDef, SumDef, Ty, Types, Value, int_of_word};
+use hume_base::{ConDef, Shared, SumDef, Ty, Types, Value, int_of_word};
 use look_sources::Page;
 
 /// Puts the type.
@@ -38,7 +38,7 @@ pub fn put_type(page: &mut Page, types: &Types, ty: &Ty)
 }
 
 #[cycle(put_type)]
-fn put_types(page: &mut Page, types: &Types, parts: &[Ty])
+fn put_types(page: &mut Page, types: &Types, parts: &[Shared<Ty>])
     ensures { Grows page.old page.new }
 {
     page.put(b"(");
@@ -76,7 +76,7 @@ pub(crate) fn put_value(page: &mut Page, types: &Types, ty: &Ty, value: &Value)
 }
 
 #[cycle(put_value)]
-fn put_values(page: &mut Page, types: &Types, tys: &[Ty], values: &[Value])
+fn put_values(page: &mut Page, types: &Types, tys: &[Shared<Ty>], values: &[Value])
     ensures { Grows page.old page.new }
 {
     for i in 0..tys.len().min(values.len()) {
@@ -96,7 +96,7 @@ fn put_items(page: &mut Page, types: &Types, ty: &Ty, values: &[Value])
 }
 
 #[cycle(put_value)]
-fn put_fields(page: &mut Page, types: &Types, tys: &[Ty], values: &[Value])
+fn put_fields(page: &mut Page, types: &Types, tys: &[Shared<Ty>], values: &[Value])
     ensures { Grows page.old page.new }
 {
     for i in 0..tys.len().min(values.len()) {
@@ -154,7 +154,7 @@ fn put_inner(page: &mut Page, byte: u8)
     }
 }
 
-fn tuple_types(ty: &Ty) -> &[Ty] {
+fn tuple_types(ty: &Ty) -> &[Shared<Ty>] {
     match ty {
         Ty::Tuple(parts) => parts.as_slice(),
         _ => &[],

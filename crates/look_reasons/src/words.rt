@@ -2,7 +2,7 @@
 ghost use Rattle.std.specs.Prelude.{◌≡◌, IfOk, length, vec_len};
 
 use crate::site::Site;
-use hume_base::{ConDef, Keyword, Kind, Symbol, Ty, Types};
+use hume_base::{ConDef, Keyword, Kind, Shared, Symbol, Ty, Types};
 use look_sources::{Sort, Span};
 use std::alloc::{AllocError, Global};
 
@@ -53,7 +53,7 @@ fn words_of_data(sums: &[u64], constructors: &[ConDef]) -> u64 {
 }
 
 #[cycle(words)]
-fn words_of_all(sums: &[u64], types: &[Ty]) -> u64 {
+fn words_of_all(sums: &[u64], types: &[Shared<Ty>]) -> u64 {
     let mut total: u64 = 0;
     for i in 0..types.len() {
         total = total.saturating_add(words_of(sums, &types[i]));

@@ -218,3 +218,7 @@ pub part_at : (builder : Ty → Builder) (tys : List Ty) (i : ℕ) (ty : Ty) →
 part_at builder [] i ty less is = absurd (omega (arith, less))
 part_at builder (t ∷ ts) zero ty less is = ap (λ x. Some (builder x)) (sym is)
 part_at builder (t ∷ ts) (suc i) ty less is = part_at builder ts i ty (omega (arith, less)) is
+
+-- an item that is seen through a pointer
+pub seen_at : (tys : List Ty) (i : ℕ) (ty seen : Ty) → seen ≡ ty → ty ≡ get_or tys i ty → seen ≡ get_or tys i seen
+seen_at tys i ty seen same is = subst (λ t. t ≡ get_or tys i t) (sym same) is

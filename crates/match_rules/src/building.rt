@@ -3,7 +3,7 @@ ghost use Rattle.std.specs.Prelude.{◌≡◌, ◌+◌, ◌≤◌, length, map};
 ghost use Rattle.match_rules.specs.inner.Builders.{build_word, build_object, build_vector, build_con, build_with, build_named, grown};
 
 use box_heap::BoxHeap;
-use hume_base::{SumDef, Ty, Types};
+use hume_base::{Shared, SumDef, Ty, Types};
 
 /// Builds the value of a type at the front of the words, and answers the word that stands for it, where only data types of numbers
 /// below the bound are built. A value of one word is read without a call.
@@ -81,7 +81,7 @@ fn build_parts<'a>(
     types: &Types,
     bound: usize,
     tag: u32,
-    tys: &[Ty],
+    tys: &[Shared<Ty>],
     words: &'a [u64],
     heap: &mut BoxHeap,
 ) -> (u64, &'a [u64])

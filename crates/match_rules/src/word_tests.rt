@@ -4,7 +4,7 @@ ghost use Rattle.hume_base.specs.declared.types.Ty.{out-Ty};
 ghost use Rattle.hume_base.specs.Sizes.{HaveTheirSizes};
 ghost use Rattle.match_rules.specs.inner.WordTests.{word_test, tests_pass, begins_with, con_fields, tuple_parts};
 
-use hume_base::{Ty, Types, size};
+use hume_base::{Shared, Ty, Types, size};
 use hume_model::PatC;
 
 /// Whether the value of a type that has the words at the front matches a pattern.
@@ -33,7 +33,7 @@ pub(crate) fn words_match(types: &Types, pattern: &PatC, ty: &Ty, words: &[u64])
 
 #[cycle(matching)]
 #[tactic(auto, using(crate::proofs::Tests::test_steps))]
-fn parts_match(types: &Types, patterns: &[PatC], tys: &[Ty], words: &[u64]) -> bool
+fn parts_match(types: &Types, patterns: &[PatC], tys: &[Shared<Ty>], words: &[u64]) -> bool
     requires { HaveTheirSizes types.now }
     ensures { result ≡ tests_pass types.now (map (word_test types.now) patterns.now) tys.now words.now }
 {
@@ -60,7 +60,7 @@ fn begins_with(word: u64, words: &[u64]) -> bool
 }
 
 // The types of the fields of a type's constructor; none where there are no such.
-fn con_fields<'a>(types: &'a Types, ty: &Ty, place: u32) -> &'a [Ty]
+fn con_fields<'a>(types: &'a Types, ty: &Ty, place: u32) -> &'a [Shared<Ty>]
     ensures { result.now ≡ con_fields types.now (out-Ty ty.now) place }
 {
     let Ty::Named(number) = ty else {
@@ -75,7 +75,7 @@ fn con_fields<'a>(types: &'a Types, ty: &Ty, place: u32) -> &'a [Ty]
     }
 }
 
-fn tuple_parts(ty: &Ty) -> &[Ty]
+fn tuple_parts(ty: &Ty) -> &[Shared<Ty>]
     ensures { result.now ≡ tuple_parts (out-Ty ty.now) }
 {
     match ty {

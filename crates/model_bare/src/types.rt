@@ -1,7 +1,7 @@
 //! Copies of data types and exceptions.
 ghost use Rattle.std.specs.Prelude.{◌≡◌, IfOk};
 
-use hume_base::{ConDef, List, SumDef, Ty, Types, copy_ty, copy_tys};
+use hume_base::{ConDef, List, SumDef, Ty, Types, copy_ty, share_tys};
 use hume_model::ExnDef;
 use std::alloc::{AllocError, Global};
 
@@ -48,7 +48,7 @@ fn copy_con(alloc: Global, con: &ConDef) -> Result<ConDef, AllocError>
 {
     Ok(ConDef {
         name: con.name.copy()?,
-        fields: copy_tys(alloc, con.fields.as_slice())?,
+        fields: share_tys(alloc, con.fields.as_slice())?,
     })
 }
 

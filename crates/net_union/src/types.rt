@@ -4,7 +4,7 @@ ghost use Rattle.std.specs.Option.{option_map};
 ghost use Rattle.union_laws.specs.Moving.{moved_con, moved_data, moved_exception, moved_forms, moved_type};
 
 use crate::numbers::raised;
-use hume_base::{Box, ConDef, List, SumDef, Ty};
+use hume_base::{ConDef, List, Shared, SumDef, Ty};
 use hume_model::{ExnDef, Forms};
 use std::alloc::{AllocError, Global};
 use union_laws::Moves;
@@ -19,16 +19,32 @@ pub(crate) fn move_type(alloc: Global, moves: Moves, ty: &Ty) -> Result<Ty, Allo
         Ty::Char => Ok(Ty::Char),
         Ty::Int(bits) => Ok(Ty::Int(*bits)),
         Ty::Nat(bits) => Ok(Ty::Nat(*bits)),
-        Ty::Tuple(parts) => Ok(Ty::Tuple(move_types(alloc, moves, parts.as_slice())?)),
+        Ty::Tuple(parts) => Ok(Ty::Tuple(move_parts(alloc, moves, parts.as_slice())?)),
         Ty::Vector(count, item) => Ok(Ty::Vector(
             *count,
-            Box::new(alloc, move_type(alloc, moves, item)?)?,
+            Shared::new(alloc, move_type(alloc, moves, item)?)?,
         )),
         Ty::Named(number) => Ok(Ty::Named(raised(*number, moves.types)?)),
     }
 }
 
 #[cycle(move_type)]
+#[tactic(auto, using(crate::proofs::Moves::move_steps))]
+fn move_parts(
+    alloc: Global,
+    moves: Moves,
+    tys: &[Shared<Ty>],
+) -> Result<List<Shared<Ty>>, AllocError>
+    ensures { IfOk result (λ higher. higher ≡ map (moved_type moves) tys.now) }
+{
+    let mut higher = List::new(alloc);
+    for ty in tys {
+        let part = move_type(alloc, moves, ty)?;
+        higher.push(Shared::new(alloc, part)?)?;
+    }
+    Ok(higher)
+}
+
 #[tactic(auto, using(crate::proofs::Moves::move_steps))]
 pub(crate) fn move_types(alloc: Global, moves: Moves, tys: &[Ty]) -> Result<List<Ty>, AllocError>
     ensures { IfOk result (λ higher. higher ≡ map (moved_type moves) tys.now) }
@@ -90,7 +106,7 @@ fn move_con(alloc: Global, moves: Moves, con: &ConDef) -> Result<ConDef, AllocEr
 {
     Ok(ConDef {
         name: con.name.copy()?,
-        fields: move_types(alloc, moves, con.fields.as_slice())?,
+        fields: move_parts(alloc, moves, con.fields.as_slice())?,
     })
 }
 

@@ -6,7 +6,7 @@ ghost use Rattle.space_costs.specs.inner.Standing.{counted as counted_number, Ar
 
 use crate::combine::{counted, sum};
 use hume_base::limits::MAX_SPACE_WORDS;
-use hume_base::{ConDef, List, Ty, Types};
+use hume_base::{ConDef, List, Shared, Ty, Types};
 use std::alloc::{AllocError, Global};
 
 /// The words for each data type, counted once for each in the order of their numbers.
@@ -60,7 +60,7 @@ pub(crate) fn build(builds: &[u32], ty: &Ty) -> u32
 }
 
 #[cycle(builds)]
-fn all_builds(builds: &[u32], tys: &[Ty]) -> u32
+fn all_builds(builds: &[u32], tys: &[Shared<Ty>]) -> u32
     ensures { (named : ℕ → ℕ) → AreBuildsOf builds.now named → result ≡ counted_number (sum_of (map (build_with named) tys.now)) }
 {
     let mut total = 0;

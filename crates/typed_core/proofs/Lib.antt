@@ -1,4 +1,3 @@
-pub mod Shown
 pub mod Erased
 pub mod Typed
 pub mod TypedResults

@@ -1,6 +1,7 @@
 -- The parts of a typed expression have the types that their places give.
-use Rattle.std.proofs.Common.{◌≡◌, ℕ, zero, suc, List, [], ◌∷◌, ◌++◌, map, replicate, Some, None, slice_get, refl, ap, sym, ◌∙◌, subst}
-use Rattle.hume_base.specs.declared.types.Ty.{Ty, out-Ty}
+use Rattle.std.proofs.Common.{◌≡◌, ℕ, zero, suc, List, ◌++◌, map, replicate, Some, None, slice_get, refl, ap, sym, ◌∙◌, subst}
+use Rattle.hume_base.specs.declared.types.Ty.{Ty, out-Ty, out-roll-Ty}
+use Rattle.hume_base.specs.declared.types.Ty.TheOpen.{Ty-F}
 use Rattle.hume_base.specs.declared.types.Ty.TheVariants as shape
 use Rattle.hume_base.specs.declared.types.SumDef.{SumDef}
 use Rattle.hume_base.specs.declared.types.Types.{Types}
@@ -11,15 +12,20 @@ use Rattle.hume_model.specs.declared.core_tree.PatC.TheVariants as pat
 use Rattle.hume_model.specs.declared.core_tree.Core.{Core}
 use Rattle.hume_model.specs.declared.core_tree.Op.TheVariants.{Neg, Not}
 use Rattle.hume_model.specs.Typing.{ArePatterns, IsPattern}
-use Rattle.typed_core.specs.declared.table.Scalar.TheVariants as scalar
-use Rattle.typed_core.specs.declared.table.TypeNode.{TypeNode}
 use Rattle.typed_core.specs.declared.typed_tree.TypedExpr.{TypedExpr, out-roll-TypedExpr, roll-TypedExpr}
 use Rattle.typed_core.specs.declared.typed_tree.TypedExpr.TheOpen.{TypedExpr-F}
 use Rattle.typed_core.specs.declared.typed_tree.TypedExpr.TheVariants as typed
 use Rattle.typed_core.specs.Parts.{EachIsTyped, all_bound, arm_parts, bound_by, bound_step, carried_in, carried_of, fields_in, item_in, params_of, parts, parts_at, parts_in, parts_in_layer, parts_of_one, sum_fields}
-use Rattle.typed_core.specs.Table.{scalar_ty}
 use Rattle.typed_core.specs.Typing.{AreTyped, ArmsAreTyped, IsTyped}
-use Rattle.typed_core.proofs.Shown.{out-named, out-tuple, out-vector}
+
+out-tuple : (tys : List Ty) → out-Ty (shape.Tuple tys) ≡ Ty-F.Tuple tys
+out-tuple tys = ap out-Ty (sym (shape.rolls-Tuple tys)) ∙ out-roll-Ty (Ty-F.Tuple tys)
+
+out-vector : (count : ℕ) (item : Ty) → out-Ty (shape.Vector count item) ≡ Ty-F.Vector count item
+out-vector count item = ap out-Ty (sym (shape.rolls-Vector count item)) ∙ out-roll-Ty (Ty-F.Vector count item)
+
+out-named : (number : ℕ) → out-Ty (shape.Named number) ≡ Ty-F.Named number
+out-named number = ap out-Ty (sym (shape.rolls-Named number)) ∙ out-roll-Ty (Ty-F.Named number)
 
 fields_are : (types : Types) (number place : ℕ) (sum : SumDef) → slice_get types.sums number ≡ Some sum
     → fields_in types place (out-Ty (shape.Named number)) ≡ fields_at sum place
@@ -49,23 +55,23 @@ module _ (types : Types) where
     all_bound_is ArePatterns.none = refl
     all_bound_is (ArePatterns.one first rest) = λ i. bound_is first i ++ all_bound_is rest i
 
-module _ (core : Core) (table : List TypeNode) where
+module _ (core : Core) where
   abbrev Typed : List Ty → TypedExpr → Ty → Type 0
-  Typed = IsTyped core table
+  Typed = IsTyped core
 
   pub at_type : {vars : List Ty} {e : TypedExpr} {s t : Ty} → s ≡ t → Typed vars e t → Typed vars e s
   at_type {vars} {e} is of = subst (λ z. Typed vars e z) (sym is) of
 
-  each_at : {vars : List Ty} {es : List TypedExpr} {tys : List Ty} → AreTyped core table vars es tys → EachIsTyped core table (parts_at vars es tys)
+  each_at : {vars : List Ty} {es : List TypedExpr} {tys : List Ty} → AreTyped core vars es tys → EachIsTyped core (parts_at vars es tys)
   each_at AreTyped.none = tt
   each_at (AreTyped.one first rest) = (first, each_at rest)
 
-  each_at_types : {vars : List Ty} {es : List TypedExpr} {tys : List Ty} (others : List Ty) → others ≡ tys → AreTyped core table vars es tys
-      → EachIsTyped core table (parts_at vars es others)
-  each_at_types {vars} {es} others is are = subst (λ z. EachIsTyped core table (parts_at vars es z)) (sym is) (each_at are)
+  each_at_types : {vars : List Ty} {es : List TypedExpr} {tys : List Ty} (others : List Ty) → others ≡ tys → AreTyped core vars es tys
+      → EachIsTyped core (parts_at vars es others)
+  each_at_types {vars} {es} others is are = subst (λ z. EachIsTyped core (parts_at vars es z)) (sym is) (each_at are)
 
-  each_of_one : {vars : List Ty} {es : List TypedExpr} {tys : List Ty} (item : Ty) (count : ℕ) → AreTyped core table vars es tys
-      → tys ≡ replicate {A = Ty} count item → EachIsTyped core table (parts_of_one vars item es)
+  each_of_one : {vars : List Ty} {es : List TypedExpr} {tys : List Ty} (item : Ty) (count : ℕ) → AreTyped core vars es tys
+      → tys ≡ replicate {A = Ty} count item → EachIsTyped core (parts_of_one vars item es)
   each_of_one item count AreTyped.none is = tt
   each_of_one item zero (AreTyped.one first rest) is = cc
   each_of_one item (suc count) (AreTyped.one {ty = ty} {tys = tys} first rest) is =
@@ -73,20 +79,20 @@ module _ (core : Core) (table : List TypeNode) where
       let there : tys ≡ replicate {A = Ty} count item = cc in
       (at_type here first, each_of_one item count rest there)
 
-  each_arm : {vars : List Ty} {of ty : Ty} {arms : List (PatC × TypedExpr)} → ArmsAreTyped core table vars of arms ty
-      → EachIsTyped core table (arm_parts core.types vars of ty arms)
+  each_arm : {vars : List Ty} {of ty : Ty} {arms : List (PatC × TypedExpr)} → ArmsAreTyped core vars of arms ty
+      → EachIsTyped core (arm_parts core.types vars of ty arms)
   each_arm ArmsAreTyped.no_arm = tt
   each_arm {vars} {of} {ty} (ArmsAreTyped.one_arm {e = e} pattern body rest) =
       (subst (λ z. Typed (vars ++ z) e ty) (bound_is core.types pattern) body, each_arm rest)
 
   at_layer : (vars : List Ty) (ty : Ty) (x : TypedExpr-F TypedExpr) (e : TypedExpr) → roll-TypedExpr x ≡ e
-      → EachIsTyped core table (parts_in_layer core table vars ty x) → EachIsTyped core table (parts core table vars e ty)
+      → EachIsTyped core (parts_in_layer core vars ty x) → EachIsTyped core (parts core vars e ty)
   at_layer vars ty x e is each =
-      subst (λ z. EachIsTyped core table (parts core table vars z ty)) is
-      (subst (λ y. EachIsTyped core table (parts_in_layer core table vars ty y)) (sym (out-roll-TypedExpr x)) each)
+      subst (λ z. EachIsTyped core (parts core vars z ty)) is
+      (subst (λ y. EachIsTyped core (parts_in_layer core vars ty y)) (sym (out-roll-TypedExpr x)) each)
 
   -- each part has the type that its place gives
-  pub parts_typed : {vars : List Ty} {e : TypedExpr} {ty : Ty} → Typed vars e ty → EachIsTyped core table (parts core table vars e ty)
+  pub parts_typed : {vars : List Ty} {e : TypedExpr} {ty : Ty} → Typed vars e ty → EachIsTyped core (parts core vars e ty)
   parts_typed {vars} {ty = ty} (IsTyped.word w is) = at_layer vars ty (TypedExpr-F.Word w) (typed.Word w) (typed.rolls-Word w) tt
   parts_typed {vars} {ty = ty} (IsTyped.variable n is) = at_layer vars ty (TypedExpr-F.Var n) (typed.Var n) (typed.rolls-Var n) tt
   parts_typed {vars} (IsTyped.con number place sum {parts = es} known within are) =
@@ -97,31 +103,31 @@ module _ (core : Core) (table : List TypeNode) where
       (each_at_types (parts_in (out-Ty (shape.Tuple tys))) (ap parts_in (out-tuple tys)) are)
   parts_typed {vars} (IsTyped.vector count item {parts = es} are) =
       at_layer vars (shape.Vector count item) (TypedExpr-F.Vect es) (typed.Vect es) (typed.rolls-Vect es)
-      (subst (λ z. EachIsTyped core table (parts_of_one vars z es)) (sym (ap item_in (out-vector count item))) (each_of_one item count are refl))
+      (subst (λ z. EachIsTyped core (parts_of_one vars z es)) (sym (ap item_in (out-vector count item))) (each_of_one item count are refl))
   parts_typed {vars} (IsTyped.arithmetic op of {parts = es} is number are) =
-      at_layer vars (scalar_ty of) (TypedExpr-F.Prim op of es) (typed.Prim op of es) (typed.rolls-Prim op of es) (each_of_one (scalar_ty of) 2 are refl)
+      at_layer vars of (TypedExpr-F.Prim op of es) (typed.Prim op of es) (typed.rolls-Prim op of es) (each_of_one of 2 are refl)
   parts_typed {vars} (IsTyped.comparison op of {parts = es} is are) =
-      at_layer vars shape.Bool (TypedExpr-F.Prim op of es) (typed.Prim op of es) (typed.rolls-Prim op of es) (each_of_one (scalar_ty of) 2 are refl)
+      at_layer vars shape.Bool (TypedExpr-F.Prim op of es) (typed.Prim op of es) (typed.rolls-Prim op of es) (each_of_one of 2 are refl)
   parts_typed {vars} (IsTyped.negation of {parts = es} number are) =
-      at_layer vars (scalar_ty of) (TypedExpr-F.Prim Neg of es) (typed.Prim Neg of es) (typed.rolls-Prim Neg of es) (each_of_one (scalar_ty of) 1 are refl)
+      at_layer vars of (TypedExpr-F.Prim Neg of es) (typed.Prim Neg of es) (typed.rolls-Prim Neg of es) (each_of_one of 1 are refl)
   parts_typed {vars} (IsTyped.opposite {parts = es} are) =
-      at_layer vars shape.Bool (TypedExpr-F.Prim Not scalar.Bool es) (typed.Prim Not scalar.Bool es) (typed.rolls-Prim Not scalar.Bool es)
+      at_layer vars shape.Bool (TypedExpr-F.Prim Not shape.Bool es) (typed.Prim Not shape.Bool es) (typed.rolls-Prim Not shape.Bool es)
       (each_of_one shape.Bool 1 are refl)
   parts_typed {vars} (IsTyped.conversion from to {part = e} is are has) =
-      at_layer vars (scalar_ty to) (TypedExpr-F.Convert from to e) (typed.Convert from to e) (typed.rolls-Convert from to e) (has, tt)
-  parts_typed {vars} (IsTyped.index of count places item {vector = v} {place = k} known is vec place) =
-      at_layer vars item (TypedExpr-F.Index of places v k) (typed.Index of places v k) (typed.rolls-Index of places v k) (at_type known.is vec, (place, tt))
-  parts_typed {vars} (IsTyped.update of count places item {vector = v} {place = k} {new_item = e} known is vec place new_item) =
-      at_layer vars (shape.Vector count item) (TypedExpr-F.Update of places v k e) (typed.Update of places v k e) (typed.rolls-Update of places v k e)
+      at_layer vars to (TypedExpr-F.Convert from to e) (typed.Convert from to e) (typed.rolls-Convert from to e) (has, tt)
+  parts_typed {vars} (IsTyped.index count places item {vector = v} {place = k} is vec place) =
+      at_layer vars item (TypedExpr-F.Index (shape.Vector count item) places v k) (typed.Index (shape.Vector count item) places v k)
+      (typed.rolls-Index (shape.Vector count item) places v k) (vec, (place, tt))
+  parts_typed {vars} (IsTyped.update count places item {vector = v} {place = k} {new_item = e} is vec place new_item) =
+      at_layer vars (shape.Vector count item) (TypedExpr-F.Update (shape.Vector count item) places v k e) (typed.Update (shape.Vector count item) places v k e)
+      (typed.rolls-Update (shape.Vector count item) places v k e)
       (vec, (place, (at_type (ap item_in (out-vector count item)) new_item, tt)))
   parts_typed {vars} {ty = ty} (IsTyped.choice {test = t} {when_true = a} {when_false = b} test when_true when_false) =
       at_layer vars ty (TypedExpr-F.If t a b) (typed.If t a b) (typed.rolls-If t a b) (test, (when_true, (when_false, tt)))
-  parts_typed {vars} {ty = ty} (IsTyped.alternatives number of {part = e} {arms = ways} known has arms) =
-      at_layer vars ty (TypedExpr-F.Case number e ways) (typed.Case number e ways) (typed.rolls-Case number e ways)
-      (at_type known.is has, subst (λ z. EachIsTyped core table (arm_parts core.types vars z ty ways)) (sym known.is) (each_arm arms))
-  parts_typed {vars} {ty = ty} (IsTyped.binding number of {part = a} {body = b} known has body) =
-      at_layer vars ty (TypedExpr-F.Let number a b) (typed.Let number a b) (typed.rolls-Let number a b)
-      (at_type known.is has, (subst (λ z. Typed (vars ++ z ∷ []) b ty) (sym known.is) body, tt))
+  parts_typed {vars} {ty = ty} (IsTyped.alternatives of {part = e} {arms = ways} has arms) =
+      at_layer vars ty (TypedExpr-F.Case of e ways) (typed.Case of e ways) (typed.rolls-Case of e ways) (has, each_arm arms)
+  parts_typed {vars} {ty = ty} (IsTyped.binding of {part = a} {body = b} has body) =
+      at_layer vars ty (TypedExpr-F.Let of a b) (typed.Let of a b) (typed.rolls-Let of a b) (has, (body, tt))
   parts_typed {vars} (IsTyped.call number function {parts = es} known are) =
       at_layer vars function.gives (TypedExpr-F.Call number es) (typed.Call number es) (typed.rolls-Call number es)
       (each_at_types (params_of (slice_get core.funs number)) (ap params_of known) are)

@@ -11,10 +11,8 @@ use Rattle.hume_model.specs.declared.core_tree.PatC.TheOpen.{PatC-F}
 use Rattle.hume_model.specs.declared.core_tree.FunC.{FunC}
 use Rattle.hume_model.specs.declared.core_tree.ExnDef.{ExnDef}
 use Rattle.hume_model.specs.declared.core_tree.Core.{Core}
-use Rattle.typed_core.specs.declared.table.TypeNode.{TypeNode}
 use Rattle.typed_core.specs.declared.typed_tree.TypedExpr.{TypedExpr, out-TypedExpr}
 use Rattle.typed_core.specs.declared.typed_tree.TypedExpr.TheOpen.{TypedExpr-F}
-use Rattle.typed_core.specs.Table.{scalar_ty, type_at}
 use Rattle.typed_core.specs.Typing.{IsTyped}
 
 -- a part, with its type and those of the variables around it
@@ -91,29 +89,29 @@ abbrev pub arm_parts : Types → List Ty → Ty → Ty → List (PatC × TypedEx
 arm_parts types vars of ty arms = map (λ (arm : PatC × TypedExpr). part (vars ++ bound_by types arm.0 of) arm.1 ty) arms
 
 -- the parts of one level of an expression of the type
-abbrev pub parts_in_layer : Core → List TypeNode → List Ty → Ty → TypedExpr-F TypedExpr → List Part
-parts_in_layer core table vars ty (TypedExpr-F.Word word) = []
-parts_in_layer core table vars ty (TypedExpr-F.Var number) = []
-parts_in_layer core table vars ty (TypedExpr-F.Con place es) = parts_at vars es (fields_in core.types place (out-Ty ty))
-parts_in_layer core table vars ty (TypedExpr-F.Tuple es) = parts_at vars es (parts_in (out-Ty ty))
-parts_in_layer core table vars ty (TypedExpr-F.Vect es) = parts_of_one vars (item_in (out-Ty ty)) es
-parts_in_layer core table vars ty (TypedExpr-F.Prim op of es) = parts_of_one vars (scalar_ty of) es
-parts_in_layer core table vars ty (TypedExpr-F.Convert from to e) = part vars e (scalar_ty from) ∷ []
-parts_in_layer core table vars ty (TypedExpr-F.Index of places v k) = part vars v (type_at table of) ∷ part vars k (scalar_ty places) ∷ []
-parts_in_layer core table vars ty (TypedExpr-F.Update of places v k e) =
-    part vars v ty ∷ part vars k (scalar_ty places) ∷ part vars e (item_in (out-Ty ty)) ∷ []
-parts_in_layer core table vars ty (TypedExpr-F.If t a b) = part vars t shape.Bool ∷ part vars a ty ∷ part vars b ty ∷ []
-parts_in_layer core table vars ty (TypedExpr-F.Case of e arms) = part vars e (type_at table of) ∷ arm_parts core.types vars (type_at table of) ty arms
-parts_in_layer core table vars ty (TypedExpr-F.Let of a b) = part vars a (type_at table of) ∷ part (vars ++ type_at table of ∷ []) b ty ∷ []
-parts_in_layer core table vars ty (TypedExpr-F.Call number es) = parts_at vars es (params_of (slice_get core.funs number))
-parts_in_layer core table vars ty (TypedExpr-F.Raise number None) = []
-parts_in_layer core table vars ty (TypedExpr-F.Raise number (Some e)) = part vars e (carried_of (slice_get core.exns number)) ∷ []
+abbrev pub parts_in_layer : Core → List Ty → Ty → TypedExpr-F TypedExpr → List Part
+parts_in_layer core vars ty (TypedExpr-F.Word word) = []
+parts_in_layer core vars ty (TypedExpr-F.Var number) = []
+parts_in_layer core vars ty (TypedExpr-F.Con place es) = parts_at vars es (fields_in core.types place (out-Ty ty))
+parts_in_layer core vars ty (TypedExpr-F.Tuple es) = parts_at vars es (parts_in (out-Ty ty))
+parts_in_layer core vars ty (TypedExpr-F.Vect es) = parts_of_one vars (item_in (out-Ty ty)) es
+parts_in_layer core vars ty (TypedExpr-F.Prim op of es) = parts_of_one vars of es
+parts_in_layer core vars ty (TypedExpr-F.Convert from to e) = part vars e from ∷ []
+parts_in_layer core vars ty (TypedExpr-F.Index of places v k) = part vars v of ∷ part vars k places ∷ []
+parts_in_layer core vars ty (TypedExpr-F.Update of places v k e) =
+    part vars v ty ∷ part vars k places ∷ part vars e (item_in (out-Ty ty)) ∷ []
+parts_in_layer core vars ty (TypedExpr-F.If t a b) = part vars t shape.Bool ∷ part vars a ty ∷ part vars b ty ∷ []
+parts_in_layer core vars ty (TypedExpr-F.Case of e arms) = part vars e of ∷ arm_parts core.types vars of ty arms
+parts_in_layer core vars ty (TypedExpr-F.Let of a b) = part vars a of ∷ part (vars ++ of ∷ []) b ty ∷ []
+parts_in_layer core vars ty (TypedExpr-F.Call number es) = parts_at vars es (params_of (slice_get core.funs number))
+parts_in_layer core vars ty (TypedExpr-F.Raise number None) = []
+parts_in_layer core vars ty (TypedExpr-F.Raise number (Some e)) = part vars e (carried_of (slice_get core.exns number)) ∷ []
 
 -- the parts of an expression of the type, where its variables have the types
-abbrev pub parts : Core → List TypeNode → List Ty → TypedExpr → Ty → List Part
-parts core table vars e ty = parts_in_layer core table vars ty (out-TypedExpr e)
+abbrev pub parts : Core → List Ty → TypedExpr → Ty → List Part
+parts core vars e ty = parts_in_layer core vars ty (out-TypedExpr e)
 
 -- each part has its type
-abbrev pub EachIsTyped : Core → List TypeNode → List Part → Type 0
-EachIsTyped core table [] = Unit {0}
-EachIsTyped core table (p ∷ ps) = IsTyped core table p.vars p.tree p.ty × EachIsTyped core table ps
+abbrev pub EachIsTyped : Core → List Part → Type 0
+EachIsTyped core [] = Unit {0}
+EachIsTyped core (p ∷ ps) = IsTyped core p.vars p.tree p.ty × EachIsTyped core ps

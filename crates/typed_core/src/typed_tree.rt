@@ -1,9 +1,8 @@
-//! Typed trees. They have the forms of `Expr` and `Res`, in which a type is a number of a table, or a `Scalar`.
+//! Typed trees. They have the forms of `Expr` and `Res`, with the types that the core leaves out.
 //!
 //! A part's type follows from that of the whole, but for what `let` binds, what `case` looks at, what an element is taken from,
-//! and the operands of operations: these are said. Operands and places are scalars, so that no number has to be tested for one.
-use crate::table::Scalar;
-use hume_base::{Box, List};
+//! and the operands of operations: these are said.
+use hume_base::{Box, List, Shared, Ty};
 use hume_model::{InPat, Op, PatC};
 
 /// An expression. Variables are numbered from 0, outermost first. Parts stand in source order.
@@ -16,18 +15,18 @@ pub enum TypedExpr {
     Tuple(List<TypedExpr>),
     Vect(List<TypedExpr>),
     /// An operation other than `Convert`, at the type of its operands.
-    Prim(Op, Scalar, List<TypedExpr>),
+    Prim(Op, Ty, List<TypedExpr>),
     /// A number of the first type as one of the second.
-    Convert(Scalar, Scalar, Box<TypedExpr>),
-    /// An element of a vector, whose type has the number, at a place of the scalar type.
-    Index(u32, Scalar, Box<TypedExpr>, Box<TypedExpr>),
-    /// A vector, whose type has the number, with another element at a place of the scalar type.
-    Update(u32, Scalar, Box<TypedExpr>, Box<TypedExpr>, Box<TypedExpr>),
+    Convert(Ty, Ty, Box<TypedExpr>),
+    /// An element of a vector of the first type, at a place of the second.
+    Index(Shared<Ty>, Ty, Box<TypedExpr>, Box<TypedExpr>),
+    /// A vector of the first type with another element, at a place of the second.
+    Update(Shared<Ty>, Ty, Box<TypedExpr>, Box<TypedExpr>, Box<TypedExpr>),
     If(Box<TypedExpr>, Box<TypedExpr>, Box<TypedExpr>),
-    /// The first alternative that a part, whose type has the number, matches.
-    Case(u32, Box<TypedExpr>, List<(PatC, TypedExpr)>),
-    /// The first part, whose type has the number, is the next variable of the second.
-    Let(u32, Box<TypedExpr>, Box<TypedExpr>),
+    /// The first alternative that a part of the type matches.
+    Case(Shared<Ty>, Box<TypedExpr>, List<(PatC, TypedExpr)>),
+    /// The first part, which is of the type, is the next variable of the second.
+    Let(Shared<Ty>, Box<TypedExpr>, Box<TypedExpr>),
     Call(u32, List<TypedExpr>),
     /// An exception, with what it carries.
     Raise(u32, Option<Box<TypedExpr>>),
@@ -39,10 +38,10 @@ pub enum TypedResult {
     /// One output each, or none where `*` stands.
     Outs(List<Option<TypedExpr>>),
     If(TypedExpr, Box<TypedResult>, Box<TypedResult>),
-    /// The first alternative that an expression, whose type has the number, matches.
-    Case(u32, TypedExpr, List<(PatC, TypedResult)>),
-    /// The expression, whose type has the number, is the next variable of the result.
-    Let(u32, TypedExpr, Box<TypedResult>),
+    /// The first alternative that an expression of the type matches.
+    Case(Shared<Ty>, TypedExpr, List<(PatC, TypedResult)>),
+    /// The expression, which is of the type, is the next variable of the result.
+    Let(Shared<Ty>, TypedExpr, Box<TypedResult>),
     Raise(u32, Option<TypedExpr>),
 }
 
@@ -51,14 +50,6 @@ pub enum TypedResult {
 pub struct TypedEquation {
     pub pats: List<PatC>,
     pub body: TypedExpr,
-}
-
-/// What a function of the core says by types: the numbers of those of its parameters and of what it gives, and its equations.
-#[derive(Drop)]
-pub struct TypedFunction {
-    pub params: List<u32>,
-    pub gives: u32,
-    pub equations: List<TypedEquation>,
 }
 
 /// A rule of a box: what stands at each input, and its result.
@@ -75,4 +66,15 @@ pub struct TypedHandler {
     /// Whether the handler binds what the exception carries: its only variable.
     pub bound: bool,
     pub result: TypedResult,
+}
+
+/// The trees of a declaration.
+#[derive(Drop)]
+pub enum TypedDeclaration {
+    /// Those of the equations of a function.
+    Equations(List<TypedEquation>),
+    /// Those of the rules and of the handlers of a box.
+    Rules(List<TypedRule>, List<TypedHandler>),
+    /// A data type, an exception, a stream and a wire have none.
+    NoTrees,
 }

@@ -39,6 +39,10 @@ written-more old mid new at place end first second one two = record {
   room = two.room ∙ one.room;
 }
 
+-- an item that is seen through a pointer
+pub seen-at : (tys : List Ty) (i : ℕ) (ty seen : Ty) → seen ≡ ty → ty ≡ get_or tys i ty → seen ≡ get_or tys i seen
+seen-at tys i ty seen same is = subst (λ t. t ≡ get_or tys i t) (sym same) is
+
 -- the words of parts up to a place
 
 parts-next : (f : Ty → Value → List ℕ) (i : ℕ) (tys : List Ty) (values : List Value) (ty : Ty) (value : Value) → i < length tys → i < length values

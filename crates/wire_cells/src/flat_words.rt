@@ -8,7 +8,7 @@ ghost use Rattle.hume_base.specs.Flat.{flat, named_words, joined, con_words, par
 ghost use Rattle.hume_model.specs.Reading.{HaveReadableSizes};
 ghost use Rattle.wire_cells.specs.inner.Written.{flat_below, IsWritten, HaveExactSizes};
 
-use hume_base::{SumDef, Ty, Types, Value};
+use hume_base::{Shared, SumDef, Ty, Types, Value};
 
 /// Writes the flat words of a value. It takes no memory.
 pub fn flatten(types: &Types, ty: &Ty, value: &Value, into: &mut [u64])
@@ -50,7 +50,7 @@ fn write_value(
 fn write_parts(
     types: &Types,
     bound: usize,
-    tys: &[Ty],
+    tys: &[Shared<Ty>],
     values: &[Value],
     into: &mut [u64],
     at: usize,

@@ -4,33 +4,35 @@ ghost use Rattle.check_cores.specs.results.Stacks.{top_result};
 
 use crate::Stack;
 use crate::results::{forms, gather};
-use hume_model::{Expr, Forms, PatC, Res};
+use hume_base::{Shared, Ty};
+use hume_model::PatC;
 use std::alloc::{AllocError, Global};
 use std::marker::Model;
+use typed_core::{TypedExpr, TypedResult};
 
 /// An alternative: its pattern and its result, each with whether a literal in it is out of range.
-pub(crate) type ResultArm = ((PatC, bool), (Res, bool));
+pub(crate) type ResultArm = ((PatC, bool), (TypedResult, bool));
 
 /// Cores of results, of outputs and of alternatives that wait to become parts of larger ones. What finds too few of them is
 /// answered with want of memory.
 #[derive(Drop)]
 pub struct ResultBuilder {
-    results: Stack<(Res, bool)>,
-    outputs: Stack<(Option<Expr>, bool)>,
+    results: Stack<(TypedResult, bool)>,
+    outputs: Stack<(Option<TypedExpr>, bool)>,
     arms: Stack<ResultArm>,
 }
 
 impl Model for ResultBuilder {
     ghost use Rattle.std.specs.Prelude.{List, Bool, Option};
     ghost use Rattle.std.specs.Coded.{codes};
-    ghost use Rattle.hume_model.specs.declared.core_tree.Expr.{Expr};
+    ghost use Rattle.typed_core.specs.declared.typed_tree.TypedExpr.{TypedExpr};
     ghost use Rattle.hume_model.specs.declared.core_tree.PatC.{PatC};
-    ghost use Rattle.hume_model.specs.declared.core_tree.Res.{Res};
-    ghost use Rattle.hume_model.specs.contracts.core_tree.Expr as expr;
+    ghost use Rattle.typed_core.specs.declared.typed_tree.TypedResult.{TypedResult};
+    ghost use Rattle.typed_core.specs.contracts.typed_tree.TypedExpr as expr;
     ghost use Rattle.hume_model.specs.contracts.core_tree.PatC as pat;
-    ghost use Rattle.hume_model.specs.contracts.core_tree.Res as res;
+    ghost use Rattle.typed_core.specs.contracts.typed_tree.TypedResult as res;
 
-    ghost Value = { List (Res × Bool) × List (Option Expr × Bool) × List ((PatC × Bool) × (Res × Bool)) };
+    ghost Value = { List (TypedResult × Bool) × List (Option TypedExpr × Bool) × List ((PatC × Bool) × (TypedResult × Bool)) };
 
     ghost coded = { Prim.hlevel (codes, expr.the_row.coded, pat.the_row.coded, res.the_row.coded) };
 
@@ -56,7 +58,7 @@ impl ResultBuilder {
     }
 
     /// An output of the core.
-    pub fn value(&mut self, core: (Expr, bool)) -> Result<(), AllocError>
+    pub fn value(&mut self, core: (TypedExpr, bool)) -> Result<(), AllocError>
         ensures { OnOk result (self.new ≡ (self.old.0, value_out core ∷ self.old.1, self.old.2)) }
     {
         let (core, too_wide) = core;
@@ -68,19 +70,24 @@ impl ResultBuilder {
         ensures { OnOk result (self.new ≡ (outs_core (reverse (take count self.old.1)) ∷ self.old.0, drop count self.old.1, self.old.2)) }
     {
         let (outputs, too_wide) = gather::outputs(alloc, &mut self.outputs, count)?;
-        self.results.push((Res::Outs(outputs), too_wide))?;
+        self.results.push((TypedResult::Outs(outputs), too_wide))?;
         Ok(())
     }
 
-    /// A `let` of the core and the last result.
-    pub fn binding(&mut self, alloc: Global, part: (Expr, bool)) -> Result<(), AllocError>
-        ensures { OnOk result (self.new ≡ (let_result_core part (top_result self.old.0) ∷ drop 1 self.old.0, self.old.1, self.old.2)) }
+    /// A `let` of the core, which has the type, and the last result.
+    pub fn binding(
+        &mut self,
+        alloc: Global,
+        of: Shared<Ty>,
+        part: (TypedExpr, bool),
+    ) -> Result<(), AllocError>
+        ensures { OnOk result (self.new ≡ (let_result_core of part (top_result self.old.0) ∷ drop 1 self.old.0, self.old.1, self.old.2)) }
     {
-        forms::binding(alloc, &mut self.results, part)
+        forms::binding(alloc, &mut self.results, of, part)
     }
 
     /// An `if` of the core and the last two results.
-    pub fn branches(&mut self, alloc: Global, test: (Expr, bool)) -> Result<(), AllocError>
+    pub fn branches(&mut self, alloc: Global, test: (TypedExpr, bool)) -> Result<(), AllocError>
         ensures { OnOk result (self.new ≡ (
           if_result_core test (top_result (drop 1 self.old.0)) (top_result self.old.0)
               ∷ drop 2 self.old.0,
@@ -95,16 +102,17 @@ impl ResultBuilder {
     pub fn raise(&mut self, exn: u32) -> Result<(), AllocError>
         ensures { OnOk result (self.new ≡ (raise_result_core exn ∷ self.old.0, self.old.1, self.old.2)) }
     {
-        self.results.push((Res::Raise(exn, None), false))?;
+        self.results.push((TypedResult::Raise(exn, None), false))?;
         Ok(())
     }
 
     /// An exception that carries the core.
-    pub fn raise_with(&mut self, exn: u32, part: (Expr, bool)) -> Result<(), AllocError>
+    pub fn raise_with(&mut self, exn: u32, part: (TypedExpr, bool)) -> Result<(), AllocError>
         ensures { OnOk result (self.new ≡ (raise_with_result_core exn part ∷ self.old.0, self.old.1, self.old.2)) }
     {
         let (part, too_wide) = part;
-        self.results.push((Res::Raise(exn, Some(part)), too_wide))?;
+        self.results
+            .push((TypedResult::Raise(exn, Some(part)), too_wide))?;
         Ok(())
     }
 
@@ -118,25 +126,24 @@ impl ResultBuilder {
         self.arms.push((pattern, body))
     }
 
-    /// A `case` of the core with the last alternatives.
+    /// A `case` of the core, which has the type, with the last alternatives.
     pub fn alternatives(
         &mut self,
         alloc: Global,
-        values: Forms,
-        part: (Expr, bool),
+        of: Shared<Ty>,
+        part: (TypedExpr, bool),
         count: usize,
     ) -> Result<(), AllocError>
-        ensures { OnOk result (self.new ≡ (case_result_core values part (reverse (take count self.old.2)) ∷ self.old.0, self.old.1, drop count self.old.2)) }
+        ensures { OnOk result (self.new ≡ (case_result_core of part (reverse (take count self.old.2)) ∷ self.old.0, self.old.1, drop count self.old.2)) }
     {
         let (part, too_wide) = part;
         let (arms, some_too_wide) = gather::arms(alloc, &mut self.arms, count)?;
-        self.results
-            .push((Res::Case(part, values, arms), too_wide || some_too_wide))?;
+        self.results.push((TypedResult::Case(of, part, arms), too_wide || some_too_wide))?;
         Ok(())
     }
 
     /// Takes the last result out.
-    pub fn take_result(&mut self) -> Result<(Res, bool), AllocError>
+    pub fn take_result(&mut self) -> Result<(TypedResult, bool), AllocError>
         ensures taken { IfOk result (λ taken. taken ≡ top_result self.old.0) }
         ensures left { OnOk result (self.new ≡ (drop 1 self.old.0, self.old.1, self.old.2)) }
     {

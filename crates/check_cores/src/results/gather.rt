@@ -6,15 +6,16 @@ ghost use Rattle.check_typing.specs.Results.{result_arm_cores};
 use crate::Stack;
 use crate::results::builder::ResultArm;
 use hume_base::List;
-use hume_model::{Expr, PatC, Res};
+use hume_model::PatC;
 use std::alloc::{AllocError, Global};
+use typed_core::{TypedExpr, TypedResult};
 
 /// The last outputs as one list, and whether a literal in one of them is out of range.
 pub(crate) fn outputs(
     alloc: Global,
-    stack: &mut Stack<(Option<Expr>, bool)>,
+    stack: &mut Stack<(Option<TypedExpr>, bool)>,
     count: usize,
-) -> Result<(List<Option<Expr>>, bool), AllocError>
+) -> Result<(List<Option<TypedExpr>>, bool), AllocError>
     ensures gathered { IfOk result (λ all. all ≡ (
       map (λ out. out.0) (reverse (take count stack.old)),
       list_any (λ out. out.1)
@@ -28,8 +29,8 @@ pub(crate) fn outputs(
 
 fn apart(
     alloc: Global,
-    items: Vec<(Option<Expr>, bool)>,
-) -> Result<(List<Option<Expr>>, bool), AllocError>
+    items: Vec<(Option<TypedExpr>, bool)>,
+) -> Result<(List<Option<TypedExpr>>, bool), AllocError>
     ensures { IfOk result (λ all. all ≡ (map (λ out. out.0) items.items, list_any (λ out. out.1) items.items)) }
 {
     let mut outputs = List::new(alloc);
@@ -46,7 +47,7 @@ pub(crate) fn arms(
     alloc: Global,
     stack: &mut Stack<ResultArm>,
     count: usize,
-) -> Result<(List<(PatC, Res)>, bool), AllocError>
+) -> Result<(List<(PatC, TypedResult)>, bool), AllocError>
     ensures gathered { IfOk result (λ all. all ≡ (
       result_arm_cores (reverse (take count stack.old)),
       list_any (λ arm. arm.0.1 || arm.1.1)
@@ -58,7 +59,10 @@ pub(crate) fn arms(
     arms_apart(alloc, items)
 }
 
-fn arms_apart(alloc: Global, items: Vec<ResultArm>) -> Result<(List<(PatC, Res)>, bool), AllocError>
+fn arms_apart(
+    alloc: Global,
+    items: Vec<ResultArm>,
+) -> Result<(List<(PatC, TypedResult)>, bool), AllocError>
     ensures { IfOk result (λ all. all ≡ (result_arm_cores items.items, list_any (λ arm. arm.0.1 || arm.1.1) items.items)) }
 {
     let mut arms = List::new(alloc);

@@ -5,8 +5,8 @@ use Rattle.std.proofs.lemmas.List.{nil_from_length}
 use Rattle.hume_base.specs.declared.types.Ty.{Ty, Tuple as TupleTy}
 use Rattle.hume_base.specs.declared.types.Ty.TheVariants.{outs-Tuple}
 use Rattle.hume_ast.specs.declared.tree.TyExp.{TyExp}
-use Rattle.hume_model.specs.declared.core_tree.RuleC.{RuleC}
-use Rattle.hume_model.specs.declared.core_tree.HandC.{HandC}
+use Rattle.typed_core.specs.declared.typed_tree.TypedRule.{TypedRule}
+use Rattle.typed_core.specs.declared.typed_tree.TypedHandler.{TypedHandler}
 use Rattle.hume_model.specs.declared.core_tree.ExnDef.{ExnDef}
 use Rattle.check_typing.specs.Partial.{given}
 use Rattle.check_typing.specs.Signatures.{Scope, exn_named}
@@ -19,7 +19,7 @@ use Rattle.check_typing.proofs.Maybe.{given-inv, some-same, tuple_parts-at}
 use Rattle.check_scopes.specs.Known.{Known, with_type}
 use Rattle.check_tasks.specs.results.ResultStates.{ResultState}
 use Rattle.check_tasks.specs.results.ResultTasks.{part_types, scope_of, signatures_of, last_outputs}
-use Rattle.check_declarations.specs.boxes.Boxes.{with_ports, box_found}
+use Rattle.check_declarations.specs.boxes.inner.Boxes.{with_ports, box_found}
 use Rattle.check_declarations.specs.boxes.inner.Ports.{known_in, ported, unported}
 use Rattle.check_declarations.specs.boxes.inner.Rules.{rule_at, rules_at, together}
 use Rattle.check_declarations.specs.boxes.inner.Handlers.{handler_at, handlers_at}
@@ -97,7 +97,7 @@ module _ (state : ResultState) (ins outs : List Ty) (none : scope_of state ≡ [
 abbrev both_found : Option (List CoredRule) → Option (List CoredHandler) → Option (List CoredRule × List CoredHandler)
 both_found rs hs = given rs (λ rs. given hs (λ hs. Some (rs, hs)))
 
-both_together : (rs : Option (List CoredRule)) (hs : Option (List CoredHandler)) (r : List RuleC × Bool) (h : List HandC × Bool)
+both_together : (rs : Option (List CoredRule)) (hs : Option (List CoredHandler)) (r : List TypedRule × Bool) (h : List TypedHandler × Bool)
     → together ([], false) rs ≡ Some r → together ([], false) hs ≡ Some h → box_found (both_found rs hs) ≡ Some (r.0, h.0, r.1 || h.1)
 both_together None hs r h first second = cc
 both_together (Some rs) None r h first second = cc
@@ -143,7 +143,7 @@ module _ (state mid : ResultState) (inputs outputs : List (List ℕ × TyExp)) (
         walked : List Ty → List Ty → Option (List CoredRule × List CoredHandler)
         walked ins outs = both_found (found_of_all (rule_walk (signatures_of state) ins outs) rules) (found_of_all (handler_walk (signatures_of state) outs) handlers)
 
-    pub box_told : (r : List RuleC × Bool) (h : List HandC × Bool) → together ([], false) (rules_at mid rules) ≡ Some r
+    pub box_told : (r : List TypedRule × Bool) (h : List TypedHandler × Bool) → together ([], false) (rules_at mid rules) ≡ Some r
         → together ([], false) (handlers_at mid handlers) ≡ Some h
         → box_found (box_walk (signatures_of state) inputs outputs rules handlers) ≡ Some (r.0, h.0, r.1 || h.1)
     box_told r h first second = ap box_found box_is ∙ both_together (rules_at mid rules) (handlers_at mid handlers) r h first second

@@ -13,7 +13,7 @@ use Rattle.check_scopes.specs.Known.{Known, with_type}
 use Rattle.check_scopes.specs.Written.{with_written_tuple}
 use Rattle.check_scopes.specs.inner.OneByOne.{with_each_written}
 use Rattle.check_scopes.proofs.PushedTypes.{tuple_pushed, no_tuple}
-use Rattle.check_declarations.specs.boxes.Boxes.{with_ports}
+use Rattle.check_declarations.specs.boxes.inner.Boxes.{with_ports}
 use Rattle.check_declarations.specs.boxes.inner.Ports.{types_alone, with_port_tuple}
 
 written_alone : (types : Types) (ports : List (List ℕ × TyExp))

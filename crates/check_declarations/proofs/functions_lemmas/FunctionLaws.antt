@@ -5,7 +5,7 @@ use Rattle.std.proofs.lemmas.Grind.{common_steps}
 use Rattle.std.proofs.lemmas.List.{append_assoc}
 use Rattle.hume_base.specs.declared.types.Ty.{Ty, Tuple as TupleTy}
 use Rattle.hume_ast.specs.declared.tree.TyExp.{TyExp}
-use Rattle.hume_model.specs.declared.core_tree.EqC.{EqC}
+use Rattle.typed_core.specs.declared.typed_tree.TypedEquation.{TypedEquation}
 use Rattle.check_scopes.specs.types.Contexts.{top, below}
 use Rattle.check_typing.specs.Partial.{given}
 use Rattle.check_typing.specs.Signatures.{Scope}
@@ -19,7 +19,7 @@ use Rattle.check_typing.specs.inner.DeclarationWalk.{found_of_all, equation_walk
 use Rattle.check_typing.specs.declared.signatures.Signature.{Signature}
 use Rattle.check_tasks.specs.States.{State, with_types}
 use Rattle.check_tasks.proofs.Given.{by_case, form_steps}
-use Rattle.check_declarations.specs.functions.Functions.{with_signature, found_together}
+use Rattle.check_declarations.specs.functions.inner.Functions.{with_signature, found_together}
 use Rattle.check_declarations.proofs.functions_lemmas.EquationLaws.{given_twice}
 use Rattle.check_declarations.specs.functions.inner.Equations.{equation_at, equations_at, together}
 
@@ -28,19 +28,19 @@ or_assoc true b c = refl
 or_assoc false b c = refl
 
 -- one more core in front of the others
-put_together : (found : List EqC × Bool) (c : CoredEquation) (others : Option (List CoredEquation))
+put_together : (found : List TypedEquation × Bool) (c : CoredEquation) (others : Option (List CoredEquation))
     → together (found.0 ++ c.0 ∷ [], found.1 || c.1) others ≡ together found (given others (λ cs. Some (c ∷ cs)))
 put_together found c None = refl
 put_together found c (Some cs) = λ i. Some (append_assoc found.0 (c.0 ∷ []) (cores_alone cs) i, or_assoc found.1 c.1 (some_so cs) i)
 
-pub equations_more : (state : State) (found : List EqC × Bool) (equation : WrittenEquation) (others : List WrittenEquation) (c : CoredEquation)
+pub equations_more : (state : State) (found : List TypedEquation × Bool) (equation : WrittenEquation) (others : List WrittenEquation) (c : CoredEquation)
     → equation_at state equation.1 equation.2 ≡ Some c
     → together found (equations_at state (equation ∷ others)) ≡ together (found.0 ++ c.0 ∷ [], found.1 || c.1) (equations_at state others)
 equations_more state found equation others c h =
     ap (λ first. together found (given first (λ c. given (equations_at state others) (λ cs. Some (c ∷ cs))))) h
     ∙ sym (put_together found c (equations_at state others))
 
-pub equations_none : (state : State) (found : List EqC × Bool) (equation : WrittenEquation) (others : List WrittenEquation)
+pub equations_none : (state : State) (found : List TypedEquation × Bool) (equation : WrittenEquation) (others : List WrittenEquation)
     → equation_at state equation.1 equation.2 ≡ None → together found (equations_at state (equation ∷ others)) ≡ None
 equations_none state found equation others h =
     ap (λ first. together found (given first (λ c. given (equations_at state others) (λ cs. Some (c ∷ cs))))) h
@@ -114,7 +114,7 @@ module _ (state mid : State) (types : List TyExp) (equations : List WrittenEquat
   function_left = ap unsigned_of (sym parts.4)
 
   -- the cores that are found
-  pub function_told : (found : List EqC × Bool) → together ([], false) (equations_at mid equations) ≡ Some found
+  pub function_told : (found : List TypedEquation × Bool) → together ([], false) (equations_at mid equations) ≡ Some found
       → (name : List ℕ) → found_together (function_walk state.0.2 name types equations) ≡ Some found
   function_told found h name = ap found_together (function_found name) ∙ sym (from_nothing (equations_at mid equations)) ∙ h
 

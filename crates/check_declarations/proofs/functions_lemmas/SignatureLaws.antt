@@ -11,7 +11,7 @@ use Rattle.check_scopes.specs.Known.{Known, with_type}
 use Rattle.check_scopes.specs.Written.{with_written, with_written_tuple}
 use Rattle.check_tasks.specs.States.{State, with_types}
 use Rattle.check_typing.proofs.Maybe.{given-inv, some-same}
-use Rattle.check_declarations.specs.functions.Functions.{with_signature}
+use Rattle.check_declarations.specs.functions.inner.Functions.{with_signature}
 use Rattle.check_declarations.proofs.functions_lemmas.EquationLaws.{nothing}
 
 all_there_last : {A : Type 0} (os : List (Option A)) (o : Option A)

@@ -7,6 +7,7 @@ use Rattle.hume_ast.specs.declared.tree.Exp.{Exp}
 use Rattle.check_typing.specs.inner.Walk.{star_walk}
 use Rattle.check_tasks.specs.declared.task.Task.TheVariants as plain
 use Rattle.check_tasks.specs.declared.task.TypeTask.TheVariants as types
+use Rattle.check_tasks.specs.declared.results.task.ResultTask.{ResultTask}
 use Rattle.check_tasks.specs.declared.results.task.ResultTask.TheVariants as task
 use Rattle.check_tasks.specs.declared.results.task.ResultMake.TheVariants as make
 use Rattle.check_tasks.specs.results.ResultStates.{ResultState}
@@ -15,10 +16,14 @@ use Rattle.check_tasks.proofs.results_lemmas.ResultForms.{let_result, if_result}
 use Rattle.check_tasks.proofs.results_lemmas.ResultWholes.{case_result}
 use Rattle.check_declarations.specs.results.inner.ResultPlans.{let_found, if_found, case_found}
 
+-- the tasks of a `let`
+abbrev pub let_plan : Bor Exp → Bor (List ℕ) → Bor Exp → ℕ → List ResultTask
+let_plan a name b count = task.Plain (plain.Own a) ∷ task.Plain (plain.Enter name) ∷ task.Result b ∷ task.Make make.Binding
+    ∷ task.Plain (plain.Leave count) ∷ []
+
 -- the laws of forms, where what the other walk finds of the whole is left out
 pub let_does : (st : ResultState) (name : Bor (List ℕ)) (a b : Bor Exp) →
-    result_run (task.Plain (plain.Own a) ∷ task.Plain (plain.Enter name) ∷ task.Result b ∷ task.Plain (plain.Leave (length (scope_of st)))
-    ∷ task.Make make.Binding ∷ []) st
+    result_run (let_plan a name b (length (scope_of st))) st
     ≡ result_of ((let_found (signatures_of st) name.now a.now b.now).result (scope_of st) (last_outputs st)) st
 unfolding let_found
 let_does st name a b = let_result st star_walk a b name

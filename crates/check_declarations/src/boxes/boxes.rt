@@ -1,9 +1,9 @@
-//! Boxes from their ports, rules and handlers to cores.
+//! Boxes from their ports, rules and handlers to trees.
 ghost use Rattle.std.specs.Prelude.{◌≡◌, [], Some, None, OnOk, IfOk, IfErr};
 ghost use Rattle.check_typing.specs.inner.DeclarationWalk.{box_walk};
 ghost use Rattle.check_tasks.specs.States.{scope_in, signatures_in};
 ghost use Rattle.check_expressions.specs.declared.stop.Stop.TheVariants.{NoType};
-ghost use Rattle.check_declarations.specs.boxes.Boxes.{box_found};
+ghost use Rattle.check_declarations.specs.boxes.inner.Boxes.{box_found};
 ghost use Rattle.check_declarations.specs.boxes.inner.Ports.{ported, unported};
 
 use crate::boxes::handlers::handler_cores;
@@ -13,22 +13,22 @@ use crate::results::ResultElaboration;
 use check_expressions::Stop;
 use hume_ast::{Exp, Pat, TyExp};
 use hume_base::{List, Text};
-use hume_model::{HandC, RuleC};
 use std::alloc::Global;
+use typed_core::{TypedHandler, TypedRule};
 
-/// The cores of a box.
+/// The trees of a box.
 #[derive(Drop)]
-pub struct BoxCores {
-    pub rules: List<RuleC>,
-    pub handlers: List<HandC>,
+pub(crate) struct BoxCores {
+    pub rules: List<TypedRule>,
+    pub handlers: List<TypedHandler>,
     /// Whether a literal in one of them is out of the range of its type.
     pub too_wide: bool,
 }
 
-/// The cores of the rules and handlers of a box. Where variables are in scope it is answered with want of memory, as a box sees
+/// The trees of the rules and handlers of a box. Where variables are in scope it is answered with want of memory, as a box sees
 /// none.
 #[tactic(auto, using(crate::proofs::boxes_lemmas::BoxLaws::box_steps))]
-pub fn box_cores<'a>(
+pub(crate) fn box_cores<'a>(
     alloc: Global,
     at: &mut ResultElaboration<'a>,
     inputs: &[(Text, TyExp)],

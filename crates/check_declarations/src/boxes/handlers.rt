@@ -9,19 +9,19 @@ use check_expressions::Stop;
 use check_scopes::Environment;
 use hume_ast::{Exp, Pat};
 use hume_base::{List, Text};
-use hume_model::HandC;
 use std::alloc::Global;
+use typed_core::TypedHandler;
 
 /// A handler: its exception, what it says of what that carries, and its result.
 type Handler = (Text, Option<Pat>, Exp);
 
-/// The cores of handlers, and whether a literal in one of them is out of the range of its type.
+/// The trees of handlers, and whether a literal in one of them is out of the range of its type.
 #[tactic(auto, using(crate::proofs::boxes_lemmas::Lists::handlers_steps))]
 pub(crate) fn handler_cores<'a>(
     alloc: Global,
     at: &mut ResultElaboration<'a>,
     handlers: &'a [Handler],
-) -> Result<(List<HandC>, bool), Stop>
+) -> Result<(List<TypedHandler>, bool), Stop>
     ensures keeps { OnOk result (at.new ≡ at.old) }
     ensures ok { IfOk result (λ found. together ([], false) (handlers_at at.old handlers.now) ≡ Some found) }
     ensures none { IfErr result (λ stop. stop ≡ NoType → together ([], false) (handlers_at at.old handlers.now) ≡ None) }
@@ -36,13 +36,13 @@ pub(crate) fn handler_cores<'a>(
     Ok((cores, some_too_wide))
 }
 
-// The core of a handler, and whether a literal in it is out of the range of its type.
+// The tree of a handler, and whether a literal in it is out of the range of its type.
 #[tactic(auto, using(crate::proofs::boxes_lemmas::HandlerLaws::found_steps))]
 fn handler_core<'a>(
     alloc: Global,
     at: &mut ResultElaboration<'a>,
     handler: &'a Handler,
-) -> Result<(HandC, bool), Stop>
+) -> Result<(TypedHandler, bool), Stop>
     ensures keeps { OnOk result (at.new ≡ at.old) }
     ensures ok { IfOk result (λ found. handler_at at.old handler.now ≡ Some found) }
     ensures none { IfErr result (λ stop. stop ≡ NoType → handler_at at.old handler.now ≡ None) }
@@ -51,7 +51,7 @@ fn handler_core<'a>(
     let (exn, bound) = check_handler(alloc, at, handler)?;
     at.plain.environment.leave(count);
     let (result, too_wide) = at.take_result()?;
-    Ok((HandC { exn, bound, result }, too_wide))
+    Ok((TypedHandler { exn, bound, result }, too_wide))
 }
 
 // What is carried is brought into scope, and the result is checked against the types of the outputs.

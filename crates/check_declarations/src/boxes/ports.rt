@@ -2,7 +2,7 @@
 ghost use Rattle.std.specs.Prelude.{◌≡◌, Some, None, OnOk, IfErr};
 ghost use Rattle.check_expressions.specs.declared.stop.Stop.TheVariants.{NoType};
 ghost use Rattle.check_scopes.specs.inner.OneByOne.{with_each_written};
-ghost use Rattle.check_declarations.specs.boxes.Boxes.{with_ports};
+ghost use Rattle.check_declarations.specs.boxes.inner.Boxes.{with_ports};
 ghost use Rattle.check_declarations.specs.boxes.inner.Ports.{types_alone, with_port_tuple};
 
 use check_expressions::Stop;
@@ -12,7 +12,7 @@ use hume_base::Text;
 
 /// Puts the types of the inputs on the stack as one tuple, and on top of it those of the outputs.
 #[tactic(auto, using(crate::proofs::boxes_lemmas::PortLaws::ports_steps))]
-pub fn push_ports(
+pub(crate) fn push_ports(
     at: &mut Environment,
     inputs: &[(Text, TyExp)],
     outputs: &[(Text, TyExp)],

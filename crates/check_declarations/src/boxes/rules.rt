@@ -8,16 +8,17 @@ use crate::results::ResultElaboration;
 use check_expressions::Stop;
 use hume_ast::{Exp, Pat};
 use hume_base::List;
-use hume_model::{InPat, RuleC};
+use hume_model::InPat;
 use std::alloc::Global;
+use typed_core::TypedRule;
 
-/// The cores of rules, and whether a literal in one of them is out of the range of its type.
+/// The trees of rules, and whether a literal in one of them is out of the range of its type.
 #[tactic(auto, using(crate::proofs::boxes_lemmas::Lists::rules_steps))]
 pub(crate) fn rule_cores<'a>(
     alloc: Global,
     at: &mut ResultElaboration<'a>,
     rules: &'a [(List<Pat>, Exp)],
-) -> Result<(List<RuleC>, bool), Stop>
+) -> Result<(List<TypedRule>, bool), Stop>
     ensures keeps { OnOk result (at.new ≡ at.old) }
     ensures ok { IfOk result (λ found. together ([], false) (rules_at at.old rules.now) ≡ Some found) }
     ensures none { IfErr result (λ stop. stop ≡ NoType → together ([], false) (rules_at at.old rules.now) ≡ None) }
@@ -32,14 +33,14 @@ pub(crate) fn rule_cores<'a>(
     Ok((cores, some_too_wide))
 }
 
-// The core of a rule, and whether a literal in it is out of the range of its type.
+// The tree of a rule, and whether a literal in it is out of the range of its type.
 #[tactic(auto, using(crate::proofs::boxes_lemmas::RuleLaws::found_steps))]
 fn rule_core<'a>(
     alloc: Global,
     at: &mut ResultElaboration<'a>,
     pats: &'a [Pat],
     e: &'a Exp,
-) -> Result<(RuleC, bool), Stop>
+) -> Result<(TypedRule, bool), Stop>
     ensures keeps { OnOk result (at.new ≡ at.old) }
     ensures ok { IfOk result (λ found. rule_at at.old pats.now e.now ≡ Some found) }
     ensures none { IfErr result (λ stop. stop ≡ NoType → rule_at at.old pats.now e.now ≡ None) }
@@ -48,7 +49,7 @@ fn rule_core<'a>(
     let (pats, some_too_wide) = check_rule(alloc, at, pats, e)?;
     at.plain.environment.leave(count);
     let (result, too_wide) = at.take_result()?;
-    Ok((RuleC { pats, result }, some_too_wide || too_wide))
+    Ok((TypedRule { pats, result }, some_too_wide || too_wide))
 }
 
 // The positions against the types of the inputs, and the result against those of the outputs.

@@ -7,16 +7,16 @@ use check_expressions::{Elaboration, Stop, against, perform_one};
 use check_tasks::Task;
 use hume_ast::{Exp, Pat};
 use hume_base::{List, Text};
-use hume_model::EqC;
 use std::alloc::Global;
+use typed_core::TypedEquation;
 
-/// The cores of equations, and whether a literal in one of them is out of the range of its type.
+/// The trees of equations, and whether a literal in one of them is out of the range of its type.
 #[tactic(auto, using(crate::proofs::functions_lemmas::FunctionLaws::equations_steps))]
 pub(crate) fn equation_cores<'a>(
     alloc: Global,
     at: &mut Elaboration<'a>,
     equations: &'a [(Text, List<Pat>, Exp)],
-) -> Result<(List<EqC>, bool), Stop>
+) -> Result<(List<TypedEquation>, bool), Stop>
     ensures keeps { OnOk result (at.new ≡ at.old) }
     ensures ok { IfOk result (λ found. together ([], false) (equations_at at.old equations.now) ≡ Some found) }
     ensures none { IfErr result (λ stop. stop ≡ NoType → together ([], false) (equations_at at.old equations.now) ≡ None) }
@@ -31,14 +31,14 @@ pub(crate) fn equation_cores<'a>(
     Ok((cores, some_too_wide))
 }
 
-// The core of an equation, and whether a literal in it is out of the range of its type.
+// The tree of an equation, and whether a literal in it is out of the range of its type.
 #[tactic(auto, using(crate::proofs::functions_lemmas::EquationLaws::found_steps))]
 fn equation_core<'a>(
     alloc: Global,
     at: &mut Elaboration<'a>,
     patterns: &'a [Pat],
     body: &'a Exp,
-) -> Result<(EqC, bool), Stop>
+) -> Result<(TypedEquation, bool), Stop>
     ensures keeps { OnOk result (at.new ≡ at.old) }
     ensures ok { IfOk result (λ found. equation_at at.old patterns.now body.now ≡ Some found) }
     ensures none { IfErr result (λ stop. stop ≡ NoType → equation_at at.old patterns.now body.now ≡ None) }
@@ -48,7 +48,7 @@ fn equation_core<'a>(
     at.environment.leave(count);
     let (body, body_too_wide) = at.builder.take_core()?;
     let (pats, pats_too_wide) = at.builder.take_patterns(alloc, patterns.len())?;
-    Ok((EqC { pats, body }, pats_too_wide || body_too_wide))
+    Ok((TypedEquation { pats, body }, pats_too_wide || body_too_wide))
 }
 
 // The patterns against the types of the parameters, and the body against the type that is given.

@@ -6,14 +6,14 @@ ghost use Rattle.check_tasks.specs.results.ResultTasks.{last_outputs};
 use check_cores::results::ResultBuilder;
 use check_expressions::Elaboration;
 use check_scopes::types::Shape;
-use hume_model::Res;
 use std::alloc::{AllocError, Global};
 use std::marker::Model;
+use typed_core::TypedResult;
 
 /// What is known where an elaboration of results stands, and the cores that it has made so far.
 #[derive(Drop)]
-pub struct ResultElaboration<'a> {
-    pub plain: Elaboration<'a>,
+pub(crate) struct ResultElaboration<'a> {
+    pub(crate) plain: Elaboration<'a>,
     pub(crate) builder: ResultBuilder,
 }
 
@@ -24,15 +24,15 @@ impl<'a> Model for ResultElaboration<'a> {
     ghost use Rattle.hume_base.specs.contracts.types.Ty as ty;
     ghost use Rattle.check_typing.specs.declared.signatures.Signatures.{Signatures};
     ghost use Rattle.check_typing.specs.contracts.signatures.Signatures as sigs;
-    ghost use Rattle.hume_model.specs.declared.core_tree.Expr.{Expr};
+    ghost use Rattle.typed_core.specs.declared.typed_tree.TypedExpr.{TypedExpr};
     ghost use Rattle.hume_model.specs.declared.core_tree.PatC.{PatC};
-    ghost use Rattle.hume_model.specs.declared.core_tree.Res.{Res};
-    ghost use Rattle.hume_model.specs.contracts.core_tree.Expr as expr;
+    ghost use Rattle.typed_core.specs.declared.typed_tree.TypedResult.{TypedResult};
+    ghost use Rattle.typed_core.specs.contracts.typed_tree.TypedExpr as expr;
     ghost use Rattle.hume_model.specs.contracts.core_tree.PatC as pat;
-    ghost use Rattle.hume_model.specs.contracts.core_tree.Res as res;
+    ghost use Rattle.typed_core.specs.contracts.typed_tree.TypedResult as res;
 
-    ghost Value = { ((List (List ℕ × Ty) × List Ty × Signatures) × List (Expr × Bool) × List (PatC × Bool) × List ((PatC × Bool) × (Expr × Bool)))
-        × List (Res × Bool) × List (Option Expr × Bool) × List ((PatC × Bool) × (Res × Bool)) };
+    ghost Value = { ((List (List ℕ × Ty) × List Ty × Signatures) × List (TypedExpr × Bool) × List (PatC × Bool) × List ((PatC × Bool) × (TypedExpr × Bool)))
+        × List (TypedResult × Bool) × List (Option TypedExpr × Bool) × List ((PatC × Bool) × (TypedResult × Bool)) };
 
     ghost coded = { Prim.hlevel (codes, ty.the_row.coded, sigs.the_row.coded, expr.the_row.coded, pat.the_row.coded, res.the_row.coded) };
 
@@ -41,7 +41,7 @@ impl<'a> Model for ResultElaboration<'a> {
 
 impl<'a> ResultElaboration<'a> {
     /// It goes on from an elaboration of expressions.
-    pub fn new(alloc: Global, plain: Elaboration<'a>) -> ResultElaboration<'a>
+    pub(crate) fn new(alloc: Global, plain: Elaboration<'a>) -> ResultElaboration<'a>
         ensures { result ≡ (plain.entry, [], [], []) }
     {
         ResultElaboration {
@@ -51,18 +51,11 @@ impl<'a> ResultElaboration<'a> {
     }
 
     /// Takes the last result out.
-    pub fn take_result(&mut self) -> Result<(Res, bool), AllocError>
+    pub(crate) fn take_result(&mut self) -> Result<(TypedResult, bool), AllocError>
         ensures taken { IfOk result (λ taken. taken ≡ top_result self.old.1) }
         ensures left { OnOk result (self.new ≡ (self.old.0, drop 1 self.old.1, self.old.2, self.old.3)) }
     {
         self.builder.take_result()
-    }
-
-    /// Ends with the elaboration of expressions.
-    pub fn into_plain(self) -> Elaboration<'a>
-        ensures { result ≡ self.entry.0 }
-    {
-        self.plain
     }
 
     /// The number of outputs: of the parts of the last type, a tuple.

@@ -34,8 +34,9 @@ impl<'a> ResultElaboration<'a> {
     fn binding(&mut self, alloc: Global) -> Result<(), AllocError>
         ensures { OnOk result (self.new ≡ make_step Binding self.old) }
     {
+        let of = self.plain.variable_tree(alloc)?;
         let part = self.plain.take_core()?;
-        self.builder.binding(alloc, part)
+        self.builder.binding(alloc, of, part)
     }
 
     fn branches(&mut self, alloc: Global) -> Result<(), AllocError>
@@ -55,9 +56,9 @@ impl<'a> ResultElaboration<'a> {
     fn alternatives(&mut self, alloc: Global, count: usize) -> Result<(), AllocError>
         ensures { OnOk result (self.new ≡ make_step (Alternatives count) self.old) }
     {
-        let forms = self.plain.forms()?;
+        let of = self.plain.tree(alloc)?;
         let part = self.plain.take_core()?;
-        self.builder.alternatives(alloc, forms, part, count)
+        self.builder.alternatives(alloc, of, part, count)
     }
 
     fn raise_with(&mut self, exn: u32) -> Result<(), AllocError>

@@ -32,8 +32,8 @@ pub(crate) fn let_result<'a>(
             ResultTask::Plain(Task::Own(a)),
             ResultTask::Plain(Task::Enter(name.bytes())),
             ResultTask::Result(b),
-            ResultTask::Plain(Task::Leave(count)),
             ResultTask::Make(ResultMake::Binding),
+            ResultTask::Plain(Task::Leave(count)),
         ],
     )
 }

@@ -21,7 +21,7 @@ use std::alloc::Global;
 impl<'a> ResultElaboration<'a> {
     /// The core of the result for outputs whose types are the parts of the last type, a tuple. It goes on the stack of results.
     #[tactic(auto, using(crate::proofs::results_lemmas::Running::walk_steps))]
-    pub fn result(&mut self, alloc: Global, e: &'a Exp) -> Result<(), Stop>
+    pub(crate) fn result(&mut self, alloc: Global, e: &'a Exp) -> Result<(), Stop>
         ensures ok { OnOk result (result_of ((result_walk (signatures_in self.old.0) e.now).result (scope_of self.old) (last_outputs self.old)) self.old
             ≡ Some self.new) }
         ensures none { IfErr result (λ stop. stop ≡ NoType → (result_walk (signatures_in self.old.0) e.now).result (scope_of self.old)

@@ -10,7 +10,7 @@ use Rattle.hume_base.specs.declared.types.Ty.TheOpen.{Ty-F}
 use Rattle.check_scopes.specs.declared.types.node.Node.{Node}
 use Rattle.check_scopes.specs.declared.types.node.Node.TheVariants as of
 use Rattle.check_scopes.specs.types.Nodes.{type_at, ty_of, level_of, all_below, IsWithin, Grows}
-use Rattle.check_scopes.specs.types.Contexts.{Known, with_found, top}
+use Rattle.check_scopes.specs.types.Contexts.{Known, last_of, last_type, type_or_bool, with_found, top}
 use Rattle.check_typing.specs.Signatures.{variable_named, inner_or_this}
 
 -- the types of numbers, and those of variables
@@ -120,6 +120,21 @@ finds_none tys x vs k is h = sym (ap (λ o. with_found o k) (ap (variable_named 
 pub finds_some : (tys : List Ty) (x : List ℕ) (vs : List (List ℕ × ℕ)) (k : Known) (p : ℕ × ℕ) → shown_vars tys vs ≡ k.0 → variable_named x vs ≡ Some p
     → (Some p.0, (k.0, type_at tys p.1 ∷ k.1, k.2)) ≡ with_found (variable_named x k.0) k
 finds_some tys x vs k p is h = sym (ap (λ o. with_found o k) (ap (variable_named x) (sym is) ∙ last_shown tys x vs ∙ ap (found_shown tys) h))
+
+-- the number beside the last variable
+pub last_below : (b : ℕ) (vs : List (List ℕ × ℕ)) (n : ℕ) → all_below b (numbers vs) → last_of vs ≡ Some n → n < b
+last_below b [] n w h = cc
+last_below b (v ∷ []) n w h = subst (λ k. k < b) (let same : v.1 ≡ n = cc in same) w.0
+last_below b (v ∷ next ∷ vs) n w h = last_below b (next ∷ vs) n w.1 h
+
+pub last_seen : (tys : List Ty) (vs : List (List ℕ × ℕ)) (n : ℕ) (known : List (List ℕ × Ty)) → shown_vars tys vs ≡ known → last_of vs ≡ Some n
+    → type_at tys n ≡ last_type known
+last_seen tys vs n known is h = sym (ap last_type (sym is) ∙ ap type_or_bool (by vs h))
+  where
+    by : (vs : List (List ℕ × ℕ)) → last_of vs ≡ Some n → last_of (shown_vars tys vs) ≡ Some (type_at tys n)
+    by [] e = cc
+    by (v ∷ []) e = let same : v.1 ≡ n = cc in ap (λ k. Some (type_at tys k)) same
+    by (v ∷ next ∷ vs) e = by (next ∷ vs) e
 
 -- the node of the last number tells the level of the last type
 pub top_level : (tys : List Ty) (held ns : List ℕ) (n : ℕ) (node : Node) (ts : List Ty) → shown tys held ≡ ts → held ≡ n ∷ ns → type_at tys n ≡ ty_of tys node → out-Ty (top ts) ≡ level_of tys node

@@ -19,6 +19,20 @@ abbrev pub below : List Ty → List Ty
 below [] = []
 below (ty ∷ tys) = tys
 
+-- what stands beside the name of the last variable
+abbrev pub last_of : {A : Type 0} → List (List ℕ × A) → Option A
+last_of [] = None
+last_of (variable ∷ []) = Some variable.1
+last_of (variable ∷ next ∷ variables) = last_of (next ∷ variables)
+
+-- the type of the last variable; `bool` where there is none
+abbrev pub type_or_bool : Option Ty → Ty
+type_or_bool None = BoolTy
+type_or_bool (Some ty) = ty
+
+abbrev pub last_type : List (List ℕ × Ty) → Ty
+last_type variables = type_or_bool (last_of variables)
+
 -- with the type of the variable that was found on the stack
 abbrev pub with_found : Option (ℕ × Ty) → Known → Option ℕ × Known
 with_found None known = (None, known)

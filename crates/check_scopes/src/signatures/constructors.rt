@@ -7,7 +7,7 @@ ghost use Rattle.check_scopes.specs.signatures.Numbered.{seen, numbered_in};
 ghost use Rattle.check_scopes.specs.signatures.inner.Tables.{numbered_from, name_of_constructor, place_of, those_of_one, IsConstructorTable};
 
 use check_tables::names::NameTable;
-use hume_base::{ConDef, List, SumDef, Ty};
+use hume_base::{ConDef, List, Shared, SumDef, Ty};
 use std::alloc::{AllocError, Global};
 
 /// A constructor: the number of its data type, its place in it, its number among the constructors of all data types in their
@@ -17,7 +17,7 @@ pub struct Found<'a> {
     pub data_type: u32,
     pub place: u32,
     pub number: u32,
-    pub fields: &'a List<Ty>,
+    pub fields: &'a List<Shared<Ty>>,
 }
 
 /// All constructors in the order of their numbers, and the numbers by their names.
@@ -117,7 +117,7 @@ fn found_at<'a>(
     data_type: usize,
     place: usize,
     number: usize,
-    fields: &'a List<Ty>,
+    fields: &'a List<Shared<Ty>>,
 ) -> Result<Found<'a>, AllocError>
     ensures { IfOk result (λ found. seen found ≡ (record { sum = data_type; place = place; fields = fields.now }, number)) }
 {

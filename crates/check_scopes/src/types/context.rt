@@ -1,18 +1,16 @@
 ghost use Rattle.std.specs.Prelude.{◌≡◌, ◌<◌, ℕ, List, [], ◌∷◌, ◌++◌, ◌↔◌, IsTrue, length, take, drop, reverse, slice_get, OnOk, OnErr, IfOk, IfSome};
 ghost use Rattle.hume_base.specs.declared.types.Ty.{Ty as TyTree, Tuple as TupleTy, Vector as VectorTy, out-Ty};
 ghost use Rattle.check_scopes.specs.types.Nodes.{type_at, ty_of, level_of, IsWithin};
-ghost use Rattle.hume_model.specs.Forms.{forms_of};
 ghost use Rattle.check_typing.specs.Signatures.{variable_named};
-ghost use Rattle.check_scopes.specs.types.Contexts.{top, below, with_found, shape_of as shape_seen, part_at, item_of};
+ghost use Rattle.check_scopes.specs.types.Contexts.{top, below, last_type, with_found, shape_of as shape_seen, part_at, item_of};
 
 use crate::types::node::Node;
-use crate::types::shape::{Shape, forms_of_node, shape_of_node};
+use crate::types::shape::{Shape, shape_of_node};
 use crate::types::stack::NumberStack;
 use crate::types::table::TypeTable;
 use crate::types::trees::{number_of, scalar};
 use crate::types::variables::Variables;
-use hume_base::Ty;
-use hume_model::Forms;
+use hume_base::{Shared, Ty};
 use std::alloc::{AllocError, Global};
 use std::marker::Model;
 
@@ -141,17 +139,6 @@ impl<'a> Context<'a> {
         Ok(self.types.is_same(last, before))
     }
 
-    /// The forms of the values of the last type of the stack.
-    pub fn forms(&self) -> Result<Forms, AllocError>
-        ensures { IfOk result (λ forms. forms ≡ forms_of (top self.now.1)) }
-    {
-        let Some(number) = self.held.last() else {
-            return Err(AllocError);
-        };
-        let forms = forms_of_node(self.types.node(number));
-        Ok(forms)
-    }
-
     /// The last type of the stack, one of numbers, `char` or `bool`, as a tree. Any other is answered with want of memory.
     pub fn scalar(&self) -> Result<Ty, AllocError>
         ensures { IfOk result (λ ty. ty ≡ top self.now.1) }
@@ -161,6 +148,53 @@ impl<'a> Context<'a> {
         };
         let ty = scalar(&self.types, number)?;
         Ok(ty)
+    }
+
+    /// The last but one type of the stack, one of numbers, `char` or `bool`, as a tree. Any other is answered with want of memory.
+    pub fn scalar_below(&self) -> Result<Ty, AllocError>
+        ensures { IfOk result (λ ty. ty ≡ top (below self.now.1)) }
+    {
+        let Some(number) = self.held.before_last() else {
+            return Err(AllocError);
+        };
+        let ty = scalar(&self.types, number)?;
+        Ok(ty)
+    }
+
+    /// The last type of the stack as a tree, which shares its parts.
+    pub fn tree(&mut self, alloc: Global) -> Result<Shared<Ty>, AllocError>
+        ensures is { IfOk result (λ tree. tree ≡ top self.old.1) }
+        ensures keeps { self.new ≡ self.old }
+    {
+        let Some(number) = self.held.last() else {
+            return Err(AllocError);
+        };
+        let tree = self.types.tree(alloc, number)?;
+        Ok(tree)
+    }
+
+    /// The last but one type of the stack as a tree, which shares its parts.
+    pub fn tree_below(&mut self, alloc: Global) -> Result<Shared<Ty>, AllocError>
+        ensures is { IfOk result (λ tree. tree ≡ top (below self.old.1)) }
+        ensures keeps { self.new ≡ self.old }
+    {
+        let Some(number) = self.held.before_last() else {
+            return Err(AllocError);
+        };
+        let tree = self.types.tree(alloc, number)?;
+        Ok(tree)
+    }
+
+    /// The type of the last variable as a tree, which shares its parts.
+    pub fn variable_tree(&mut self, alloc: Global) -> Result<Shared<Ty>, AllocError>
+        ensures is { IfOk result (λ tree. tree ≡ last_type self.old.0) }
+        ensures keeps { self.new ≡ self.old }
+    {
+        let Some(number) = self.vars.last() else {
+            return Err(AllocError);
+        };
+        let tree = self.types.tree(alloc, number)?;
+        Ok(tree)
     }
 
     /// Puts a part of the last type of the stack, a tuple, on the stack.

@@ -2,10 +2,8 @@ ghost use Rattle.std.specs.Prelude.{◌≡◌, List};
 ghost use Rattle.hume_base.specs.declared.types.Ty.{Ty as TyTree};
 ghost use Rattle.check_scopes.specs.types.Nodes.{level_of};
 ghost use Rattle.check_scopes.specs.types.Contexts.{shape_of};
-ghost use Rattle.hume_model.specs.Forms.{forms_in};
 
 use crate::types::node::Node;
-use hume_model::Forms;
 
 /// What is seen of a type without looking at its parts.
 #[derive(Clone, Copy, Debug, PartialEq, Eq)]
@@ -35,16 +33,5 @@ pub(crate) fn shape_of_node(node: &Node) -> Shape
         Node::Tuple(parts) => Shape::Tuple(parts.len()),
         Node::Vector(count, _) => Shape::Vector(*count),
         Node::Named(number) => Shape::Named(*number),
-    }
-}
-
-/// The forms of the values of the node's type.
-pub(crate) fn forms_of_node(node: &Node) -> Forms
-    ensures { (tys : List TyTree) → result ≡ forms_in (level_of tys node.now) }
-{
-    match node {
-        Node::Bool => Forms::Truths,
-        Node::Named(number) => Forms::Constructors(*number),
-        _ => Forms::Others,
     }
 }

@@ -2,14 +2,18 @@ ghost use Rattle.std.specs.Prelude.{◌≡◌, ◌<◌, [], length, IfOk, IfSome
 ghost use Rattle.check_scopes.specs.types.Nodes.{type_at, ty_of, IsWithin, Grows};
 
 use crate::types::node::Node;
+use crate::types::tree_table::make_trees;
+use hume_base::{Shared, Ty};
 use indexmap::IndexSet;
 use std::alloc::{AllocError, Global};
 use std::marker::Model;
 
-/// Types, seen as the list of them: a number is a place in it, and no type stands in two places.
+/// Types, seen as the list of them: a number is a place in it, and no type stands in two places. Trees are made of the first
+/// ones, as far as they were asked for.
 #[derive(Drop)]
 pub struct TypeTable {
     nodes: IndexSet<Node>,
+    trees: Vec<Shared<Ty>>,
 }
 
 impl Model for TypeTable {
@@ -17,7 +21,7 @@ impl Model for TypeTable {
     ghost use Rattle.std.specs.Coded.{coded_list};
     ghost use Rattle.hume_base.specs.declared.types.Ty.{Ty};
     ghost use Rattle.hume_base.specs.contracts.types.Ty as ty;
-    ghost use Rattle.check_scopes.specs.types.Nodes.{types_of, IsTable};
+    ghost use Rattle.check_scopes.specs.types.Nodes.{types_of, Grows, IsTable};
 
     ghost Value = { List Ty };
 
@@ -25,7 +29,7 @@ impl Model for TypeTable {
 
     ghost view = { λ t. types_of t.nodes.keys };
 
-    ghost invariant = { λ t. IsTable t.nodes.keys (types_of t.nodes.keys) };
+    ghost invariant = { λ t. IsTable t.nodes.keys (types_of t.nodes.keys) × Grows t.trees.items (types_of t.nodes.keys) };
 }
 
 impl TypeTable {
@@ -34,6 +38,7 @@ impl TypeTable {
     {
         TypeTable {
             nodes: IndexSet::new(alloc),
+            trees: Vec::new(alloc),
         }
     }
 
@@ -68,6 +73,17 @@ impl TypeTable {
             return None;
         }
         Some(&self.nodes.as_slice()[number as usize])
+    }
+
+    /// The type of a number as a tree, which is made once.
+    pub fn tree(&mut self, alloc: Global, number: u32) -> Result<Shared<Ty>, AllocError>
+        requires { number < length self.old }
+        ensures is { IfOk result (λ tree. tree ≡ type_at self.old number) }
+        ensures keeps { self.new ≡ self.old }
+    {
+        let place = number as usize;
+        make_trees(alloc, self.nodes.as_slice(), &mut self.trees, place + 1)?;
+        self.trees[place].share()
     }
 
     /// Whether two numbers are of one type.

@@ -3,7 +3,7 @@ ghost use Rattle.check_scopes.specs.types.Nodes.{type_at, all_below, Grows};
 
 use crate::types::node::Node;
 use crate::types::table::TypeTable;
-use hume_base::Ty;
+use hume_base::{Shared, Ty};
 use std::alloc::{AllocError, Global};
 
 /// The type of a number as a tree, if it is one of numbers, `char` or `bool`. Any other is answered with want of memory.
@@ -48,7 +48,11 @@ pub(crate) fn number_of(alloc: Global, types: &mut TypeTable, ty: &Ty) -> Result
 }
 
 #[cycle(number_of)]
-fn numbers_of(alloc: Global, types: &mut TypeTable, tys: &[Ty]) -> Result<Vec<u32>, AllocError>
+fn numbers_of(
+    alloc: Global,
+    types: &mut TypeTable,
+    tys: &[Shared<Ty>],
+) -> Result<Vec<u32>, AllocError>
     ensures grows { Grows types.old types.new }
     ensures within { IfOk result (λ numbers. all_below (length types.new) numbers.items) }
     ensures is { IfOk result (λ numbers. map (type_at types.new) numbers.items ≡ tys.now) }

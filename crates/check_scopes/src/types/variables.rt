@@ -1,5 +1,6 @@
-ghost use Rattle.std.specs.Prelude.{◌≡◌, [], ◌∷◌, ◌++◌, ◌<◌, ◌^◌, length, take, map, OnOk, OnErr, IfOk, MatchOption, Some, None};
+ghost use Rattle.std.specs.Prelude.{◌≡◌, [], ◌∷◌, ◌++◌, ◌<◌, ◌^◌, length, take, map, OnOk, OnErr, IfOk, IfSome, MatchOption, Some, None};
 ghost use Rattle.check_typing.specs.Signatures.{variable_named};
+ghost use Rattle.check_scopes.specs.types.Contexts.{last_of as last_beside};
 
 use std::alloc::{AllocError, Global};
 use std::marker::Model;
@@ -52,12 +53,29 @@ impl<'a> Variables<'a> {
         self.entries.truncate(count);
     }
 
+    /// The number of the type of the last variable.
+    pub(crate) fn last(&self) -> Option<u32>
+        ensures { IfSome result (λ number. last_beside self.now ≡ Some number) }
+    {
+        last_number(self.entries.as_slice())
+    }
+
     /// The place of the last variable of a name, and the number of its type.
     pub(crate) fn find(&self, name: &[u8]) -> Option<(u32, u32)>
         ensures { result ≡ variable_named name.now self.now }
     {
         last_of(self.entries.as_slice(), name)
     }
+}
+
+fn last_number(vars: &[(&[u8], u32)]) -> Option<u32>
+    ensures { IfSome result (λ number. last_beside (map (λ v. (v.0.now, v.1)) vars.now) ≡ Some number) }
+{
+    let count = vars.len();
+    if count == 0 {
+        return None;
+    }
+    Some(vars[count - 1].1)
 }
 
 #[tactic(auto, using(crate::proofs::types_lemmas::Vars::var_steps))]

@@ -18,7 +18,8 @@ use Rattle.check_tasks.specs.results.ResultStates.{ResultState}
 use Rattle.check_tasks.specs.results.ResultTasks.{scope_of, types_of, signatures_of, last_outputs, result_run, result_of, output_of}
 
 pub let_result : (st : ResultState) (w : Walk) (a b : Bor Exp) (name : Bor (List ℕ)) →
-    result_run (task.Plain (plain.Own a) ∷ task.Plain (plain.Enter name) ∷ task.Result b ∷ task.Plain (plain.Leave (length (scope_of st))) ∷ task.Make make.Binding ∷ []) st
+    result_run (task.Plain (plain.Own a) ∷ task.Plain (plain.Enter name) ∷ task.Result b ∷ task.Make make.Binding
+    ∷ task.Plain (plain.Leave (length (scope_of st))) ∷ []) st
     ≡ result_of ((let_result_walk w name.now (walk (signatures_of st) a.now) (result_walk (signatures_of st) b.now)).result (scope_of st) (last_outputs st)) st
 let_result st w a b name =
     by_case ((walk (signatures_of st) a.now).own (scope_of st)) (λ n. grind (arith, form_steps)) (λ part h.

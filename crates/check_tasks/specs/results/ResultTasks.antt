@@ -4,8 +4,7 @@ use Rattle.hume_base.specs.declared.types.Ty.{Ty, out-Ty}
 use Rattle.hume_base.specs.declared.types.Ty.TheOpen.{Ty-F}
 use Rattle.hume_ast.specs.declared.tree.Pat.{Pat}
 use Rattle.hume_ast.specs.declared.tree.Exp.{Exp}
-use Rattle.check_scopes.specs.types.Contexts.{top, below}
-use Rattle.hume_model.specs.Forms.{forms_of}
+use Rattle.check_scopes.specs.types.Contexts.{top, below, last_type}
 use Rattle.check_typing.specs.Partial.{given}
 use Rattle.check_typing.specs.Signatures.{Scope}
 use Rattle.check_typing.specs.Results.{CoredRes, CoredOut, absent_out, value_out, outs_core, let_result_core, if_result_core, case_result_core, raise_result_core, raise_with_result_core}
@@ -61,12 +60,13 @@ abbrev pub make_step : ResultMake → ResultState → ResultState
 make_step make.Absent state = with_output absent_out state
 make_step make.Value state = (core_taken state, state.1, value_out (last state.0) ∷ state.2, state.3)
 make_step (make.Outs count) state = (state.0, outs_core (reverse (take count state.2)) ∷ state.1, drop count state.2, state.3)
-make_step make.Binding state = (core_taken state, let_result_core (last state.0) (top_result state.1) ∷ drop 1 state.1, state.2, state.3)
+make_step make.Binding state =
+    (core_taken state, let_result_core (last_type (scope_of state)) (last state.0) (top_result state.1) ∷ drop 1 state.1, state.2, state.3)
 make_step make.Branches state =
     (core_taken state, if_result_core (last state.0) (top_result (drop 1 state.1)) (top_result state.1) ∷ drop 2 state.1, state.2, state.3)
 make_step make.Arm state = (pattern_taken state, drop 1 state.1, state.2, (top_pattern state.0.2, top_result state.1) ∷ state.3)
 make_step (make.Alternatives count) state =
-    (core_taken state, case_result_core (forms_of (top (types_of state))) (last state.0) (reverse (take count state.3)) ∷ state.1, state.2, drop count state.3)
+    (core_taken state, case_result_core (top (types_of state)) (last state.0) (reverse (take count state.3)) ∷ state.1, state.2, drop count state.3)
 make_step (make.Raise number) state = with_result (raise_result_core number) state
 make_step (make.RaiseWith number) state = (core_taken state, raise_with_result_core number (last state.0) ∷ state.1, state.2, state.3)
 

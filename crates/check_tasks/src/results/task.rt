@@ -28,7 +28,7 @@ pub enum ResultMake {
     Value,
     /// A result of so many of the last outputs.
     Outs(usize),
-    /// `let`, with the last core and the last result.
+    /// `let`, with the last core, which is the last variable, and the last result.
     Binding,
     /// `if`, with the last core and the last two results.
     Branches,

@@ -1,6 +1,6 @@
--- A walk over equations, rules, handlers and declarations that finds their cores. Like the other walks it serves only code that
+-- A walk over equations, rules, handlers and declarations that finds their trees. Like the other walks it serves only code that
 -- does as it does.
-use Rattle.std.specs.Prelude.{ℕ, ◌||◌, Bool, false, List, [], ◌∷◌, Option, Some}
+use Rattle.std.specs.Prelude.{ℕ, List, [], ◌∷◌, Option, Some}
 use Rattle.hume_base.specs.declared.types.Ty.{Ty}
 use Rattle.hume_ast.specs.declared.tree.TyExp.{TyExp}
 use Rattle.hume_ast.specs.declared.tree.Decl.{Decl}
@@ -9,7 +9,7 @@ use Rattle.hume_model.specs.declared.core_tree.ExnDef.{ExnDef}
 use Rattle.check_typing.specs.Partial.{given}
 use Rattle.check_typing.specs.Signatures.{exn_named}
 use Rattle.check_typing.specs.Patterns.{patterns, positions}
-use Rattle.check_typing.specs.Declarations.{CoredEquation, CoredRule, CoredHandler, some_so, WrittenEquation, equation_core, WrittenRule, rule_core, WrittenHandler, carried_vars, handler_core, signature_written, ports_written}
+use Rattle.check_typing.specs.Declarations.{CoredEquation, CoredRule, CoredHandler, CoredDeclaration, function_core, box_core, no_core, WrittenEquation, equation_core, WrittenRule, rule_core, WrittenHandler, carried_vars, handler_core, signature_written, ports_written}
 use Rattle.check_typing.specs.inner.Walk.{walk}
 use Rattle.check_typing.specs.inner.ResultWalk.{result_walk}
 use Rattle.check_typing.specs.declared.signatures.Signature.{Signature}
@@ -46,12 +46,12 @@ box_walk signatures inputs outputs rules handlers =
     given (found_of_all (rule_walk signatures ins outs) rules) (λ rs.
     given (found_of_all (handler_walk signatures outs) handlers) (λ hs. Some (rs, hs)))))
 
--- whether a literal is out of the range of its type, where all has types
-abbrev pub declaration_walk : Signatures → Decl → Option Bool
-declaration_walk signatures (Fun name tys equations) = given (function_walk signatures name tys equations) (λ cs. Some (some_so cs))
+-- the trees of a declaration, where all has types
+abbrev pub declaration_walk : Signatures → Decl → Option CoredDeclaration
+declaration_walk signatures (Fun name tys equations) = given (function_walk signatures name tys equations) (λ cs. Some (function_core cs))
 declaration_walk signatures (BoxD name inputs outputs fair rules handlers) =
-    given (box_walk signatures inputs outputs rules handlers) (λ found. Some (some_so found.0 || some_so found.1))
-declaration_walk signatures (Sum name constructors) = Some false
-declaration_walk signatures (Exn name carries) = Some false
-declaration_walk signatures (Stream name from port) = Some false
-declaration_walk signatures (Wire source target depth initial) = Some false
+    given (box_walk signatures inputs outputs rules handlers) (λ found. Some (box_core found.0 found.1))
+declaration_walk signatures (Sum name constructors) = Some no_core
+declaration_walk signatures (Exn name carries) = Some no_core
+declaration_walk signatures (Stream name from port) = Some no_core
+declaration_walk signatures (Wire source target depth initial) = Some no_core

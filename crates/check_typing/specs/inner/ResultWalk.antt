@@ -4,7 +4,6 @@ use Rattle.hume_base.specs.declared.types.Ty.{Ty, Bool as BoolTy}
 use Rattle.hume_ast.specs.declared.tree.Pat.{Pat}
 use Rattle.hume_ast.specs.declared.tree.Exp.{Exp, fold-Exp, map-Exp}
 use Rattle.hume_ast.specs.declared.tree.Exp.TheOpen.{Exp-F}
-use Rattle.hume_model.specs.Forms.{forms_of}
 use Rattle.check_typing.specs.Partial.{given}
 use Rattle.check_typing.specs.Signatures.{Scope, exn_named}
 use Rattle.check_typing.specs.Patterns.{pattern}
@@ -71,7 +70,7 @@ raise_with_result_walk signatures name w a = followed_walk w (λ scope tys.
 
 abbrev pub let_result_walk : Walk → List ℕ → Walk → ResultWalk → ResultWalk
 let_result_walk w name a b = followed_walk w (λ scope tys.
-    given (a.own scope) (λ part. given (b.result (scope ++ (name, part.0) ∷ []) tys) (λ body. Some (let_result_core part.1 body))))
+    given (a.own scope) (λ part. given (b.result (scope ++ (name, part.0) ∷ []) tys) (λ body. Some (let_result_core part.0 part.1 body))))
 
 abbrev pub if_result_walk : Walk → Walk → ResultWalk → ResultWalk → ResultWalk
 if_result_walk w test a b = followed_walk w (λ scope tys.
@@ -87,7 +86,7 @@ arms_result signatures scope of (arm ∷ arms) tys =
 
 abbrev pub case_result_walk : Signatures → Walk → Walk → List (Pat × ResultWalk) → ResultWalk
 case_result_walk signatures w a arms = followed_walk w (λ scope tys.
-    given (a.own scope) (λ part. given (arms_result signatures scope part.0 arms tys) (λ all. Some (case_result_core (forms_of part.0) part.1 all))))
+    given (a.own scope) (λ part. given (arms_result signatures scope part.0 arms tys) (λ all. Some (case_result_core part.0 part.1 all))))
 
 -- one level of an expression of which the other walk finds w
 abbrev pub result_walk_form : Signatures → Walk → Exp-F ResultWalk → ResultWalk

@@ -13,7 +13,6 @@ use Rattle.hume_model.specs.declared.core_tree.Op.{Op}
 use Rattle.hume_model.specs.declared.core_tree.Op.TheVariants as op
 use Rattle.hume_model.specs.declared.core_tree.ExnDef.{ExnDef}
 use Rattle.hume_model.specs.Typing.{is_number_type, is_comparison}
-use Rattle.hume_model.specs.Forms.{forms_of}
 use Rattle.check_typing.specs.Partial.{given, when}
 use Rattle.check_typing.specs.Signatures.{Scope, Constructor, exn_named, fun_named, con_named, variable_named}
 use Rattle.check_typing.specs.WrittenTypes.{written}
@@ -75,8 +74,8 @@ truth_walk truth = closed_walk (λ scope. Some (BoolTy, truth_core truth))
 abbrev pub let_walk : List ℕ → Walk → Walk → Walk
 let_walk name a b = record {
   is_open = b.is_open;
-  own = λ scope. given (a.own scope) (λ part. given (b.own (scope ++ (name, part.0) ∷ [])) (λ body. Some (body.0, let_core part.1 body.1)));
-  against = λ scope ty. given (a.own scope) (λ part. given (b.against (scope ++ (name, part.0) ∷ []) ty) (λ body. Some (let_core part.1 body)));
+  own = λ scope. given (a.own scope) (λ part. given (b.own (scope ++ (name, part.0) ∷ [])) (λ body. Some (body.0, let_core part.0 part.1 body.1)));
+  against = λ scope ty. given (a.own scope) (λ part. given (b.against (scope ++ (name, part.0) ∷ []) ty) (λ body. Some (let_core part.0 part.1 body)));
 }
 
 -- two parts against a type
@@ -120,9 +119,9 @@ arm_walks_open (arm ∷ arms) = arm.1.is_open && arm_walks_open arms
 abbrev pub case_walk : Signatures → Walk → List (Pat × Walk) → Walk
 case_walk signatures a arms = record {
   is_open = arm_walks_open arms;
-  own = λ scope. given (a.own scope) (λ part. given (arms_own signatures scope part.0 arms) (λ all. Some (all.0, case_core (forms_of part.0) part.1 all.1)));
+  own = λ scope. given (a.own scope) (λ part. given (arms_own signatures scope part.0 arms) (λ all. Some (all.0, case_core part.0 part.1 all.1)));
   against = λ scope ty. given (a.own scope) (λ part.
-      given (arms_against signatures scope part.0 arms ty) (λ all. Some (case_core (forms_of part.0) part.1 all)));
+      given (arms_against signatures scope part.0 arms ty) (λ all. Some (case_core part.0 part.1 all)));
 }
 
 abbrev pub carries_none : ℕ → Option Ty → Option ℕ
@@ -171,12 +170,12 @@ neg_walk a = record {
 
 abbrev pub index_walk : Walk → Walk → Walk
 index_walk a b = closed_walk (λ scope. given (a.own scope) (λ vector. given (vector_parts vector.0) (λ parts. given (b.own scope) (λ place.
-    when (is_number_type place.0) (Some (parts.1, index_core parts.0 vector.1 place.1))))))
+    when (is_number_type place.0) (Some (parts.1, index_core vector.0 place.0 vector.1 place.1))))))
 
 -- an update of a vector of the type
 abbrev pub updated : Walk → Walk → Scope → Ty → Cored → Option Cored
 updated b d scope ty vector = given (vector_parts ty) (λ parts. given (b.own scope) (λ place. when (is_number_type place.0)
-    (given (d.against scope parts.1) (λ new_item. Some (update_core parts.0 vector place.1 new_item)))))
+    (given (d.against scope parts.1) (λ new_item. Some (update_core ty place.0 vector place.1 new_item)))))
 
 abbrev pub update_walk : Walk → Walk → Walk → Walk
 update_walk a b d = record {
@@ -187,7 +186,7 @@ update_walk a b d = record {
 
 abbrev pub cast_walk : Signatures → Walk → TyExp → Walk
 cast_walk signatures a type = closed_walk (λ scope. given (written signatures.types type) (λ ty. when (is_number_type ty)
-    (given (a.own scope) (λ part. when (is_number_type part.0) (Some (ty, convert_core ty part.1))))))
+    (given (a.own scope) (λ part. when (is_number_type part.0) (Some (ty, convert_core part.0 ty part.1))))))
 
 -- parts against the types in their places
 abbrev pub all_against : Scope → List Walk → List Ty → Option (List Cored)

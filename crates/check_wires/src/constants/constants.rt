@@ -12,7 +12,7 @@ use crate::constants::literals::{
 };
 use check_scopes::signatures::SignatureTable;
 use hume_ast::Exp;
-use hume_base::{List, Ty, Value};
+use hume_base::{List, Shared, Ty, Value};
 use std::alloc::{AllocError, Global};
 
 /// The value of the type that the expression writes down, if it is one.
@@ -137,7 +137,7 @@ fn values(
     alloc: Global,
     table: &SignatureTable,
     parts: &[Exp],
-    tys: &[Ty],
+    tys: &[Shared<Ty>],
 ) -> Result<Option<List<Value>>, AllocError>
     ensures { IfOk result (λ found. found ≡ constants.values_of (map (constants.constant table.now) parts.now) tys.now) }
 {

@@ -7,7 +7,7 @@ ghost use Rattle.check_typing.specs.WrittenTypes.{written as written_type, all_w
 use check_scopes::signatures::SignatureTable;
 use hume_ast::TyExp;
 use hume_base::limits::{MAX_LENGTH, MAX_WIDTH};
-use hume_base::{Box, List, Ty};
+use hume_base::{List, Shared, Ty};
 use std::alloc::{AllocError, Global};
 
 /// The type that is written, if it is one.
@@ -43,7 +43,7 @@ fn vector(
     }
     match written(alloc, table, item)? {
         None => Ok(None),
-        Some(item) => Ok(Some(Ty::Vector(count as u32, Box::new(alloc, item)?))),
+        Some(item) => Ok(Some(Ty::Vector(count as u32, Shared::new(alloc, item)?))),
     }
 }
 
@@ -65,14 +65,14 @@ fn written_all(
     alloc: Global,
     table: &SignatureTable,
     tys: &[TyExp],
-) -> Result<Option<List<Ty>>, AllocError>
+) -> Result<Option<List<Shared<Ty>>>, AllocError>
     ensures { IfOk result (λ found. found ≡ all_written table.now.types tys.now) }
 {
     let mut found = List::new(alloc);
     for ty in tys {
         match written(alloc, table, ty)? {
             None => return Ok(None),
-            Some(ty) => found.push(ty)?,
+            Some(ty) => found.push(Shared::new(alloc, ty)?)?,
         }
     }
     Ok(Some(found))

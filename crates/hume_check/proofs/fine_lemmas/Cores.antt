@@ -1,5 +1,5 @@
 -- A program that breaks no rule has a core.
-use Rattle.std.proofs.Common.{◌≡◌, ℕ, List, [], ◌∷◌, map, Option, Some, None, slice_get, refl, ap, sym, subst, ◌∙◌, Bool, true, false}
+use Rattle.std.proofs.Common.{◌≡◌, ℕ, List, [], ◌∷◌, map, Option, Some, None, slice_get, refl, ap, subst, ◌∙◌, true, false}
 use Rattle.hume_base.specs.Places.{line_at}
 use Rattle.hume_base.specs.declared.limits.TheConstants.{MAX_DEPTH}
 use Rattle.hume_base.specs.declared.rule.Rule.TheVariants.{C40}
@@ -16,30 +16,23 @@ use Rattle.hume_model.specs.declared.core_tree.NodeC.{NodeC}
 use Rattle.hume_model.specs.declared.core_tree.NodeC.TheVariants.{Rules, From, To}
 use Rattle.hume_model.specs.declared.core_tree.FunC.{FunC}
 use Rattle.hume_model.specs.declared.core_tree.Core.{Core}
+use Rattle.typed_core.specs.Erasing.{erased_equation, erased_handler, erased_rule}
 use Rattle.check_typing.specs.Partial.{given}
-use Rattle.check_typing.specs.WrittenTypes.{written, all_written}
-use Rattle.check_typing.specs.Declarations.{InPlaces, CoredEquation, CoredRule, CoredHandler, IsTyped, parted, signature_written, ports_written}
+use Rattle.check_typing.specs.WrittenTypes.{written}
+use Rattle.check_typing.specs.Declarations.{InPlaces, CoredDeclaration, cores_alone, IsTyped, ports_written}
 use Rattle.check_typing.specs.inner.DeclarationWalk.{declaration_walk}
-use Rattle.check_typing.specs.declared.signatures.Signature.{Signature}
 use Rattle.check_typing.specs.declared.signatures.Signatures.{Signatures}
-use Rattle.check_typing.proofs.Maybe.{some-same, given-inv}
+use Rattle.check_typing.proofs.Maybe.{given-inv}
 use Rattle.check_typing.proofs.DeclarationsAgree.{finds_declaration, finds_none}
 use Rattle.check_rules.specs.Declared.{FunctionDecl, function_of, in_order, Numbered, if_node, nodes_in, wires_in}
 use Rattle.check_rules.specs.SignaturesOf.{AreSignatures}
 use Rattle.check_rules.specs.CheckRules.{IsFine, BreaksCheck, BreaksTypes}
 use Rattle.check_rules.specs.CoreOf.{IsFunctionOf, IsPort, stream_core, IsNodeOf, IsWireOf, IsCoreOf}
 use Rattle.check_rules.proofs.Stands.{declared, function_is, node_stands}
+use Rattle.hume_check.proofs.nodes_lemmas.FunctionLaws.{signature_name}
 use Rattle.hume_check.proofs.fine_lemmas.Places.{all_have, is_node}
 use Rattle.hume_check.proofs.fine_lemmas.Signatures.{some_signatures}
 use Rattle.hume_check.proofs.fine_lemmas.Wires.{wire_in_place}
-
--- a signature has the name that it is written with
-signature_name : (types : Types) (title : List ℕ) (tys : List TyExp) (signature : Signature) → signature_written types title tys ≡ Some signature
-    → signature.name ≡ title
-signature_name types title tys signature h =
-    let all = given-inv (all_written types tys) (λ all. given (parted all) (λ p. Some (record { name = title; params = p.0; gives = p.1 }))) signature h in
-    let p = given-inv (parted all.0) (λ p. Some (record { name = title; params = p.0; gives = p.1 })) signature all.2 in
-    ap (λ (s : Signature). s.name) (sym (some-same _ signature p.2))
 
 -- inputs or outputs whose types are types
 some_ports : (types : Types) (places : List (List ℕ × TyExp)) (tys : List Ty) → ports_written types places ≡ Some tys
@@ -53,8 +46,8 @@ some_ports types (place ∷ places) tys h =
 
 module _ (text : List ℕ) (s : Signatures) where
   -- a function that has types has a core
-  function_core : (f : FunctionDecl) (wide : Bool) → IsTyped s (Fun f.name f.types f.equations) wide → (function : FunC) × IsFunctionOf text s f function
-  function_core f wide t =
+  function_core : (f : FunctionDecl) (c : CoredDeclaration) → IsTyped s (Fun f.name f.types f.equations) c → (function : FunC) × IsFunctionOf text s f function
+  function_core f c t =
       let signature = t.1.signature in
       let name = signature_name s.types f.name f.types signature t.1.is_written in (
         record {
@@ -62,7 +55,7 @@ module _ (text : List ℕ) (s : Signatures) where
           line = line_at text f.place;
           params = signature.params;
           gives = signature.gives;
-          equations = map (λ (c : CoredEquation). c.0) t.0;
+          equations = map erased_equation (cores_alone t.0);
         },
         record {
           name = refl;
@@ -75,8 +68,8 @@ module _ (text : List ℕ) (s : Signatures) where
       )
 
   -- so has a node
-  node_core : (d e : Numbered) (decl : Decl) (wide : Bool) → IsTyped s decl wide → if_node d decl ≡ Some e → (node : NodeC) × IsNodeOf text s d decl node
-  node_core d e (BoxD title inputs outputs is_fair rules handlers) wide t is =
+  node_core : (d e : Numbered) (decl : Decl) (c : CoredDeclaration) → IsTyped s decl c → if_node d decl ≡ Some e → (node : NodeC) × IsNodeOf text s d decl node
+  node_core d e (BoxD title inputs outputs is_fair rules handlers) c t is =
       let ins = some_ports s.types inputs t.2.ins t.2.inputs_are in
       let outs = some_ports s.types outputs t.2.outs t.2.outputs_are in
       let b : BoxC = record {
@@ -86,8 +79,8 @@ module _ (text : List ℕ) (s : Signatures) where
         ins = ins.0;
         outs = outs.0;
         fair = is_fair;
-        rules = map (λ (c : CoredRule). c.0) t.0;
-        handlers = map (λ (c : CoredHandler). c.0) t.1;
+        rules = map erased_rule (cores_alone t.0);
+        handlers = map erased_handler (cores_alone t.1);
       } in (
         Rules b,
         (
@@ -108,9 +101,9 @@ module _ (text : List ℕ) (s : Signatures) where
           },
         ),
       )
-  node_core d e (Stream title true port) wide t is = (From (stream_core text d title port), refl)
-  node_core d e (Stream title false port) wide t is = (To (stream_core text d title port), refl)
-  node_core d e _ wide t is = cc
+  node_core d e (Stream title true port) c t is = (From (stream_core text d title port), refl)
+  node_core d e (Stream title false port) c t is = (To (stream_core text d title port), refl)
+  node_core d e _ c t is = cc
 
 module _ (text : List ℕ) (program : Program) (fit : IsFit program) (fine : IsFine program.decls) where
   has_signatures : (signatures : Signatures) × AreSignatures program.decls signatures
@@ -118,15 +111,15 @@ module _ (text : List ℕ) (program : Program) (fit : IsFit program) (fine : IsF
 
   module _ (s : Signatures) (are : AreSignatures program.decls s) where
     -- each declaration has types
-    typed : (number : ℕ) (d : ℕ × Decl) → slice_get program.decls number ≡ Some d → (wide : Bool) × IsTyped s d.1 wide
+    typed : (number : ℕ) (d : ℕ × Decl) → slice_get program.decls number ≡ Some d → (c : CoredDeclaration) × IsTyped s d.1 c
     typed number d there = by (declaration_walk s d.1) refl
       where
-        by : (o : Option Bool) → declaration_walk s d.1 ≡ o → (wide : Bool) × IsTyped s d.1 wide
+        by : (o : Option CoredDeclaration) → declaration_walk s d.1 ≡ o → (c : CoredDeclaration) × IsTyped s d.1 c
         by None e = absurd (fine (record { rule = C40; declaration = number }) (BreaksCheck.types (BreaksTypes.untyped (
           refl,
           record { signatures = s; are = are; decl = d; there = there; none = (finds_none s d.1).1 e },
         ))))
-        by (Some wide) e = (wide, (finds_declaration s d.1 wide).1 e)
+        by (Some c) e = (c, (finds_declaration s d.1 c).1 e)
 
     functions : (funs : List FunC) × InPlaces (IsFunctionOf text s) (in_order function_of are.funs.order program.decls) funs
     functions = all_have (IsFunctionOf text s) (in_order function_of are.funs.order program.decls) (λ n f e.

@@ -29,9 +29,11 @@ use Rattle.check_counts.specs.Counted.{counted}
 use Rattle.check_counts.specs.CountRules.{Miscounts, declaration_miscounts, HasStrayStar, declaration_has_stray_star}
 use Rattle.check_counts.specs.Limits.{PassesLimits, is_full_for, tally_of, has_many_parts}
 use Rattle.check_typing.specs.WrittenTypes.{written}
-use Rattle.check_typing.specs.Declarations.{HasNoType, HasWideLiteral}
+use Rattle.typed_core.specs.declared.typed_tree.TypedDeclaration.{TypedDeclaration}
+use Rattle.check_typing.specs.Declarations.{CoredDeclaration, HasNoType, HasWideLiteral}
 use Rattle.check_typing.specs.inner.DeclarationWalk.{declaration_walk}
 use Rattle.check_typing.specs.declared.signatures.Signatures.{Signatures}
+use Rattle.check_typing.proofs.Maybe.{some-same}
 use Rattle.check_typing.proofs.DeclarationsAgree.{finds_declaration, finds_none}
 use Rattle.check_rules.specs.Declared.{Decls, WireDecl, wires_in}
 use Rattle.check_rules.specs.SignaturesOf.{AreSignatures}
@@ -50,10 +52,10 @@ none_or : {A : Type 0} (o : Option A) → Decided (o ≡ None)
 none_or None = inl refl
 none_or (Some x) = inr (λ e. cc)
 
-is_wide : (o : Option Bool) → Decided (o ≡ Some true)
-is_wide None = inr (λ e. cc)
-is_wide (Some true) = inl refl
-is_wide (Some false) = inr (λ e. cc)
+is_wide : (o : Option CoredDeclaration) → Decided ((trees : TypedDeclaration) × (o ≡ Some (trees, true)))
+is_wide None = inr (λ h. let e = h.1 in cc)
+is_wide (Some (trees, true)) = inl (trees, refl)
+is_wide (Some (trees, false)) = inr (λ h. (let e : false ≡ true = ap (λ (c : CoredDeclaration). c.1) (some-same _ _ h.1) in cc))
 
 -- each rule of a phase is one of it
 module _ (decls : Decls) where
@@ -174,7 +176,8 @@ module _ (decls : Decls) where
     out_of_range = least_of_rule C41 (HasLiteralOutOfRange decls) (length decls)
         (λ i. decided_as (λ h. record { signatures = s; are = are; decl = h.0; there = h.1; wide = h.2 })
         (λ h. (h.decl, h.there, subst (λ t. HasWideLiteral t h.decl.1) (the_signatures decls h.signatures s h.are are) h.wide))
-        (by_decl (HasWideLiteral s) (λ decl. decided_as (finds_declaration s decl true).1 (finds_declaration s decl true).0 (is_wide (declaration_walk s decl))) i))
+        (by_decl (HasWideLiteral s) (λ decl. decided_as (λ h. (h.0, (finds_declaration s decl (h.0, true)).1 h.1)) (λ h. (h.0, (finds_declaration s decl (h.0, true)).0 h.1))
+        (is_wide (declaration_walk s decl))) i))
         (λ i h. slice_get_within decls i h.decl h.there)
 
     -- a first value that is none

@@ -1,67 +1,72 @@
--- What is found of a box is what its core has.
-use Rattle.std.proofs.Common.{◌≡◌, ℕ, ◌||◌, Bool, List, Option, Some, None, refl, ap, sym}
-use Rattle.std.proofs.lemmas.Grind.{common_steps}
-use Rattle.hume_base.specs.Places.{line_at}
-use Rattle.hume_base.specs.declared.types.Ty.{Ty}
+-- What is said of a box and its trees is what its core has.
+use Rattle.std.proofs.Common.{◌≡◌, ℕ, Bool, List, ap, sym, subst, ◌∙◌, refl, map, Some}
+use Rattle.hume_ast.specs.declared.tree.TyExp.{TyExp}
 use Rattle.hume_ast.specs.declared.tree.Decl.{Decl}
-use Rattle.hume_model.specs.declared.core_tree.RuleC.{RuleC}
-use Rattle.hume_model.specs.declared.core_tree.HandC.{HandC}
-use Rattle.check_typing.specs.Partial.{given}
-use Rattle.check_typing.specs.Declarations.{CoredRule, CoredHandler, some_so, cores_alone, ports_written}
-use Rattle.check_typing.specs.inner.DeclarationWalk.{found_of_all, rule_walk, handler_walk}
+use Rattle.hume_ast.specs.declared.tree.Decl.TheVariants.{BoxD}
+use Rattle.hume_model.specs.declared.core_tree.BoxC.{BoxC}
+use Rattle.hume_model.specs.declared.core_tree.NodeC.TheVariants as node
+use Rattle.typed_core.specs.declared.typed_tree.TypedRule.{TypedRule}
+use Rattle.typed_core.specs.declared.typed_tree.TypedHandler.{TypedHandler}
+use Rattle.typed_core.specs.declared.typed_tree.TypedDeclaration.{TypedDeclaration}
+use Rattle.typed_core.specs.declared.typed_tree.TypedDeclaration.TheVariants.{Rules}
+use Rattle.typed_core.specs.Erasing.{erased_handler, erased_rule}
+use Rattle.check_typing.specs.Declarations.{WrittenRule, WrittenHandler, CoredDeclaration, cores_alone, HasTrees}
 use Rattle.check_typing.specs.declared.signatures.Signatures.{Signatures}
-use Rattle.check_typing.proofs.Maybe.{given-inv, some-same}
-use Rattle.check_typing.proofs.DeclarationsAgree.{box_from}
-use Rattle.check_declarations.specs.boxes.Boxes.{box_found}
-use Rattle.check_rules.specs.CoreOf.{IsBoxOf}
 use Rattle.hume_check.specs.declared.nodes.declared.BoxParts.{BoxParts}
-use Rattle.hume_check.specs.declared.nodes.boxes.Interface.{Interface}
-use Rattle.hume_check.specs.nodes.inner.Parts.{numbered, found_of, HasInterface}
+use Rattle.hume_check.specs.nodes.inner.Parts.{AreOfBox, HaveTypes, IsBoxFrom, IsNodeIfOne, numbered}
 
-module _ (s : Signatures) (parts : BoxParts) where
-  pub box_made : (text : List ℕ) (number place line : ℕ) (decl : Decl) (interface : Interface) (rules : List RuleC) (handlers : List HandC) (too_wide : Bool)
-      → line ≡ line_at text place → HasInterface s parts interface → box_found (found_of s parts) ≡ Some (rules, handlers, too_wide)
-      → IsBoxOf text s (numbered number (place, decl)) parts.name.now parts.inputs.now parts.outputs.now parts.is_fair parts.rules.now parts.handlers.now
-      (record {
-        name = interface.name;
-        line = line;
-        declaration = number;
-        ins = interface.ins;
-        outs = interface.outs;
-        fair = parts.is_fair;
-        rules = rules;
-        handlers = handlers;
-      })
-  box_made text number place line decl interface rules handlers too_wide is has found =
-      let k = given-inv (found_of s parts) (λ (cs : List CoredRule × List CoredHandler).
-      Some (cores_alone cs.0, cores_alone cs.1, some_so cs.0 || some_so cs.1)) (rules, handlers, too_wide) found in
-      let e = some-same _ (rules, handlers, too_wide) k.2 in
-      record {
-        name = has.name;
-        line = is;
-        declaration = refl;
-        ins = has.ins;
-        outs = has.outs;
-        fair = refl;
-        rule_cores = k.0.0;
-        handler_cores = k.0.1;
-        typed = box_from s parts.inputs.now parts.outputs.now parts.rules.now parts.handlers.now k.0.0 k.0.1 k.1;
-        rules_are = ap (λ (c : List RuleC × List HandC × Bool). c.0) (sym e);
-        handlers_are = ap (λ (c : List RuleC × List HandC × Bool). c.1) (sym e);
-      }
+same_rules : (rules others : List TypedRule) (handlers more : List TypedHandler) → Rules rules handlers ≡ Rules others more → rules ≡ others
+same_rules rules others handlers more h = cc
 
-  abbrev with_outputs : List Ty → Option (List Ty) → Option (List CoredRule × List CoredHandler)
-  with_outputs ins outs = given outs (λ outs. given (found_of_all (rule_walk s ins outs) parts.rules.now) (λ rs.
-      given (found_of_all (handler_walk s outs) parts.handlers.now) (λ hs. Some (rs, hs))))
+same_handlers : (rules others : List TypedRule) (handlers more : List TypedHandler) → Rules rules handlers ≡ Rules others more → handlers ≡ more
+same_handlers rules others handlers more h = cc
 
-  pub inputs_missing : ports_written s.types parts.inputs.now ≡ None → found_of s parts ≡ None
-  inputs_missing h = ap (λ o. given o (λ ins. with_outputs ins (ports_written s.types parts.outputs.now))) h
+module _ (s : Signatures) (d : ℕ × Decl) (trees : TypedDeclaration) (typed : HasTrees s d.1 trees) (name : List ℕ) (ins outs : List (List ℕ × TyExp)) where
+  module _ (fair : Bool) (rules : List WrittenRule) (handlers : List WrittenHandler) (is : d.1 ≡ BoxD name ins outs fair rules handlers) where
+    has : HasTrees s (BoxD name ins outs fair rules handlers) trees
+    has = subst (λ decl. HasTrees s decl trees) is typed
 
-  pub outputs_missing : ports_written s.types parts.outputs.now ≡ None → found_of s parts ≡ None
-  outputs_missing h = by (ports_written s.types parts.inputs.now)
-    where
-      by : (o : Option (List Ty)) → given o (λ ins. with_outputs ins (ports_written s.types parts.outputs.now)) ≡ None
-      by None = refl
-      by (Some ins) = ap (with_outputs ins) h
+    same : trees ≡ Rules (cores_alone has.0) (cores_alone has.1)
+    same = ap (λ (c : CoredDeclaration). c.0) has.3
 
-pub ruleset interface_steps = (common_steps, inputs_missing, outputs_missing)
+    pub of_box : AreOfBox trees
+    of_box = (cores_alone has.0, cores_alone has.1, same)
+
+    pub inputs_typed : HaveTypes s.types ins
+    inputs_typed = (has.2.ins, has.2.inputs_are)
+
+    pub outputs_typed : HaveTypes s.types outs
+    outputs_typed = (has.2.outs, has.2.outputs_are)
+
+-- the node of a box is what is made of its parts
+module _ (text : List ℕ) (s : Signatures) (number : ℕ) (d : ℕ × Decl) (trees : TypedDeclaration) (typed : HasTrees s d.1 trees) where
+  pub box_node : (parts : BoxParts) (rules : List WrittenRule) (handlers : List WrittenHandler) (b : BoxC)
+      → d.1 ≡ BoxD parts.name.now parts.inputs.now parts.outputs.now parts.is_fair rules handlers
+      → trees ≡ Rules parts.rules.now parts.handlers.now → IsBoxFrom text s.types number d.0 parts b
+      → IsNodeIfOne text s (numbered number d) (Some (node.Rules b))
+  box_node parts rules handlers b is are from =
+      let decl = BoxD parts.name.now parts.inputs.now parts.outputs.now parts.is_fair rules handlers in
+      let has : HasTrees s decl trees = subst (λ decl. HasTrees s decl trees) is typed in
+      let same : Rules parts.rules.now parts.handlers.now ≡ Rules (cores_alone has.0) (cores_alone has.1) =
+      sym are ∙ ap (λ (c : CoredDeclaration). c.0) has.3 in
+      subst (λ decl. IsNodeIfOne text s (numbered number (d.0, decl)) (Some (node.Rules b))) (sym is) (
+        refl,
+        (
+          b,
+          refl,
+          record {
+            name = from.name;
+            line = from.line;
+            declaration = from.declaration;
+            ins = from.ins;
+            outs = from.outs;
+            fair = from.fair;
+            rule_cores = has.0;
+            handler_cores = has.1;
+            typed = has.2;
+            rules_are = from.rules ∙ ap (map erased_rule) (same_rules parts.rules.now (cores_alone has.0) parts.handlers.now (cores_alone has.1) same);
+            handlers_are = from.handlers
+                ∙ ap (map erased_handler) (same_handlers parts.rules.now (cores_alone has.0) parts.handlers.now (cores_alone has.1) same);
+          },
+        ),
+      )

@@ -1,5 +1,5 @@
 -- Things found one after the other, each for one of a list.
-use Rattle.std.proofs.Common.{◌≡◌, ℕ, zero, suc, ◌+◌, ◌<◌, ◌≤◌, List, [], ◌∷◌, ◌++◌, length, drop, get_or, sym, subst, ◌∙◌, append_assoc, append-nil, drop-cons, add-one}
+use Rattle.std.proofs.Common.{◌≡◌, ℕ, zero, suc, ◌+◌, ◌<◌, ◌≤◌, List, [], ◌∷◌, ◌++◌, length, drop, get_or, sym, subst, ◌∙◌, append_assoc, append-nil, drop-cons, add-one, arith}
 use Rattle.std.proofs.lemmas.List.{drop_all}
 use Rattle.check_typing.specs.Declarations.{InPlaces}
 
@@ -47,3 +47,9 @@ module _ {A B : Type 0} (Belongs : A → B → Type 0) where
   others_left x left (y ∷ all) zero h = h.1
   others_left x left [] (suc place) h = absurd h
   others_left x left (y ∷ all) (suc place) h = others_left x left all place h
+
+  pub first_within : (x : A) (left : List A) (all : List B) (place : ℕ) → InPlaces Belongs (x ∷ left) (drop place all) → place < length all
+  first_within x left [] zero h = absurd h
+  first_within x left (y ∷ all) zero h = omega arith
+  first_within x left [] (suc place) h = absurd h
+  first_within x left (y ∷ all) (suc place) h = let lt = first_within x left all place h in omega arith

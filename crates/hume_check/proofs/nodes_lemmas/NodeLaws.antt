@@ -1,24 +1,17 @@
 -- The node of each declaration that is of one.
-use Rattle.std.proofs.Common.{◌≡◌, ℕ, ◌+◌, ◌<◌, ◌≤◌, ◌||◌, Bool, true, false, List, [], ◌∷◌, ◌++◌, length, drop, get_or, Option, Some, None, refl, ap, sym, subst, ◌∙◌, add-one}
+use Rattle.std.proofs.Common.{◌≡◌, ℕ, ◌+◌, ◌<◌, ◌≤◌, Bool, true, false, List, [], ◌∷◌, ◌++◌, length, drop, get_or, Option, Some, None, refl, ap, sym, subst, ◌∙◌, add-one}
 use Rattle.std.specs.List.{filter_map, cons_option}
 use Rattle.std.proofs.lemmas.Grind.{common_steps}
 use Rattle.std.proofs.lemmas.List.{drop_all}
-use Rattle.std.proofs.lemmas.Option.{slice_get_read}
-use Rattle.hume_ast.specs.declared.tree.TyExp.{TyExp}
 use Rattle.hume_ast.specs.declared.tree.Decl.{Decl}
-use Rattle.hume_ast.specs.declared.tree.Decl.TheVariants.{BoxD, Stream}
-use Rattle.hume_model.specs.declared.core_tree.BoxC.{BoxC}
+use Rattle.hume_ast.specs.declared.tree.Decl.TheVariants.{Stream}
 use Rattle.hume_model.specs.declared.core_tree.NodeC.{NodeC}
-use Rattle.hume_model.specs.declared.core_tree.NodeC.TheVariants.{Rules, From, To}
+use Rattle.hume_model.specs.declared.core_tree.NodeC.TheVariants.{From, To}
 use Rattle.hume_model.specs.declared.core_tree.StreamC.{StreamC}
-use Rattle.check_typing.specs.Partial.{given}
-use Rattle.check_typing.specs.Declarations.{InPlaces, CoredRule, WrittenRule, CoredHandler, WrittenHandler, some_so, HasNoType}
-use Rattle.check_typing.specs.inner.DeclarationWalk.{box_walk}
+use Rattle.check_typing.specs.Declarations.{InPlaces}
 use Rattle.check_typing.specs.declared.signatures.Signatures.{Signatures}
-use Rattle.check_typing.proofs.DeclarationsAgree.{finds_none}
 use Rattle.check_rules.specs.Declared.{Decls, Numbered, if_node, numbered_from, nodes_in}
-use Rattle.check_rules.specs.CoreOf.{IsBoxOf, IsNodeOf, stream_core}
-use Rattle.hume_check.specs.nodes.Untyped.{HasUntyped}
+use Rattle.check_rules.specs.CoreOf.{IsNodeOf, stream_core}
 use Rattle.hume_check.specs.nodes.inner.Parts.{numbered, way, IsNodeIfOne}
 use Rattle.hume_check.proofs.nodes_lemmas.Gathered.{split_at, GoesOn, nothing_yet, one_more, nothing_left}
 
@@ -26,18 +19,6 @@ module _ (text : List ℕ) (s : Signatures) (number : ℕ) (d : ℕ × Decl) whe
   -- the declaration, if it is the other one
   abbrev IsOf : NodeC → Decl → Type 0
   IsOf node decl = IsNodeIfOne text s (numbered number (d.0, decl)) (Some node)
-
-  pub box_node : (name : List ℕ) (ins outs : List (List ℕ × TyExp)) (fair : Bool) (rules : List WrittenRule) (handlers : List WrittenHandler) (b : BoxC)
-      → d.1 ≡ BoxD name ins outs fair rules handlers
-      → IsBoxOf text s (numbered number (d.0, BoxD name ins outs fair rules handlers)) name ins outs fair rules handlers b
-      → IsNodeIfOne text s (numbered number d) (Some (Rules b))
-  box_node name ins outs fair rules handlers b is h = subst (IsOf (Rules b)) (sym is) (refl, (b, refl, h))
-
-  pub box_untyped : (name : List ℕ) (ins outs : List (List ℕ × TyExp)) (fair : Bool) (rules : List WrittenRule) (handlers : List WrittenHandler)
-      → d.1 ≡ BoxD name ins outs fair rules handlers → box_walk s ins outs rules handlers ≡ None → HasNoType s d.1
-  box_untyped name ins outs fair rules handlers is h =
-      subst (HasNoType s) (sym is) ((finds_none s (BoxD name ins outs fair rules handlers)).1
-      (ap (λ o. given o (λ (found : List CoredRule × List CoredHandler). Some (some_so found.0 || some_so found.1))) h))
 
   pub stream_node : (name port : List ℕ) (comes_in : Bool) (core : StreamC) → d.1 ≡ Stream name comes_in port
       → core ≡ stream_core text (numbered number (d.0, Stream name comes_in port)) name port → IsNodeIfOne text s (numbered number d) (Some (way comes_in core))
@@ -69,9 +50,6 @@ module _ (text : List ℕ) (s : Signatures) (decls : Decls) where
       (subst (λ (left : Decls). GoesOn IsNode (nodes_in decls) (nodes_from place left) found) (drop_all place decls h) are.goes)
 
   module _ (place : ℕ) (d : ℕ × Decl) (within : place < length decls) (at : d ≡ get_or decls place d) where
-    pub untyped_there : HasNoType s d.1 → HasUntyped s decls
-    untyped_there none = record { number = place; decl = d; there = slice_get_read decls (length decls) place d refl within at; none = none }
-
     abbrev left : List Numbered
     left = nodes_from (place + 1) (drop (place + 1) decls)
 
@@ -91,7 +69,5 @@ module _ (text : List ℕ) (s : Signatures) (decls : Decls) where
             (one_more IsNode (nodes_in decls) left found (numbered place d) node
             (subst (λ nodes. GoesOn IsNode (nodes_in decls) nodes found) (left_at (Some (numbered place d)) h.0) are.goes) h.1);
       }
-
-pub ruleset node_steps = (common_steps, box_untyped)
 
 pub ruleset nodes_steps = (common_steps, none_made)

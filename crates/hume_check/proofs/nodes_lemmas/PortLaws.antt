@@ -1,22 +1,31 @@
 -- Inputs and outputs with the types that are written.
 use native.Mathlib.Omega.{arith}
-use Rattle.std.proofs.Common.{◌≡◌, ℕ, zero, suc, ◌<◌, List, [], ◌∷◌, length, get_or, Option, Some, None, refl, ap, sym, ◌∙◌}
-use Rattle.hume_base.specs.declared.types.Ty.{Ty}
+use Rattle.std.proofs.Common.{◌≡◌, ℕ, zero, suc, ◌<◌, List, [], ◌∷◌, length, get_or, Some, ap, ◌∙◌}
 use Rattle.hume_base.specs.declared.types.Types.{Types}
 use Rattle.hume_ast.specs.declared.tree.TyExp.{TyExp}
 use Rattle.check_typing.specs.Partial.{given}
 use Rattle.check_typing.specs.WrittenTypes.{written}
 use Rattle.check_typing.specs.Declarations.{ports_written}
+use Rattle.check_typing.proofs.Maybe.{given-inv}
+use Rattle.hume_check.specs.nodes.inner.Parts.{HaveTypes, HasType}
 
-without_end : {A : Type 0} (o : Option A) (others : Option (List A)) → others ≡ None → given o (λ first. given others (λ xs. Some (first ∷ xs))) ≡ None
-without_end None others h = refl
-without_end (Some x) others h = ap (λ o. given o (λ xs. Some (x ∷ xs))) h
+module _ (types : Types) (first : List ℕ × TyExp) (places : List (List ℕ × TyExp)) (h : HaveTypes types (first ∷ places)) where
+  first_has : HasType types first
+  first_has =
+      let k = given-inv (written types first.1) (λ ty. given (ports_written types places) (λ tys. Some (ty ∷ tys))) h.0 h.1 in
+      (k.0, k.1)
 
--- where one type is missing, not all are there
-pub type_missing : (types : Types) (places : List (List ℕ × TyExp)) (at : ℕ) (place : List ℕ × TyExp) → at < length places → place ≡ get_or places at place
-    → written types place.1 ≡ None → ports_written types places ≡ None
-type_missing types [] at place lt e h = absurd (omega arith)
-type_missing types (first ∷ places) zero place lt e h =
-    ap (λ o. given o (λ (ty : Ty). given (ports_written types places) (λ tys. Some (ty ∷ tys)))) (ap (λ (p : List ℕ × TyExp). written types p.1) (sym e) ∙ h)
-type_missing types (first ∷ places) (suc at) place lt e h =
-    without_end (written types first.1) (ports_written types places) (type_missing types places at place (omega arith) e h)
+  others_have : HaveTypes types places
+  others_have =
+      let k = given-inv (written types first.1) (λ ty. given (ports_written types places) (λ tys. Some (ty ∷ tys))) h.0 h.1 in
+      let others = given-inv (ports_written types places) (λ tys. Some (k.0 ∷ tys)) h.0 k.2 in
+      (others.0, others.1)
+
+-- where all have types each has one
+pub has_type : (types : Types) (places : List (List ℕ × TyExp)) (at : ℕ) (place : List ℕ × TyExp) → at < length places → place ≡ get_or places at place
+    → HaveTypes types places → HasType types place
+has_type types [] at place lt e h = absurd (omega arith)
+has_type types (first ∷ places) zero place lt e h =
+    let k = first_has types first places h in
+    (k.0, ap (λ (p : List ℕ × TyExp). written types p.1) e ∙ k.1)
+has_type types (first ∷ places) (suc at) place lt e h = has_type types places at place (omega arith) e (others_have types first places h)

@@ -1,102 +1,70 @@
 //! The functions of a core.
-ghost use Rattle.std.specs.Prelude.{◌≡◌, Some, None, IfOk, IfErr, OnOk};
-ghost use Rattle.check_typing.specs.Declarations.{InPlaces, signature_written};
-ghost use Rattle.check_typing.specs.inner.DeclarationWalk.{function_walk};
-ghost use Rattle.check_tasks.specs.States.{signatures_in};
-ghost use Rattle.check_expressions.specs.declared.stop.Stop.TheVariants.{NoType};
+ghost use Rattle.std.specs.Prelude.{◌≡◌, IfOk};
+ghost use Rattle.check_typing.specs.Declarations.{InPlaces};
 ghost use Rattle.check_rules.specs.Declared.{function_of, in_order};
 ghost use Rattle.check_rules.specs.CoreOf.{IsFunctionOf};
-ghost use Rattle.hume_check.specs.nodes.Untyped.{AreSigned, HasUntyped};
-ghost use Rattle.hume_check.specs.nodes.inner.Parts.{seen};
+ghost use Rattle.hume_check.specs.inner.Trees.{HaveTrees};
+ghost use Rattle.hume_check.specs.nodes.inner.Parts.{AreSigned, function_from};
 
 use crate::nodes::declared::{FunctionParts, function_declared};
-use check_declarations::functions::function_cores;
-use check_expressions::{Elaboration, Stop};
-use check_typing::{Signature, Signatures};
+use check_scopes::signatures::SignatureTable;
+use check_typing::Signature;
 use hume_ast::Decl;
 use hume_base::lines::LineTable;
-use hume_base::{List, copy_ty, copy_tys};
+use hume_base::{List, Shared, Ty, copy_ty};
 use hume_model::FunC;
 use std::alloc::{AllocError, Global};
+use typed_core::{TypedDeclaration, erase_equations};
 
-/// The functions of the declarations in the order of their numbers, in which their signatures are; none where something
-/// in one has no type.
-pub fn functions_in_order(
+/// The functions of the declarations in the order of their numbers, in which their signatures are.
+#[tactic(auto, using(crate::proofs::nodes_lemmas::FunctionLaws::order_steps))]
+pub(crate) fn functions_in_order(
     alloc: Global,
     lines: &LineTable,
     decls: &[(u32, Decl)],
+    trees: &[TypedDeclaration],
     order: &[u32],
-    signatures: &Signatures,
-) -> Result<List<FunC>, Stop>
-    requires { AreSigned signatures.now (in_order function_of order.now decls.now) }
-    ensures functions { IfOk result
-        (InPlaces (IsFunctionOf lines.now signatures.now) (in_order function_of order.now decls.now)) }
-    ensures untyped { IfErr result (λ stop. stop ≡ NoType → HasUntyped signatures.now decls.now) }
+    table: &SignatureTable,
+) -> Result<List<FunC>, AllocError>
+    requires trees { HaveTrees table.now decls.now trees.now }
+    requires signed { AreSigned table.now.types (in_order function_of order.now decls.now) table.now.funs }
+    ensures { IfOk result (InPlaces (IsFunctionOf lines.now table.now) (in_order function_of order.now decls.now)) }
 {
-    let mut at = Elaboration::new(alloc, signatures)?;
-    all_functions(alloc, lines, &mut at, decls, order, signatures)
-}
-
-#[tactic(auto, using(crate::proofs::nodes_lemmas::FunctionLaws::order_steps))]
-fn all_functions<'a>(
-    alloc: Global,
-    lines: &LineTable,
-    at: &mut Elaboration<'a>,
-    decls: &'a [(u32, Decl)],
-    order: &[u32],
-    signatures: &Signatures,
-) -> Result<List<FunC>, Stop>
-    requires same { (signatures_in at.old) ≡ signatures.now }
-    requires signed { AreSigned signatures.now (in_order function_of order.now decls.now) }
-    ensures functions { IfOk result
-        (InPlaces (IsFunctionOf lines.now signatures.now) (in_order function_of order.now decls.now)) }
-    ensures untyped { IfErr result (λ stop. stop ≡ NoType → HasUntyped signatures.now decls.now) }
-{
+    let signatures = table.signatures().funs.as_slice();
     let mut functions = List::new(alloc);
     for number in order {
-        if let Some(parts) = function_declared(decls, *number) {
-            let signature = &signatures.funs.as_slice()[functions.len()];
-            functions.push(function_core(alloc, lines, at, parts, signature)?)?;
+        if let Some(parts) = function_declared(decls, trees, *number) {
+            let signature = &signatures[functions.len()];
+            functions.push(function_core(alloc, lines, parts, signature)?)?;
         }
     }
     Ok(functions)
 }
 
-// A function with its signature and the cores of its equations.
-fn function_core<'a>(
+// A function with its signature and what the trees of its equations erase to.
+fn function_core(
     alloc: Global,
     lines: &LineTable,
-    at: &mut Elaboration<'a>,
-    parts: FunctionParts<'a>,
+    parts: FunctionParts,
     signature: &Signature,
-) -> Result<FunC, Stop>
-    requires { signature_written (signatures_in at.old).types parts.name.now parts.types.now ≡ Some signature.now }
-    ensures keeps { OnOk result (at.new ≡ at.old) }
-    ensures ok { IfOk result (IsFunctionOf lines.now (signatures_in at.old) (seen parts.entry)) }
-    ensures none { IfErr result (λ stop. stop ≡ NoType
-        → function_walk (signatures_in at.old) parts.entry.name.now parts.entry.types.now parts.entry.equations.now ≡ None) }
+) -> Result<FunC, AllocError>
+    ensures { IfOk result (λ function. function ≡ function_from lines.now parts.entry signature.now) }
 {
-    let (equations, _) = function_cores(alloc, at, parts.types, parts.equations)?;
-    let Signature {
-        name,
-        params,
-        gives,
-    } = copied(alloc, signature)?;
     Ok(FunC {
-        name,
+        name: signature.name.copy()?,
         line: lines.line(parts.place),
-        params,
-        gives,
-        equations,
+        params: parameters(alloc, signature.params.as_slice())?,
+        gives: copy_ty(alloc, &signature.gives)?,
+        equations: erase_equations(alloc, parts.equations)?,
     })
 }
 
-fn copied(alloc: Global, signature: &Signature) -> Result<Signature, AllocError>
-    ensures { IfOk result (λ copy. copy ≡ signature.now) }
+fn parameters(alloc: Global, params: &[Shared<Ty>]) -> Result<List<Ty>, AllocError>
+    ensures { IfOk result (λ copies. copies ≡ params.now) }
 {
-    Ok(Signature {
-        name: signature.name.copy()?,
-        params: copy_tys(alloc, signature.params.as_slice())?,
-        gives: copy_ty(alloc, &signature.gives)?,
-    })
+    let mut copies = List::new(alloc);
+    for ty in params {
+        copies.push(copy_ty(alloc, ty)?)?;
+    }
+    Ok(copies)
 }

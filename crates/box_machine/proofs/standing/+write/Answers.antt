@@ -10,7 +10,7 @@ use Rattle.box_code.specs.FlatObjects.{Flattening, flat_at_with, named_at}
 use Rattle.box_machine.specs.inner.Stepping.{objects_in}
 use Rattle.box_machine.specs.inner.Written.{IsWritten, con_at, flat_below, items_at, parts_at}
 use Rattle.box_machine.proofs.Writing.{con_room, named_none, named_some, named_there, padded_written, written_more, zeros_room}
-use Rattle.box_machine.proofs.WritingParts.{con_fields, con_parts, con_tag, field_small, flat_tuple, flat_vector, item_next, item_room, items_done, items_field, items_object, part_next, part_room, part_smaller, parts_done, parts_field}
+use Rattle.box_machine.proofs.WritingParts.{con_fields, con_parts, con_tag, field_small, flat_tuple, flat_vector, item_next, item_room, items_done, items_field, items_object, part_next, part_room, part_smaller, parts_done, parts_field, seen_at}
 use Rattle.box_machine.proofs.standing.+write.Goals as goal
 
 pub write_constructor-tag_at-tag-requires-clause-there :
@@ -166,14 +166,15 @@ pub write_parts-write_value-end-requires : goal.write_parts-write_value-end-requ
 write_parts-write_value-end-requires t c =
     let objects = objects_in c.args.heap.now in
     let f : Ty → Flattening = flat_below c.args.types.now c.args.bound objects in
-    let smaller = part_smaller c.loop-i.i c.args.tys.now c.index-tys-i.result c.loop-i-test.true c.index-tys-i.is in (
+    let here = seen_at c.args.tys.now c.loop-i.i c.index-tys-i.result c.deref.result.now c.deref.ensures c.index-tys-i.is in
+    let smaller = part_smaller c.loop-i.i c.args.tys.now c.deref.result.now c.loop-i-test.true here in (
       omega (arith, smaller),
       (
         c.requires.sizes,
         (
           c.requires.held,
-          part_room objects f c.args.tys.now c.args.place c.args.at c.args.into.now c.requires.room c.loop-i.i c.loop-i-test.true c.index-tys-i.result
-              c.index-tys-i.is
+          part_room objects f c.args.tys.now c.args.place c.args.at c.args.into.now c.requires.room c.loop-i.i c.loop-i-test.true c.deref.result.now
+              here
               c.field_at-word.result c.field_at-word.ensures c.loop-i.into c.loop-i.end c.loop-i.invariant,
         ),
       ),
@@ -183,8 +184,9 @@ pub write_parts-loop-i-preserved : goal.write_parts-loop-i-preserved
 write_parts-loop-i-preserved t c =
     let objects = objects_in c.args.heap.now in
     let f : Ty → Flattening = flat_below c.args.types.now c.args.bound objects in
-    part_next objects f c.args.tys.now c.args.place c.args.at c.args.into.now c.requires.room c.loop-i.i c.loop-i-test.true c.index-tys-i.result
-    c.index-tys-i.is
+    let here = seen_at c.args.tys.now c.loop-i.i c.index-tys-i.result c.deref.result.now c.deref.ensures c.index-tys-i.is in
+    part_next objects f c.args.tys.now c.args.place c.args.at c.args.into.now c.requires.room c.loop-i.i c.loop-i-test.true c.deref.result.now
+    here
     c.field_at-word.result c.field_at-word.ensures c.loop-i.into c.loop-i.end c.loop-i.invariant
     c.write_value-end.new.into c.write_value-end.result c.write_value-end.ensures
 

@@ -8,7 +8,7 @@ use Rattle.check_scopes.specs.types.Contexts.{below}
 use Rattle.check_scopes.specs.Known.{Known, with_type}
 use Rattle.check_tasks.specs.results.ResultStates.{ResultState, with_plain}
 use Rattle.check_tasks.specs.results.ResultTasks.{scope_of, types_of, signatures_of}
-use Rattle.check_declarations.specs.boxes.Boxes.{with_ports}
+use Rattle.check_declarations.specs.boxes.inner.Boxes.{with_ports}
 
 -- the types of ports as they are written
 abbrev pub types_alone : List (List ℕ × TyExp) → List TyExp

@@ -3,7 +3,7 @@
 use Rattle.std.specs.Prelude.{◌++◌, ◌||◌, Bool, List, Option, Some, None}
 use Rattle.hume_ast.specs.declared.tree.Pat.{Pat}
 use Rattle.hume_ast.specs.declared.tree.Exp.{Exp}
-use Rattle.hume_model.specs.declared.core_tree.EqC.{EqC}
+use Rattle.typed_core.specs.declared.typed_tree.TypedEquation.{TypedEquation}
 use Rattle.check_scopes.specs.types.Contexts.{top, below}
 use Rattle.check_typing.specs.Partial.{given}
 use Rattle.check_typing.specs.Signatures.{Scope}
@@ -32,6 +32,6 @@ abbrev pub equations_at : State → List WrittenEquation → Option (List CoredE
 equations_at state equations = found_of_all (λ (equation : WrittenEquation). equation_at state equation.1 equation.2) equations
 
 -- cores, and those of others behind them
-abbrev pub together : List EqC × Bool → Option (List CoredEquation) → Option (List EqC × Bool)
+abbrev pub together : List TypedEquation × Bool → Option (List CoredEquation) → Option (List TypedEquation × Bool)
 together found None = None
 together found (Some cs) = Some (found.0 ++ cores_alone cs, found.1 || some_so cs)

@@ -5,4 +5,4 @@ use Rattle.check_expressions.proofs.PlanLists.{index_plan}
 use Rattle.check_expressions.proofs.list_tasks.index_tasks.Goals as goal
 
 pub returns-clause-ok : goal.returns-clause-ok
-returns-clause-ok c = comes_to c.first.result c.first.new.tasks (index_plan c.args.b c.in_ok-count.count) c.args.tasks.now c.args.at.now _ (index_more c.args.at.now c.args.b _ c.in_ok-count.ensures.ok) c.first.ensures.ok
+returns-clause-ok c = comes_to c.first.result c.first.new.tasks (index_plan c.args.b) c.args.tasks.now c.args.at.now _ (index_more c.args.at.now c.args.b _ c.in_ok-_count.ensures.ok) c.first.ensures.ok

@@ -1,4 +1,3 @@
-use Rattle.std.proofs.Common.{true}
 use Rattle.check_typing.proofs.DeclarationsAgree.{finds_function, box_to, box_from, finds_declaration, finds_none}
 use Rattle.check_typing.proofs.laws.declaration_walk_is_typing.Goals as goal
 
@@ -10,9 +9,6 @@ returns-clause-boxes c s ins outs rs hs cs ds = (box_to s ins outs rs hs cs ds, 
 
 pub returns-clause-typed : goal.returns-clause-typed
 returns-clause-typed c = finds_declaration
-
-pub returns-clause-too_wide : goal.returns-clause-too_wide
-returns-clause-too_wide c s decl = finds_declaration s decl true
 
 pub returns-clause-untyped : goal.returns-clause-untyped
 returns-clause-untyped c = finds_none

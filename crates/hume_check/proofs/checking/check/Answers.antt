@@ -1,4 +1,4 @@
-use Rattle.std.proofs.Common.{Some, subst}
+use Rattle.std.proofs.Common.{subst}
 use Rattle.hume_base.specs.Least.{IsLeast}
 use Rattle.hume_check.proofs.Phases.{Early, least_in_early}
 use Rattle.hume_check.proofs.checking.check.Goals as goal

@@ -1,6 +1,6 @@
 use Rattle.std.proofs.Common.{◌≡◌, ◌+◌, ◌-◌, ◌<◌, ◌∙◌, ◌++◌, ◌∷◌, [], codes, map, drop, take, replicate, ap, sym, Some, slice_get, arith, rules}
 use Rattle.hume_text.specs.inner.Printers.{Printer, print_with, print_named, print_several}
-use Rattle.hume_text.proofs.Printing.{several-next, drop-item, items-more, closed-text}
+use Rattle.hume_text.proofs.Printing.{several-next, drop-seen, items-more, closed-text}
 use Rattle.hume_text.proofs.Ranks.{rank, sum_size, rank-falls}
 use Rattle.hume_text.proofs.print.+print.Goals as goal
 
@@ -14,9 +14,9 @@ print_data-print_constructor-rest-requires t c =
 pub print_tuple-loop-ty-preserved : goal.print_tuple-loop-ty-preserved
 print_tuple-loop-ty-preserved t c =
     let printer = print_with (print_named c.args.types.now c.args.bound) in
-    let here : map printer (drop c.loop-ty.ty-index c.args.tys.now) ≡ printer c.ty-item.result ∷ map printer (drop (c.loop-ty.ty-index + 1) c.args.tys.now) = ap (map printer) (drop-item c.args.tys.now c.loop-ty.ty-index c.ty-item.result (omega (arith, c.loop-ty-test.true)) c.ty-item.is) in
+    let here : map printer (drop c.loop-ty.ty-index c.args.tys.now) ≡ printer c.deref.result.now ∷ map printer (drop (c.loop-ty.ty-index + 1) c.args.tys.now) = ap (map printer) (drop-seen c.args.tys.now c.loop-ty.ty-index c.ty-item.result c.deref.result.now (omega (arith, c.loop-ty-test.true)) c.deref.ensures c.ty-item.is) in
     let next = several-next _ _ _ c.loop-ty.chunk.filled.items c.loop-ty.before.now c.add-in-loop-ty.new.self.filled.items c.print_front-rest.new.chunk.filled.items c.loop-ty.rest.now c.print_front-rest.result.now
-    (printer c.ty-item.result) _ (map printer (drop (c.loop-ty.ty-index + 1) c.args.tys.now)) _ _ here c.add-in-loop-ty.ensures.room c.print_front-rest.ensures.room c.add-in-loop-ty.ensures.bytes c.print_front-rest.ensures.text c.print_front-rest.ensures.rest c.loop-ty.invariant.text c.loop-ty.invariant.rest in
+    (printer c.deref.result.now) _ (map printer (drop (c.loop-ty.ty-index + 1) c.args.tys.now)) _ _ here c.add-in-loop-ty.ensures.room c.print_front-rest.ensures.room c.add-in-loop-ty.ensures.bytes c.print_front-rest.ensures.text c.print_front-rest.ensures.rest c.loop-ty.invariant.text c.loop-ty.invariant.rest in
     record {
       text = next.0;
       room = c.print_front-rest.ensures.room ∙ c.add-in-loop-ty.ensures.room ∙ c.loop-ty.invariant.room;

@@ -2,7 +2,7 @@ use Rattle.std.proofs.Common.{◌≡◌, ◌+◌, ◌-◌, ◌<◌, ◌∙◌, �
 use Rattle.hume_base.specs.declared.types.Ty.{Ty, out-Ty}
 use Rattle.hume_text.specs.inner.Printers.{is_compound}
 use Rattle.hume_text.specs.inner.Readers.{Reader, Reading, read_in, read_with, read_named, is_open, is_close, is_open_vector, is_close_vector, read_several}
-use Rattle.hume_text.proofs.Printing.{drop-item}
+use Rattle.hume_text.proofs.Printing.{drop-seen}
 use Rattle.hume_text.proofs.Ranks.{rank, sum_size, rank-falls}
 use Rattle.hume_text.proofs.Reading.{reader_of, several-next, several-none, fields-next, fields-none, items-left, in-none, in-open, in-some, field-read, front-vector, range-same}
 use Rattle.hume_text.proofs.walk.+read.Goals as goal
@@ -11,13 +11,13 @@ pub read_tuple-loop-ty-preserved : goal.read_tuple-loop-ty-preserved
 read_tuple-loop-ty-preserved t c =
     let room = length c.args.into.now in
     let reader = reader_of c.args.types.now c.args.bound room in
-    let here : map reader (drop c.loop-ty.ty-index c.args.tys.now) ≡ reader c.ty-item.result ∷ map reader (drop (c.loop-ty.ty-index + 1) c.args.tys.now) =
-    ap (map reader) (drop-item c.args.tys.now c.loop-ty.ty-index c.ty-item.result (omega (arith, c.loop-ty-test.true)) c.ty-item.is) in
+    let here : map reader (drop c.loop-ty.ty-index c.args.tys.now) ≡ reader c.deref.result.now ∷ map reader (drop (c.loop-ty.ty-index + 1) c.args.tys.now) =
+    ap (map reader) (drop-seen c.args.tys.now c.loop-ty.ty-index c.ty-item.result c.deref.result.now (omega (arith, c.loop-ty-test.true)) c.deref.ensures c.ty-item.is) in
     record {
       same = c.read_part.ensures.room ∙ c.loop-ty.invariant.same;
       within = omega (arith, c.in-Some-read_part.ensures.within, c.loop-ty.invariant.same);
       onward = omega (arith, c.in-Some-read_part.ensures.onward, c.loop-ty.invariant.onward);
-      read = several-next c.args.types.now c.args.bound room _ _ c.ty-item.result _ _ _ _ _ _ _ c.loop-ty.invariant.same here c.in-Some-read_part.ensures.read c.loop-ty.invariant.read;
+      read = several-next c.args.types.now c.args.bound room _ _ c.deref.result.now _ _ _ _ _ _ _ c.loop-ty.invariant.same here c.in-Some-read_part.ensures.read c.loop-ty.invariant.read;
     }
 
 pub read_vector-loop-place-preserved : goal.read_vector-loop-place-preserved
@@ -39,8 +39,8 @@ read_fields-loop-ty-preserved t c =
       same = c.read_field.ensures.room ∙ c.loop-ty.invariant.same;
       within = omega (arith, c.in-Some.ensures.within, c.loop-ty.invariant.same);
       onward = omega (arith, c.in-Some.ensures.onward, c.loop-ty.invariant.onward);
-      read = fields-next c.args.types.now c.args.bound room _ c.ty-item.result _ _ _ _ _ _ _ c.loop-ty.invariant.same
-          (drop-item c.args.tys.now c.loop-ty.ty-index c.ty-item.result (omega (arith, c.loop-ty-test.true)) c.ty-item.is) c.in-Some.ensures.read c.loop-ty.invariant.read;
+      read = fields-next c.args.types.now c.args.bound room _ c.deref.result.now _ _ _ _ _ _ _ c.loop-ty.invariant.same
+          (drop-seen c.args.tys.now c.loop-ty.ty-index c.ty-item.result c.deref.result.now (omega (arith, c.loop-ty-test.true)) c.deref.ensures c.ty-item.is) c.in-Some.ensures.read c.loop-ty.invariant.read;
     }
 
 pub read_data-read_constructor-requires : goal.read_data-read_constructor-requires
@@ -52,17 +52,17 @@ read_data-read_constructor-requires t c =
 
 pub read_fields-returns-in-None-clause-read : goal.read_fields-returns-in-None-clause-read
 read_fields-returns-in-None-clause-read t c =
-    fields-none c.args.types.now c.args.bound (length c.args.into.now) (length c.loop-ty.into) c.ty-item.result (drop c.loop-ty.ty-index c.args.tys.now) _
+    fields-none c.args.types.now c.args.bound (length c.args.into.now) (length c.loop-ty.into) c.deref.result.now (drop c.loop-ty.ty-index c.args.tys.now) _
     (take c.loop-ty.end c.loop-ty.into) c.loop-ty.rest.now _ c.loop-ty.invariant.same
-    (drop-item c.args.tys.now c.loop-ty.ty-index c.ty-item.result (omega (arith, c.loop-ty-test.true)) c.ty-item.is) c.in-None.ensures.read c.loop-ty.invariant.read
+    (drop-seen c.args.tys.now c.loop-ty.ty-index c.ty-item.result c.deref.result.now (omega (arith, c.loop-ty-test.true)) c.deref.ensures c.ty-item.is) c.in-None.ensures.read c.loop-ty.invariant.read
 
 pub read_tuple-returns-in-None-clause-read : goal.read_tuple-returns-in-None-clause-read
 read_tuple-returns-in-None-clause-read t c =
     let reader : Ty → Reader = reader_of c.args.types.now c.args.bound (length c.args.into.now) in
-    let here : map reader (drop c.loop-ty.ty-index c.args.tys.now) ≡ reader c.ty-item.result ∷ map reader (drop (c.loop-ty.ty-index + 1) c.args.tys.now) =
-    ap (map reader) (drop-item c.args.tys.now c.loop-ty.ty-index c.ty-item.result (omega (arith, c.loop-ty-test.true)) c.ty-item.is) in
+    let here : map reader (drop c.loop-ty.ty-index c.args.tys.now) ≡ reader c.deref.result.now ∷ map reader (drop (c.loop-ty.ty-index + 1) c.args.tys.now) =
+    ap (map reader) (drop-seen c.args.tys.now c.loop-ty.ty-index c.ty-item.result c.deref.result.now (omega (arith, c.loop-ty-test.true)) c.deref.ensures c.ty-item.is) in
     in-none is_open is_close (map reader c.args.tys.now) (take c.args.at c.args.into.now) c.args.line.now c.in-Some.inner.now c.in-Some.ensures
-    (several-none c.args.types.now c.args.bound (length c.args.into.now) (length c.loop-ty.into) c.loop-ty.first c.ty-item.result _ _
+    (several-none c.args.types.now c.args.bound (length c.args.into.now) (length c.loop-ty.into) c.loop-ty.first c.deref.result.now _ _
     (take c.loop-ty.end c.loop-ty.into) c.loop-ty.rest.now _ c.loop-ty.invariant.same here c.in-None.ensures.read c.loop-ty.invariant.read)
 
 pub read_vector-returns-in-None-clause-read : goal.read_vector-returns-in-None-clause-read

@@ -5,7 +5,7 @@ use Rattle.hume_base.specs.declared.types.Ty.{size-Ty}
 use Rattle.hume_model.proofs.Ranks.{slice_get-most}
 use Rattle.hume_model.proofs.WordReading.{rank, sum_size, rank-falls}
 use Rattle.match_rules.specs.inner.Builders.{Builder, build_with, build_named}
-use Rattle.match_rules.proofs.Objects.{part_fits, next_underway, whole_fits, fields_fit, data_put, item_at, part_at}
+use Rattle.match_rules.proofs.Objects.{part_fits, next_underway, whole_fits, fields_fit, data_put, item_at, part_at, seen_at}
 use Rattle.match_rules.proofs.building.+build.Goals as goal
 
 pub build_data-build_constructor-word-requires : goal.build_data-build_constructor-word-requires
@@ -57,13 +57,14 @@ pub build_parts-build_front-word-requires : goal.build_parts-build_front-word-re
 build_parts-build_front-word-requires t c =
     let builder = build_with (build_named c.args.types.now c.args.bound) in
     let builders = map builder c.args.tys.now in
+    let here = seen_at c.args.tys.now c.loop-i.i c.index-tys-i.result c.deref.result.now c.deref.ensures c.index-tys-i.is in
     let all : length builders ≡ length c.args.tys.now = length-map c.args.tys.now builder in
     let less : c.loop-i.i < length c.args.tys.now = omega (arith, c.loop-i-test.true) in
-    let smaller = slice_get-most size-Ty c.args.tys.now c.loop-i.i c.index-tys-i.result
-    (slice_get_read c.args.tys.now (length c.args.tys.now) c.loop-i.i c.index-tys-i.result refl less c.index-tys-i.is) in (
+    let smaller = slice_get-most size-Ty c.args.tys.now c.loop-i.i c.deref.result.now
+    (slice_get_read c.args.tys.now (length c.args.tys.now) c.loop-i.i c.deref.result.now refl less here) in (
       omega (arith, smaller),
-      part_fits c.args.heap.now c.args.tag (length c.args.tys.now) builders c.args.words.now c.loop-i.i c.loop-i.heap c.loop-i.rest.now c.loop-i.invariant.1 less all (builder c.index-tys-i.result)
-          (part_at builder c.args.tys.now c.loop-i.i c.index-tys-i.result less c.index-tys-i.is)
+      part_fits c.args.heap.now c.args.tag (length c.args.tys.now) builders c.args.words.now c.loop-i.i c.loop-i.heap c.loop-i.rest.now c.loop-i.invariant.1 less all (builder c.deref.result.now)
+          (part_at builder c.args.tys.now c.loop-i.i c.deref.result.now less here)
           (whole_fits c.args.heap.now c.args.tag (length c.args.tys.now) builders c.args.words.now all c.requires),
     )
 
@@ -71,10 +72,11 @@ pub build_parts-loop-i-preserved : goal.build_parts-loop-i-preserved
 build_parts-loop-i-preserved t c =
     let builder = build_with (build_named c.args.types.now c.args.bound) in
     let builders = map builder c.args.tys.now in
+    let here = seen_at c.args.tys.now c.loop-i.i c.index-tys-i.result c.deref.result.now c.deref.ensures c.index-tys-i.is in
     let less : c.loop-i.i < length c.args.tys.now = omega (arith, c.loop-i-test.true) in (
       c.loop-i.invariant.0,
       next_underway c.args.heap.now c.args.tag (length c.args.tys.now) builders c.args.words.now c.loop-i.i c.loop-i.heap c.loop-i.rest.now c.loop-i.invariant.1 less
-          (length-map c.args.tys.now builder) (builder c.index-tys-i.result)
-          (part_at builder c.args.tys.now c.loop-i.i c.index-tys-i.result less c.index-tys-i.is) c.put_zeros-place.result c.build_front-word.result.0
+          (length-map c.args.tys.now builder) (builder c.deref.result.now)
+          (part_at builder c.args.tys.now c.loop-i.i c.deref.result.now less here) c.put_zeros-place.result c.build_front-word.result.0
           c.build_front-word.result.1.now c.build_front-word.new.heap c.set_field.new.self c.loop-i.invariant.0 c.build_front-word.ensures.heap c.build_front-word.ensures.word c.build_front-word.ensures.rest c.set_field.ensures.words,
     )

@@ -3,4 +3,4 @@ use Rattle.typed_core.specs.Erasing.{erased_handler}
 use Rattle.typed_core.proofs.declarations.erase_handlers.Given as goal
 
 abbrev pub invariant-loop-handler : goal.invariant-loop-handler
-invariant-loop-handler l = l.core ≡ map (erased_handler l.fn.table) (take l.handler-index l.handlers)
+invariant-loop-handler l = l.core ≡ map erased_handler (take l.handler-index l.handlers)

@@ -39,7 +39,7 @@ abbrev pub decreases-erase_arms : goal.decreases-erase_arms
 decreases-erase_arms l = 4 * most (λ arm. max 0 (max (size-TypedExpr arm.1) 0)) l.arms.now + 1
 
 abbrev pub invariant-erase_parts-loop-part : goal.invariant-erase_parts-loop-part
-invariant-erase_parts-loop-part l = l.core ≡ map (erased l.fn.table) (take l.part-index l.parts)
+invariant-erase_parts-loop-part l = l.core ≡ map erased (take l.part-index l.parts)
 
 abbrev pub invariant-erase_arms-loop-arm : goal.invariant-erase_arms-loop-arm
-invariant-erase_arms-loop-arm l = l.core ≡ map (λ (arm : PatC × TypedExpr). (arm.0, erased l.fn.table arm.1)) (take l.arm-index l.arms)
+invariant-erase_arms-loop-arm l = l.core ≡ map (λ (arm : PatC × TypedExpr). (arm.0, erased arm.1)) (take l.arm-index l.arms)

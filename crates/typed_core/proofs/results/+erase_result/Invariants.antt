@@ -24,4 +24,4 @@ abbrev pub decreases-erase_arms : goal.decreases-erase_arms
 decreases-erase_arms l = 4 * most (λ arm. max 0 (max (size-TypedResult arm.1) 0)) l.arms.now + 1
 
 abbrev pub invariant-erase_arms-loop-arm : goal.invariant-erase_arms-loop-arm
-invariant-erase_arms-loop-arm l = l.core ≡ map (λ (arm : PatC × TypedResult). (arm.0, erased_result l.fn.table arm.1)) (take l.arm-index l.arms)
+invariant-erase_arms-loop-arm l = l.core ≡ map (λ (arm : PatC × TypedResult). (arm.0, erased_result arm.1)) (take l.arm-index l.arms)

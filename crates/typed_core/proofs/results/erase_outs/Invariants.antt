@@ -4,4 +4,4 @@ use Rattle.typed_core.specs.Erasing.{erased}
 use Rattle.typed_core.proofs.results.erase_outs.Given as goal
 
 abbrev pub invariant-loop-out : goal.invariant-loop-out
-invariant-loop-out l = l.core ≡ map (option_map (erased l.fn.table)) (take l.out-index l.outs)
+invariant-loop-out l = l.core ≡ map (option_map erased) (take l.out-index l.outs)

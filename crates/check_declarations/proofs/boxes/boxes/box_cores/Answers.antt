@@ -1,7 +1,7 @@
 use Rattle.std.proofs.Common.{◌≡◌, ◌||◌, Bool, List, [], false, Some, sym, ap, ◌∙◌}
 use Rattle.std.proofs.lemmas.Result.{err_from_is_err_and}
-use Rattle.hume_model.specs.declared.core_tree.RuleC.{RuleC}
-use Rattle.hume_model.specs.declared.core_tree.HandC.{HandC}
+use Rattle.typed_core.specs.declared.typed_tree.TypedRule.{TypedRule}
+use Rattle.typed_core.specs.declared.typed_tree.TypedHandler.{TypedHandler}
 use Rattle.check_tasks.specs.results.ResultStates.{ResultState}
 use Rattle.check_declarations.specs.boxes.inner.Rules.{together}
 use Rattle.check_declarations.specs.boxes.inner.Handlers.{handlers_at}
@@ -24,8 +24,8 @@ returns-in_err-handlers-clause-none c =
 
 pub returns-clause-ok : goal.returns-clause-ok
 returns-clause-ok c =
-    let rules : List RuleC × Bool = (c.in_ok-rules.rules, c.in_ok-rules.wide_in_rules) in
-    let handlers : List HandC × Bool = (c.in_ok-handlers.handlers, c.in_ok-handlers.wide_in_handlers) in
+    let rules : List TypedRule × Bool = (c.in_ok-rules.rules, c.in_ok-rules.wide_in_rules) in
+    let handlers : List TypedHandler × Bool = (c.in_ok-handlers.handlers, c.in_ok-handlers.wide_in_handlers) in
     let found = ap (λ (s : ResultState). together ([], false) (handlers_at s c.args.handlers.now)) (sym c.in_ok-rules.ensures.keeps) ∙ c.in_ok-handlers.ensures.ok in
     let too_wide : c.in_ok-rules.wide_in_rules || c.in_ok-handlers.wide_in_handlers ≡ c.if-wide_in_rules.result =
     elim c.if-wide_in_rules.branch [

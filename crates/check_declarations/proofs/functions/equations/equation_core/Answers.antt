@@ -11,7 +11,8 @@ returns-clause-keeps c =
     let before = c.at-2.inside.builder in
     let count = length c.args.patterns.now in
     let first = c.variables-count.result in
-    let left = c.in_ok-pats.ensures.left ∙ (λ i. ((c.in_ok-body.ensures.left i).0, drop count (c.in_ok-body.ensures.left i).1, (c.in_ok-body.ensures.left i).2)) in
+    let left = c.in_ok-pats.ensures.left
+    ∙ (λ i. ((c.in_ok-body.ensures.left i).0, drop count (c.in_ok-body.ensures.left i).1, (c.in_ok-body.ensures.left i).2)) in
     (λ i. (c.leave.ensures i, (left i).0, (left i).1, (left i).2))
     ∙ ap (left_of first count) c.at-2.view_is
     ∙ ap (λ n. left_of n count mid) (c.variables-count.ensures ∙ ap (λ (s : State). length s.0.0) c.at.view_is)

@@ -1,6 +1,6 @@
 use Rattle.std.proofs.Common.{sym, ap, ◌∙◌}
 use Rattle.check_tasks.specs.States.{State}
-use Rattle.check_declarations.specs.functions.Functions.{with_signature}
+use Rattle.check_declarations.specs.functions.inner.Functions.{with_signature}
 use Rattle.check_declarations.proofs.functions_lemmas.SignatureLaws.{signature_pushed, parameters_missing, given_type_missing}
 use Rattle.check_declarations.proofs.functions.signature.push_signature.Goals as goal
 

@@ -1,0 +1,11 @@
+use Rattle.std.proofs.Common.{length, ap, ◌∙◌}
+use Rattle.check_scopes.proofs.types_lemmas.Held.{last_below, last_seen}
+use Rattle.check_scopes.proofs.types.context.Context.variable_tree.Goals as goal
+
+pub tree-requires : goal.tree-requires
+tree-requires c = last_below (length c.self.inside.types) c.self.inside.vars c.in-Some.number c.self.invariant.0 c.in-Some.ensures
+
+pub returns-clause-is : goal.returns-clause-is
+returns-clause-is c =
+    c.in_ok-tree.ensures.is
+    ∙ last_seen c.self.inside.types c.self.inside.vars c.in-Some.number c.args.self.now.0 (ap (λ k. k.0) c.self.view_is) c.in-Some.ensures
