@@ -1,8 +1,10 @@
-"""Makes docs/PROMISE.md: what the contract of the call `hume` rests on, in rings from the call to the rules of sources, and what that
-of the call `console` rests on besides."""
+"""Makes docs/PROMISE.md: what the contract of the call `hume` rests on, form by form, in rings from the call to the rules of sources,
+and what that of the call `console` rests on besides."""
 import os
 import re
+import sys
 
+from forms import CASES, FORMS, Form
 from sources import TOP, begins, doc_of_type, functions, modules, reached, read, shown
 
 # The function whose contract is the promise: its file and its name.
@@ -13,21 +15,26 @@ CONSOLE = "calling", "console"
 
 # Each ring begins at these definitions. A definition belongs to the first ring that reaches it without a beginning of a later one.
 RINGS = (
-    ("The call and its ports", ("IsUsage", "Headline")),
+    ("The call and its ports", ("hume_calls::IsUsage", "hume_calls::Headline")),
     (
         "What a core means, takes and prints",
         (
-            *("Core", "Inputs", "AreInputs", "HasTooFew", "blocked_round", "writes", "space_table", "streams", "inputs", "outputs"),
-            *("demo_text", "demo_lines", "total_line_of"),
+            *("run_rounds::Inputs", "run_rounds::AreInputs", "run_rounds::streams", "run_rounds::outputs", "run_rounds::run_few"),
+            *("run_rounds::run_acts", "run_rounds::members_acts", "run_rounds::blocked_round", "log_rounds::record_acts"),
+            *("log_rounds::verify_acts", "log_rounds::IsOutcome", "log_rounds::blocked_superstep", "trace_print::space_table"),
+            *("trace_print::box_line", "trace_print::total_line_of", "demo_net::demo_text", "demo_rounds::demo_lines"),
+            *("box_calculus::scripted", "union_laws::followed_by", "union_front::PassesAt", "union_front::StaysWithin"),
         ),
     ),
-    ("Which text has which core", ("IsAccepted", "IsProgramOf", "IsCoreOf", "IsWiringOf", "AreCosts", "StandsFor", "IsRead")),
-    ("Which rule is told", ("Breaks", "BreaksProgram", "BreaksCore", "BreaksCheck", "BreaksWires", "BreaksHandlers", "BreaksCosts")),
+    (
+        "Which text has which core",
+        (
+            *("hume_front::IsAccepted", "hume_front::IsProgramOf", "hume_front::IsSound", "check_rules::IsCoreOf", "wiring_check::IsWiringOf"),
+            *("space_costs::AreCosts", "hume_ast::StandsFor", "hume_lex::IsRead"),
+        ),
+    ),
+    ("Which rule is told", ("hume_front::Breaks", "hume_front::BreaksProgram", "hume_front::BreaksSoundness", "box_costs::BreaksCosts")),
 )
-
-# The laws that README promises beside the contract.
-PROMISED_LAWS = "runs_keep_bounds", "one_program", "one_answer", "each_port_is_served"
-PROMISED_LAWS += "sessions_write_to_their_outputs", "sessions_finish_their_outputs"
 
 # What can be believed without the rest: a title and where it begins.
 COROLLARIES = (
@@ -40,9 +47,17 @@ INTRO = """# What the promise rests on
 
 <!-- made by `.ci/definitions promise`; `.ci/run` compares it with the sources -->
 
-The promise of the tool is the contract of `{name}` in `{path}`. This page lists all definitions that its clauses reach, each ring in
-an order in which one may read it. If these say what you mean, you have to believe nothing else of this repository. (Library words,
-such as `map` and `take`, are the toolchain's.) The promise of sessions is a contract of its own; what it rests on besides stands further below.
+The promise of the tool is the contract of `{name}` in `{path}`, and that of sessions is the contract of `{console}` in
+`{console_path}`. This page lists all definitions that their clauses reach. If these say what you mean, you have
+to believe nothing else of this repository. (Library words, such as `map` and `take`, are the toolchain's.)
+
+Whoever uses one form alone has to believe only what the first two columns of its row count. Each form has a part of this page, with the
+definitions that no part above it has, ring by ring, each ring in an order in which one may read it.
+
+"""
+
+COUNTED = """A form's definitions are those that the clauses of its call reach when, of each definition by cases on the form (on `Order`, or on a
+flag or a port that follows from it), the lines of other forms are left out, and so is each definition that reads words as other forms alone.
 """
 
 
@@ -55,18 +70,31 @@ def lines_of(definitions):
     return sum(len(it.text.split("\n")) for it in definitions)
 
 
+def crate_of(it):
+    return it.module.name.split(".")[1]
+
+
+def beginnings(order):
+    """For each ring the definitions at which it begins, all of which there are."""
+    for title, names in RINGS:
+        found = [it for it in order if f"{crate_of(it)}::{it.name}" in names]
+        lacking = set(names) - {f"{crate_of(it)}::{it.name}" for it in found}
+        if lacking:
+            sys.exit(f"the ring '{title}' begins at what the contract doesn't reach: {', '.join(sorted(lacking))}")
+        yield found
+
+
 def rings_of(order, known):
-    """The definitions of each ring, in reading order."""
-    begin = [[it for it in order if it.name in names] for _, names in RINGS]
-    found, placed = [], set()
+    """The number of the ring of each definition, counted from 0."""
+    begin = list(beginnings(order))
+    found = {}
     for at, starts in enumerate(begin):
         later = {it for others in begin[at + 1 :] for it in others}
         inside, _ = reached([it for it in starts if it not in later], known, stop=later)
-        ring = [it for it in order if it in inside and it not in placed and it not in later]
-        placed.update(ring)
-        found.append(ring)
-    found[-1] += [it for it in order if it not in placed]
-    return found
+        for it in inside:
+            if it not in later:
+                found.setdefault(it, at)
+    return {it: found.get(it, len(RINGS) - 1) for it in order}
 
 
 def listing(definitions, level):
@@ -135,29 +163,75 @@ def print_types(rows, title):
     print()
 
 
-def print_console(public, order, known, types):
-    """What the contract of `console` rests on besides; the definitions that are printed."""
-    head = function_of(CONSOLE, public)
-    rests, spoken = reached(begins(head, known), known)
-    more = [it for it in rests if it not in order]
-    print("## What the promise of sessions rests on besides\n")
-    print(f"The promise of sessions is the contract of `{head.name}` in `{shown(head.path)}`. Its clauses reach {len(more)} definitions, {lines_of(more)} lines,")
-    print("that those of `hume` don't reach:\n")
+def row(title, every, more):
+    return f"| {title} | {len(every)} | {lines_of(every)} | {len(more)} | {lines_of(more)} |"
+
+
+def print_forms(parts):
+    """The table of forms: what each rests on, and what of that no form above it does."""
+    print("| form | definitions | lines | of these beyond the forms above | lines |\n|---|---|---|---|---|")
+    for title, every, more in parts:
+        print(row(title, every, more))
+    every = [it for _, _, more in parts for it in more]
+    print(f"| all, in {len({it.module.path for it in every})} files | {len(every)} | {lines_of(every)} | | |\n")
+    print(COUNTED)
+
+
+def print_rings(order, rings):
+    print("The definitions of `hume` stand in four rings, from the call to the rules of sources:\n")
+    print("| ring | definitions | lines |\n|---|---|---|")
+    for at, (title, _) in enumerate(RINGS):
+        ring = [it for it in order if rings[it] == at]
+        print(f"| {at + 1}. {title} | {len(ring)} | {lines_of(ring)} |")
+    print()
+
+
+def print_part(title, more, rings):
+    """The definitions of a form that no form above it has, ring by ring."""
+    print(f"## {title}: {len(more)} definitions, {lines_of(more)} lines\n")
+    for at, (ring, _) in enumerate(RINGS):
+        inside = [it for it in more if rings[it] == at]
+        if inside:
+            print(f"### Ring {at + 1}: {ring[0].lower()}{ring[1:]}\n")
+            listing(inside, "####")
+
+
+def print_console(head, more, types, before):
+    """What the contract of `console` rests on that no form of `hume` does."""
+    print(f"## `console`: {len(more)} definitions, {lines_of(more)} lines\n")
+    print(f"Sessions are a contract of their own, that of `{head.name}`. Its clauses reach these beyond those of all forms above:\n")
     listing(more, "###")
-    cited = {(path, name) for name, _, _, path in constants(types)}
-    own = [it for it in spoken if it not in types]
+    cited = {(path, name) for name, _, _, path in constants(before)}
+    own = [it for it in types if it not in before]
     print_constants([it for it in own if not cited & {(path, name) for name, _, _, path in constants([it])}], "### Constants that these cite")
-    before = types_in(types)
-    print_types({key: says for key, says in types_in(own).items() if key not in before}, "### Types that these speak of")
-    return more
+    named = types_in(before)
+    print_types({key: says for key, says in types_in(own).items() if key not in named}, "### Types that these speak of")
+
+
+def is_law(it):
+    """Whether a public function is there for its contract alone: it stands among laws, or takes and gives nothing."""
+    return it.name != "(member)" and (it.path.endswith("/laws.rt") or it.is_bare)
+
+
+def promised_laws(public):
+    """The laws that README names where it says what is promised, in its order. Where several crates have a law of that name it gives the crate."""
+    section = re.search(r"^## What is promised\n(.*?)^## ", read(os.path.join(TOP, "README.md")), re.M | re.S).group(1)
+    found = {}
+    for name in re.findall(r"`([\w:]+)`", section):
+        laws = [it for it in public if is_law(it) and name in (it.name, it.public_name())]
+        if len(laws) > 1:
+            sys.exit(f"README names '{name}', and there are {', '.join(it.public_name() for it in laws)}")
+        found.update(dict.fromkeys(laws))
+    return list(found)
 
 
 def print_promised_laws(public, order, known):
     print("## What the laws that README promises rest on besides\n")
-    for name in PROMISED_LAWS:
-        law = next(it for it in public if it.name == name)
-        more = [it for it in reached(begins(law, known), known)[0] if it not in order]
-        print(f"`{law.public_name()}`: " + (f"{len(more)} definitions that the contract does not reach." if more else "nothing else.") + "\n")
+    for law in promised_laws(public):
+        before = set(order)
+        more = [it for it in reached(begins(law, known), known)[0] if it not in before]
+        count = "1 definition" if len(more) == 1 else f"{len(more)} definitions"
+        print(f"`{law.public_name()}`: " + (f"{count} that neither the contracts nor the laws above reach." if more else "nothing else.") + "\n")
         short_listing(more) if more else None
         order = order + more
 
@@ -170,26 +244,41 @@ def print_corollaries(order, known):
         short_listing(rests)
 
 
+def parts_of(head, console, known):
+    """Each form with all that it rests on, and with what of that no form above it does. The console comes last."""
+    placed = set()
+    for name, begin, form in [(it, head, Form(it, known)) for it, _ in FORMS] + [("console", console, None)]:
+        every, _ = reached(begins(begin, known), known, form=form)
+        more = [it for it in every if it not in placed]
+        placed.update(more)
+        yield f"`{name}`", every, more
+
+
 def promise():
-    known, public = modules(), functions()
-    head = function_of(HEADLINE, public)
+    known, public = modules(("specs",)), functions()
+    head, console = function_of(HEADLINE, public), function_of(CONSOLE, public)
     order, types = reached(begins(head, known), known)
     rings = rings_of(order, known)
-    print(INTRO.format(name=head.name, path=shown(head.path)))
-    print("| ring | definitions | lines |\n|---|---|---|")
-    for at, ((title, _), ring) in enumerate(zip(RINGS, rings), 1):
-        print(f"| {at}. {title} | {len(ring)} | {lines_of(ring)} |")
-    print(f"| all, in {len({it.module.path for it in order})} files | {len(order)} | {lines_of(order)} |\n")
-    for at, ((title, _), ring) in enumerate(zip(RINGS, rings), 1):
-        print(f"## Ring {at}: {title[0].lower()}{title[1:]}\n")
-        listing(ring, "###")
+    parts = list(parts_of(head, console, known))
+    lacking = {it.name for it in set(order) - {it for _, _, more in parts for it in more}}
+    if lacking:
+        sys.exit(f"no form of a call reaches {', '.join(sorted(lacking))}")
+    unknown = set(CASES) - {it.name for it in order}
+    if unknown:
+        sys.exit(f"forms.py tells cases of what the contract doesn't reach: {', '.join(sorted(unknown))}")
+    print(INTRO.format(name=head.name, path=shown(head.path), console=console.name, console_path=shown(console.path)), end="")
+    print_forms(parts)
+    print_rings(order, rings)
+    for title, _, more in parts[:-1]:
+        print_part(title, more, rings)
+    print_console(console, parts[-1][2], reached(begins(console, known), known)[1], types)
     print_constants(types, "## Constants that definitions cite")
     print_port()
     print_types(types_in(types), "## Types that the definitions speak of")
-    print_promised_laws(public, order + print_console(public, order, known, types), known)
+    print_promised_laws(public, order + parts[-1][2], known)
     print_corollaries(order, known)
     print("## Public laws\n")
     print("Nobody has to believe these: they are proved, and say that the definitions fit each other. Each is the contract of that function.\n")
     for it in public:
-        if it.path.endswith("/laws.rt") and it.name != "(member)":
+        if is_law(it):
             print(f"- `{it.public_name()}`: {it.says}")

@@ -1,6 +1,7 @@
 """Reads the definitions of all crates, their public functions, and what cites what."""
 import os
 import re
+from collections import deque
 
 TOP = os.path.dirname(os.path.dirname(os.path.abspath(__file__)))
 NAME = r"[^\s(){}\[\];,.:λ→←×∷≡≢≤<>=|\\\"]+"
@@ -26,6 +27,24 @@ class Definition:
     def __init__(self, module, name, says, text):
         self.module, self.name, self.says, self.text = module, name, says, text
         self.words = set(re.findall(NAME, text))
+        self.near = None
+
+    def cited(self, known):
+        """What its text cites, in order: definitions, and types of Rust."""
+        if self.near is None:
+            self.near = cited_by(self, self.text, known)
+        return self.near
+
+    def equations(self):
+        """What stands before its equations, and each equation."""
+        lines, head, found = self.text.split("\n"), [], []
+        indent = lines[0][: len(lines[0]) - len(lines[0].lstrip())]
+        for at, line in enumerate(lines):
+            if at > 0 and re.match(indent + re.escape(self.name) + r"( |$)", line):
+                found.append([line])
+            else:
+                (found[-1] if found else head).append(line)
+        return "\n".join(head), ["\n".join(it) for it in found]
 
 
 class Module:
@@ -88,10 +107,10 @@ def imports_of(text, before):
     return found
 
 
-def modules():
+def modules(parts=("specs", "proofs")):
     found = {}
     for crate in crates():
-        for part in ("specs", "proofs"):
+        for part in parts:
             folder = os.path.join(TOP, "crates", crate, part)
             for path in files_below(folder, ".antt"):
                 inside = os.path.relpath(path, folder)[: -len(".antt")].replace(os.sep, ".")
@@ -108,6 +127,8 @@ class Function:
     def __init__(self, crate, path, name, owner, says, clauses, imports):
         self.crate, self.path, self.name, self.owner = crate, path, name, owner
         self.says, self.clauses, self.imports, self.public = says, clauses, imports, True
+        # whether it takes nothing and gives nothing
+        self.is_bare = False
         self.words = set(re.findall(NAME, clauses))
 
     def named_clauses(self):
@@ -198,6 +219,7 @@ def functions(only_public=True):
                     public = is_public(line, m.group(1), path, exporting, head)
                     it = Function(crate, path, m.group(1), owner_of(head), comment_before(lines, at), clauses_from(lines, at), imports)
                     it.public = public
+                    it.is_bare = re.search(r"fn \w+(<[^()]*>)?\(\)$", line) is not None
                     found.append(it)
             # what a type or a trait means stands in its ghost members
             for m in re.finditer(r"ghost \w+\s*[:=] \{(.*?)\};", text, re.S):
@@ -245,27 +267,33 @@ def target(imports, module, word, known):
     return "type", m.group(1), m.group(2) + (f".{name}" if m.group(2).endswith(".TheConstants") else "")
 
 
-def reached(starts, known, stop=()):
+def cited_by(it, text, known):
+    """What a text cites that stands where a definition stands."""
+    bare = re.sub(r"--.*", "", text)
+    words = dict.fromkeys(re.findall(NAME + r"(?:\." + NAME + r")?", bare))
+    found = (target(it.module.imports, it.module, w.split(".")[0], known) for w in words)
+    return [n for n in dict.fromkeys(found) if n is not None]
+
+
+def reached(starts, known, stop=(), form=None):
     """The definitions reached from these words, in the order in which they are met: each definition before what it cites. What only
-    those of `stop` cite isn't reached."""
-    order, types, queue = [], [], list(starts)
+    those of `stop` cite isn't reached. A form of a call reads of each definition what concerns it."""
+    order, types, queue, stop = {}, {}, deque(starts), set(stop)
     while queue:
-        it = queue.pop(0)
+        it = queue.popleft()
+        if it is None or it in order or it in types:
+            continue
         if isinstance(it, tuple):
-            if it not in types:
-                types.append(it)
+            types[it] = True
             continue
-        if it is None or it in order:
-            continue
-        order.append(it)
+        order[it] = True
         if it in stop:
             continue
-        text = re.sub(r"--.*", "", it.text)
-        words = list(dict.fromkeys(re.findall(NAME + r"(?:\." + NAME + r")?", text)))
-        near = [target(it.module.imports, it.module, w.split(".")[0], known) for w in words]
+        near = form.cited(it) if form else it.cited(known)
         same_file = [n for n in near if isinstance(n, Definition) and n.module is it.module]
-        queue = same_file + queue + [n for n in near if n not in same_file]
-    return order, types
+        queue.extendleft(reversed(same_file))
+        queue.extend(n for n in near if n not in same_file)
+    return list(order), list(types)
 
 
 def begins(function, known):
