@@ -1,0 +1,4 @@
+pub mod Widths
+pub mod Bodies
+pub mod Helpers
+pub mod Operations

@@ -1,0 +1,4 @@
+pub mod OpenedForms
+pub mod LastingForms
+pub mod SameForms
+pub mod MentionForms

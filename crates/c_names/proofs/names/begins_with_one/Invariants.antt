@@ -1,0 +1,9 @@
+use Rattle.std.proofs.Common.{◌≡◌, drop, map}
+use Rattle.std.specs.Prelude.{nat_eq}
+use Rattle.std.specs.List.{list_any, starts_with}
+use Rattle.c_names.proofs.names.begins_with_one.Given as goal
+
+abbrev pub invariant-loop-word : goal.invariant-loop-word
+invariant-loop-word l =
+    list_any (λ word. starts_with nat_eq l.name word) (map (λ other. other.now) (drop l.word-index l.words))
+    ≡ list_any (λ word. starts_with nat_eq l.name word) (map (λ other. other.now) l.words)

@@ -1,0 +1,14 @@
+pub mod Congruences
+pub mod Conversions
+pub mod Widths
+pub mod Expressions
+pub mod Functions
+pub mod Lowered
+pub mod Rings
+pub mod Divided
+pub mod Compared
+pub mod Words
+pub mod Agreeing
+pub mod Standing
+pub mod InPlace
+pub mod Written

@@ -1,0 +1,4 @@
+pub mod Shown
+pub mod Declared
+pub mod Agreeing
+pub mod Written

@@ -1,0 +1,5 @@
+pub mod Declarations
+pub mod Gathered
+pub mod inner
+pub mod Shapes
+pub mod Widths
