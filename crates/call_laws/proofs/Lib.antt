@@ -1,0 +1,10 @@
+pub mod StackHeights
+pub mod Instructions
+pub mod CellMemory
+pub mod AgreeingTexts
+pub mod EqualEnds
+pub mod InBounds
+pub mod OtherLines
+pub mod FailedWants
+pub mod RecordedReads
+pub mod FailedForms

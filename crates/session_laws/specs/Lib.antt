@@ -1,0 +1,3 @@
+pub mod OwnActs
+pub mod Faults
+pub mod Rooms
