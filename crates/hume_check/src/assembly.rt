@@ -1,4 +1,4 @@
-//! The core of a program that breaks no rule, of its parts.
+//! The core of a program that breaks no rule, of its parts, and the core's trees.
 ghost use Rattle.std.specs.Prelude.{◌≡◌, ◌<◌, ◌^◌, ℕ, List as ListOf, length, IfOk};
 ghost use Rattle.hume_ast.specs.declared.tree.Program.{Program as ProgramTree};
 ghost use Rattle.check_typing.specs.Declarations.{InPlaces};
@@ -6,9 +6,11 @@ ghost use Rattle.check_rules.specs.Declared.{wires_in};
 ghost use Rattle.check_rules.specs.SignaturesOf.{AreSignatures};
 ghost use Rattle.check_rules.specs.CheckRules.{IsFine};
 ghost use Rattle.check_rules.specs.CoreOf.{IsWireOf, IsCoreOf};
+ghost use Rattle.hume_check.specs.inner.CoreTrees.{AreInOrder};
 ghost use Rattle.hume_check.specs.inner.Parts.{AreNodes, AreParts};
 ghost use Rattle.hume_check.specs.inner.Trees.{HaveTrees};
 
+use crate::core_trees::core_trees;
 use crate::fine::fine_wires_have_cores;
 use crate::nodes::{functions_in_order, nodes};
 use check_scopes::signatures::SignatureTable;
@@ -19,7 +21,7 @@ use hume_base::List;
 use hume_base::lines::LineTable;
 use hume_model::{Core, FunC, NodeC, WireC};
 use std::alloc::{AllocError, Global};
-use typed_core::TypedDeclaration;
+use typed_core::{Trees, TypedDeclaration};
 
 /// The parts of a core that stand on the signatures of its program.
 #[derive(Drop)]
@@ -27,6 +29,13 @@ pub(crate) struct Parts {
     pub(crate) funs: List<FunC>,
     pub(crate) nodes: List<NodeC>,
     pub(crate) wires: List<WireC>,
+}
+
+/// The parts of a core and its typed trees.
+#[derive(Drop)]
+pub(crate) struct TypedParts {
+    pub(crate) parts: Parts,
+    pub(crate) trees: Trees,
 }
 
 /// The core of these signatures and parts.
@@ -48,8 +57,28 @@ pub(crate) fn core_of(signatures: Signatures, parts: Parts) -> Core
     }
 }
 
-/// The parts of the core of a program that breaks no rule, of the trees of its declarations.
-pub(crate) fn parts_of(
+/// The parts of the core of a program that breaks no rule, and the core's trees, of the trees of its declarations.
+pub(crate) fn typed_parts(
+    alloc: Global,
+    lines: &LineTable,
+    program: &Program,
+    order: &[u32],
+    table: &SignatureTable,
+    declared: List<TypedDeclaration>,
+) -> Result<TypedParts, AllocError>
+    requires few { length program.now.decls < 2 ^ 32 }
+    requires fine { IsFine program.now.decls }
+    requires are { (are : AreSignatures program.now.decls table.now) × (are.funs.order ≡ order.now) }
+    requires trees { HaveTrees table.now program.now.decls declared }
+    ensures parts { IfOk result (λ typed. AreParts lines.now program.now.decls order.now table.now typed.parts) }
+    ensures trees { IfOk result (λ typed. AreInOrder table.now program.now.decls order.now typed.trees) }
+{
+    let parts = parts_of(alloc, lines, program, order, table, declared.as_slice())?;
+    let trees = core_trees(alloc, declared, order)?;
+    Ok(TypedParts { parts, trees })
+}
+
+fn parts_of(
     alloc: Global,
     lines: &LineTable,
     program: &Program,

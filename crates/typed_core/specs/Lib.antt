@@ -4,3 +4,4 @@ pub mod ResultTyping
 pub mod Parts
 pub mod ResultParts
 pub mod Declarations
+pub mod Trees

@@ -2,7 +2,8 @@
 //!
 //! A generator of code goes down such a tree with the type that is expected of each part. The types that a tree says share what
 //! they are made of. `Erasing.antt` says which core a tree erases to; `Typing.antt`, `ResultTyping.antt` and `Declarations.antt`
-//! say when a tree is typed, form by form as `hume_model` says it of cores. `Parts.antt` and `ResultParts.antt` say which type
+//! say when a tree is typed, form by form as `hume_model` says it of cores, and `Trees.antt` which trees are those of a whole core,
+//! in its order. `Parts.antt` and `ResultParts.antt` say which type
 //! each part has by its place.
 //!
 //! Proved: `erase_expression`, `erase_result` and those of equations, rules and handlers give exactly what the tree erases to, if
@@ -19,6 +20,7 @@ mod expressions;
 mod laws;
 mod patterns;
 mod results;
+mod trees;
 mod typed_tree;
 mod vectors;
 
@@ -30,6 +32,7 @@ pub use laws::{
     places_in_results_give_types,
 };
 pub use results::erase_result;
+pub use trees::{BoxTrees, Trees};
 pub use typed_tree::{
     TypedDeclaration, TypedEquation, TypedExpr, TypedHandler, TypedResult, TypedRule,
 };

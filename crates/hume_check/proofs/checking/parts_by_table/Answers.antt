@@ -3,14 +3,14 @@ use Rattle.hume_check.specs.inner.Trees.{HaveTreesOr}
 use Rattle.hume_check.proofs.Phases.{Late, least_in_late}
 use Rattle.hume_check.proofs.checking.parts_by_table.Goals as goal
 
-pub parts_of-requires-clause-fine : goal.parts_of-requires-clause-fine
-parts_of-requires-clause-fine c =
+pub typed_parts-requires-clause-fine : goal.typed_parts-requires-clause-fine
+typed_parts-requires-clause-fine c =
     let decls = c.args.program.now.decls in
     let found = subst (HaveTreesOr (Late decls) c.args.table.now decls) c.in-Ok.is c.in_ok-trees.ensures in
     least_in_late decls None c.requires.named found.0
 
-pub returns-in_ok-parts_of-in-Ok-clause-fine : goal.returns-in_ok-parts_of-in-Ok-clause-fine
-returns-in_ok-parts_of-in-Ok-clause-fine c =
+pub returns-in_ok-typed_parts-in-Ok-clause-fine : goal.returns-in_ok-typed_parts-in-Ok-clause-fine
+returns-in_ok-typed_parts-in-Ok-clause-fine c =
     let decls = c.args.program.now.decls in
     let found = subst (HaveTreesOr (Late decls) c.args.table.now decls) c.in-Ok.is c.in_ok-trees.ensures in
     least_in_late decls None c.requires.named found.0

@@ -1,7 +1,7 @@
 use Rattle.std.proofs.Common.{subst}
 use Rattle.hume_base.specs.Least.{IsLeast}
 use Rattle.hume_check.proofs.Phases.{Early, least_in_early}
-use Rattle.hume_check.proofs.checking.check.Goals as goal
+use Rattle.hume_check.proofs.checking.check_typed.Goals as goal
 
 pub refused-requires : goal.refused-requires
 refused-requires c =
