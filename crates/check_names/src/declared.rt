@@ -2,22 +2,31 @@
 ghost use Rattle.std.specs.Prelude.{◌≡◌, ◌++◌, map, IfOk, OnOk};
 ghost use Rattle.check_names.specs.DeclaredNames as declared;
 ghost use Rattle.check_names.specs.Repeated.{capitals_of};
+ghost use Rattle.check_names.specs.Leading.{names_of_kind};
 
+use crate::mention_list::NameKind;
 use crate::name_list::NameList;
 use hume_ast::{Decl, Exp, Pat, TyExp};
 use hume_base::{List, Text};
 use std::alloc::{AllocError, Global};
 
-pub(crate) fn types_of<'a>(alloc: Global, decl: &'a Decl) -> Result<NameList<'a>, AllocError>
-    ensures { IfOk result (λ names. names ≡ declared.types_of decl.now) }
+pub(crate) fn names_declared<'a>(
+    alloc: Global,
+    kind: NameKind,
+    decl: &'a Decl,
+) -> Result<NameList<'a>, AllocError>
+    ensures { IfOk result (λ names. names ≡ names_of_kind kind decl.now) }
 {
-    match decl {
-        Decl::Sum(name, _) => NameList::of_one(alloc, name.bytes()),
+    match (kind, decl) {
+        (NameKind::DataType, Decl::Sum(name, _)) => NameList::of_one(alloc, name),
+        (NameKind::Constructor, _) => constructors_of(alloc, decl),
+        (NameKind::Exception, Decl::Exn(name, _)) => NameList::of_one(alloc, name),
+        (NameKind::Function, Decl::Fun(name, _, _)) => NameList::of_one(alloc, name),
         _ => Ok(NameList::new(alloc)),
     }
 }
 
-pub(crate) fn constructors_of<'a>(alloc: Global, decl: &'a Decl) -> Result<NameList<'a>, AllocError>
+fn constructors_of<'a>(alloc: Global, decl: &'a Decl) -> Result<NameList<'a>, AllocError>
     ensures { IfOk result (λ names. names ≡ declared.constructors_of decl.now) }
 {
     let mut names = NameList::new(alloc);
@@ -34,18 +43,9 @@ fn push_constructors<'a>(
     ensures { OnOk result (names.new ≡ names.old ++ map (λ constructor. constructor.0) constructors.now) }
 {
     for constructor in constructors {
-        names.push(constructor.0.bytes())?;
+        names.push(&constructor.0)?;
     }
     Ok(())
-}
-
-pub(crate) fn exceptions_of<'a>(alloc: Global, decl: &'a Decl) -> Result<NameList<'a>, AllocError>
-    ensures { IfOk result (λ names. names ≡ declared.exceptions_of decl.now) }
-{
-    match decl {
-        Decl::Exn(name, _) => NameList::of_one(alloc, name.bytes()),
-        _ => Ok(NameList::new(alloc)),
-    }
 }
 
 /// Of its constructors, or of its exception.
@@ -54,26 +54,17 @@ pub(crate) fn capitals_of<'a>(alloc: Global, decl: &'a Decl) -> Result<NameList<
 {
     let mut names = constructors_of(alloc, decl)?;
     if let Decl::Exn(name, _) = decl {
-        names.push(name.bytes())?;
+        names.push(name)?;
     }
     Ok(names)
-}
-
-pub(crate) fn functions_of<'a>(alloc: Global, decl: &'a Decl) -> Result<NameList<'a>, AllocError>
-    ensures { IfOk result (λ names. names ≡ declared.functions_of decl.now) }
-{
-    match decl {
-        Decl::Fun(name, _, _) => NameList::of_one(alloc, name.bytes()),
-        _ => Ok(NameList::new(alloc)),
-    }
 }
 
 pub(crate) fn nodes_of<'a>(alloc: Global, decl: &'a Decl) -> Result<NameList<'a>, AllocError>
     ensures { IfOk result (λ names. names ≡ declared.nodes_of decl.now) }
 {
     match decl {
-        Decl::BoxD(name, _, _, _, _, _) => NameList::of_one(alloc, name.bytes()),
-        Decl::Stream(name, _, _) => NameList::of_one(alloc, name.bytes()),
+        Decl::BoxD(name, _, _, _, _, _) => NameList::of_one(alloc, name),
+        Decl::Stream(name, _, _) => NameList::of_one(alloc, name),
         _ => Ok(NameList::new(alloc)),
     }
 }
@@ -93,7 +84,7 @@ fn push_ports<'a>(names: &mut NameList<'a>, ports: &'a [(Text, TyExp)]) -> Resul
     ensures { OnOk result (names.new ≡ names.old ++ map (λ port. port.0) ports.now) }
 {
     for port in ports {
-        names.push(port.0.bytes())?;
+        names.push(&port.0)?;
     }
     Ok(())
 }
@@ -115,7 +106,7 @@ fn push_handled<'a>(
     ensures { OnOk result (names.new ≡ names.old ++ map (λ handler. handler.0) handlers.now) }
 {
     for handler in handlers {
-        names.push(handler.0.bytes())?;
+        names.push(&handler.0)?;
     }
     Ok(())
 }

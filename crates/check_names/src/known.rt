@@ -1,9 +1,8 @@
-ghost use Rattle.std.specs.Prelude.{◌≡◌, [], IfOk, OnOk};
+ghost use Rattle.std.specs.Prelude.{◌≡◌, [], OnOk};
 ghost use Rattle.check_names.specs.Unknown.{known_in, is_unknown, mentions_unknown};
 ghost use Rattle.check_names.specs.inner.KnownTables.{SameKnown, known_of, known_with};
 
-use crate::adding::add_all;
-use crate::declared::{constructors_of, exceptions_of, functions_of, types_of};
+use crate::adding::{add_declared_names, add_given};
 use crate::mention_list::{MentionList, NameKind};
 use check_tables::names::NameTable;
 use hume_ast::Decl;
@@ -18,32 +17,34 @@ pub(crate) struct KnownNames<'a> {
     pub(crate) functions: NameTable<'a>,
 }
 
-pub(crate) fn known_names<'a>(
+/// Adds the names that declarations declare, and those that are there from the start, to empty tables.
+pub(crate) fn add_all_known<'a>(
     alloc: Global,
+    known: &mut KnownNames<'a>,
     decls: &'a [(u32, Decl)],
-) -> Result<KnownNames<'a>, AllocError>
-    ensures { IfOk result (λ known. SameKnown (known_of known) (known_in decls.now)) }
+) -> Result<(), AllocError>
+    requires types { known.old.types ≡ [] }
+    requires constructors { known.old.constructors ≡ [] }
+    requires exceptions { known.old.exceptions ≡ [] }
+    requires functions { known.old.functions ≡ [] }
+    ensures { OnOk result (SameKnown (known_of known.new) (known_in decls.now)) }
 {
-    let mut known = given_names(alloc)?;
-    for d in decls {
-        add_known(alloc, &mut known, &d.1)?;
-    }
-    Ok(known)
+    add_given(&mut known.exceptions)?;
+    add_known_in(alloc, known, decls)
 }
 
-fn given_names<'a>(alloc: Global) -> Result<KnownNames<'a>, AllocError>
-    ensures { IfOk result (λ known. SameKnown (known_of known) (known_in [])) }
+fn add_known_in<'a>(
+    alloc: Global,
+    known: &mut KnownNames<'a>,
+    decls: &'a [(u32, Decl)],
+) -> Result<(), AllocError>
+    requires { SameKnown (known_of known.old) (known_in []) }
+    ensures { OnOk result (SameKnown (known_of known.new) (known_in decls.now)) }
 {
-    let mut exceptions = NameTable::new(alloc);
-    exceptions.add(b"DivZero", 0)?;
-    exceptions.add(b"Range", 0)?;
-    exceptions.add(b"NoCase", 0)?;
-    Ok(KnownNames {
-        types: NameTable::new(alloc),
-        constructors: NameTable::new(alloc),
-        exceptions,
-        functions: NameTable::new(alloc),
-    })
+    for d in decls {
+        add_known(alloc, known, &d.1)?;
+    }
+    Ok(())
 }
 
 fn add_known<'a>(
@@ -53,10 +54,10 @@ fn add_known<'a>(
 ) -> Result<(), AllocError>
     ensures { OnOk result (SameKnown (known_of known.new) (known_with (known_of known.old) decl.now)) }
 {
-    add_all(&mut known.types, &types_of(alloc, decl)?, 0)?;
-    add_all(&mut known.constructors, &constructors_of(alloc, decl)?, 0)?;
-    add_all(&mut known.exceptions, &exceptions_of(alloc, decl)?, 0)?;
-    add_all(&mut known.functions, &functions_of(alloc, decl)?, 0)?;
+    add_declared_names(alloc, &mut known.types, NameKind::DataType, decl)?;
+    add_declared_names(alloc, &mut known.constructors, NameKind::Constructor, decl)?;
+    add_declared_names(alloc, &mut known.exceptions, NameKind::Exception, decl)?;
+    add_declared_names(alloc, &mut known.functions, NameKind::Function, decl)?;
     Ok(())
 }
 

@@ -42,10 +42,24 @@ fn first_leading_back(
     ensures { IfOk result (IsFirst (InCycle (graph_of kind decls.now))) }
 {
     let owners = index_of(alloc, kind, decls)?;
+    first_leading_over(alloc, kind, &owners, decls)
+}
+
+fn first_leading_over(
+    alloc: Global,
+    kind: NameKind,
+    owners: &OwnerIndex,
+    decls: &[(u32, Decl)],
+) -> Result<Option<u32>, AllocError>
+    requires few { length decls.now < 2 ^ 32 }
+    requires owners { owners.now.owners ≡ owners_from kind 0 decls.now }
+    requires indexed { IsIndexed owners.now }
+    ensures { IfOk result (IsFirst (InCycle (graph_of kind decls.now))) }
+{
     if owners.distinct {
-        return first_by_declarations(alloc, kind, &owners, decls);
+        return first_by_declarations(alloc, kind, owners, decls);
     }
-    first_by_names(alloc, kind, &owners, decls)
+    first_by_names(alloc, kind, owners, decls)
 }
 
 fn first_by_declarations(
@@ -90,9 +104,17 @@ fn graph_by_names(
     ensures by_names { IfOk result (IsByNames kind decls.now owners.now) }
 {
     let NameNodes { index, rows } = name_nodes(alloc, decls.len(), owners)?;
-    let mut graph = graph_by(alloc, kind, &index, decls)?;
-    graph.append(rows)?;
-    Ok(graph)
+    let graph = graph_of_index(alloc, kind, index, decls)?;
+    let longer = with_rows(graph, rows)?;
+    Ok(longer)
+}
+
+fn with_rows(graph: List<List<u32>>, rows: List<List<u32>>) -> Result<List<List<u32>>, AllocError>
+    ensures { IfOk result (λ longer. longer ≡ graph ++ rows) }
+{
+    let mut longer = graph;
+    longer.append(rows)?;
+    Ok(longer)
 }
 
 /// Which declarations lead to which by the names of a kind that they mention.
@@ -105,8 +127,20 @@ pub fn name_graph(
     ensures { IfOk result (λ graph. graph ≡ graph_of kind decls.now) }
 {
     let owners = index_of(alloc, kind, decls)?;
-    let graph = graph_by(alloc, kind, &owners, decls)?;
-    Ok(graph)
+    graph_of_index(alloc, kind, owners, decls)
+}
+
+// The names aren't needed any more.
+fn graph_of_index(
+    alloc: Global,
+    kind: NameKind,
+    owners: OwnerIndex,
+    decls: &[(u32, Decl)],
+) -> Result<List<List<u32>>, AllocError>
+    requires { IsIndexed owners }
+    ensures { IfOk result (λ graph. graph ≡ map (λ d. meant kind owners.entry.owners (mentioned.mentions_of d.1)) decls.now) }
+{
+    graph_by(alloc, kind, &owners, decls)
 }
 
 fn graph_by(
@@ -136,8 +170,7 @@ fn meant_by(
     ensures { IfOk result (λ row. row ≡ meant kind owners.now.owners (mentioned.mentions_of decl.now)) }
 {
     let mentions = mentions_of(alloc, decl)?;
-    let row = meant_in(alloc, kind, owners, &mentions)?;
-    Ok(row)
+    meant_in(alloc, kind, owners, &mentions)
 }
 
 fn meant_in(

@@ -30,17 +30,10 @@ fn mention_decl<'a>(
         Decl::Sum(_, constructors) => mention_constructors(out, constructors.as_slice()),
         Decl::Exn(_, None) => Ok(()),
         Decl::Exn(_, Some(carried)) => mention_type(out, carried),
-        Decl::Fun(_, types, equations) => mention_function(
-            alloc,
-            out,
-            types.as_slice(),
-            equations.as_slice(),
-        ),
+        Decl::Fun(_, types, equations) => mention_function(alloc, out, types, equations),
         Decl::BoxD(_, inputs, outputs, _, rules, handlers) => {
-            mention_ports(out, inputs.as_slice())?;
-            mention_ports(out, outputs.as_slice())?;
-            mention_rules(alloc, out, rules.as_slice())?;
-            mention_handlers(alloc, out, handlers.as_slice())
+            mention_all_ports(out, inputs, outputs)?;
+            mention_results(alloc, out, rules, handlers)
         }
         Decl::Stream(_, _, _) => Ok(()),
         Decl::Wire(_, _, _, None) => Ok(()),
@@ -63,14 +56,40 @@ fn mention_constructors<'a>(
 fn mention_function<'a>(
     alloc: Global,
     out: &mut MentionList<'a>,
-    types: &'a [TyExp],
-    equations: &'a [(Text, List<Pat>, Exp)],
+    types: &'a List<TyExp>,
+    equations: &'a List<(Text, List<Pat>, Exp)>,
 ) -> Result<(), AllocError>
     ensures { OnOk result (out.new ≡ out.old ++ (mentioned.types_mentions types.now
         ++ joined (map (λ equation. mentioned.clause_mentions equation.1 equation.2) equations.now))) }
 {
-    mention_types(out, types)?;
-    mention_equations(alloc, out, equations)
+    mention_types(out, types.as_slice())?;
+    mention_equations(alloc, out, equations.as_slice())
+}
+
+fn mention_all_ports<'a>(
+    out: &mut MentionList<'a>,
+    inputs: &'a List<(Text, TyExp)>,
+    outputs: &'a List<(Text, TyExp)>,
+) -> Result<(), AllocError>
+    ensures { OnOk result (out.new ≡ out.old ++ (joined (map (λ input. mentioned.type_mentions input.1) inputs.now)
+        ++ joined (map (λ output. mentioned.type_mentions output.1) outputs.now))) }
+{
+    mention_ports(out, inputs.as_slice())?;
+    mention_ports(out, outputs.as_slice())
+}
+
+// Of its rules and its handlers.
+fn mention_results<'a>(
+    alloc: Global,
+    out: &mut MentionList<'a>,
+    rules: &'a List<(List<Pat>, Exp)>,
+    handlers: &'a List<(Text, Option<Pat>, Exp)>,
+) -> Result<(), AllocError>
+    ensures { OnOk result (out.new ≡ out.old ++ (joined (map (λ rule. mentioned.clause_mentions rule.0 rule.1) rules.now)
+        ++ joined (map mentioned.handler_mentions handlers.now))) }
+{
+    mention_rules(alloc, out, rules.as_slice())?;
+    mention_handlers(alloc, out, handlers.as_slice())
 }
 
 fn mention_equations<'a>(
@@ -123,8 +142,7 @@ fn mention_clause<'a>(
     mention_patterns(out, patterns)?;
     let mut scope = NameList::new(alloc);
     bind_all(&mut scope, patterns)?;
-    mention_exp(&mut scope, out, exp)?;
-    Ok(())
+    mention_exp(&mut scope, out, exp)
 }
 
 fn mention_handlers<'a>(
@@ -135,7 +153,7 @@ fn mention_handlers<'a>(
     ensures { OnOk result (out.new ≡ out.old ++ joined (map mentioned.handler_mentions handlers.now)) }
 {
     for handler in handlers {
-        out.push(NameKind::Exception, handler.0.bytes())?;
+        out.push(NameKind::Exception, &handler.0)?;
         mention_handled(alloc, out, &handler.1, &handler.2)?;
     }
     Ok(())
@@ -153,8 +171,7 @@ fn mention_handled<'a>(
     if let Some(pattern) = pattern {
         bind(&mut scope, pattern)?;
     }
-    mention_exp(&mut scope, out, exp)?;
-    Ok(())
+    mention_exp(&mut scope, out, exp)
 }
 
 fn mention_initial<'a>(
@@ -165,6 +182,5 @@ fn mention_initial<'a>(
     ensures { OnOk result (out.new ≡ out.old ++ mentioned.mentions initial.now []) }
 {
     let mut scope = NameList::new(alloc);
-    mention_exp(&mut scope, out, initial)?;
-    Ok(())
+    mention_exp(&mut scope, out, initial)
 }

@@ -8,7 +8,7 @@ use crate::mention_list::{MentionList, NameKind};
 use crate::mention_types::{bind, mention_pattern, mention_type};
 use crate::name_list::NameList;
 use hume_ast::{Exp, Pat, TyExp};
-use hume_base::Text;
+use hume_base::{Box, List, Text};
 use std::alloc::AllocError;
 
 /// Adds the names that an expression mentions, where these variables are in scope.
@@ -25,29 +25,37 @@ pub(crate) fn mention_exp<'a>(
     match exp {
         Exp::Let(name, value, body) => mention_let(scope, out, name, value, body),
         Exp::If(test, first, second) => mention_three(scope, out, test, first, second),
-        Exp::Case(subject, alternatives) => mention_case(
-            scope,
-            out,
-            subject,
-            alternatives.as_slice(),
-        ),
-        Exp::Raise(name, None) => out.push(NameKind::Exception, name.bytes()),
+        Exp::Case(subject, alternatives) => mention_case(scope, out, subject, alternatives),
+        Exp::Raise(name, None) => out.push(NameKind::Exception, name),
         Exp::Raise(name, Some(value)) => mention_raise(scope, out, name, value),
         Exp::Binary(_, left, right) => mention_two(scope, out, left, right),
-        Exp::Neg(part) => mention_exp(scope, out, part),
-        Exp::Not(part) => mention_exp(scope, out, part),
-        Exp::App(name, parts) => mention_application(scope, out, name, parts.as_slice()),
-        Exp::Con(name, parts) => mention_construction(scope, out, name, parts.as_slice()),
+        Exp::Neg(part) => mention_part(scope, out, part),
+        Exp::Not(part) => mention_part(scope, out, part),
+        Exp::App(name, parts) => mention_application(scope, out, name, parts),
+        Exp::Con(name, parts) => mention_construction(scope, out, name, parts),
         Exp::Update(vector, at, item) => mention_three(scope, out, vector, at, item),
         Exp::Num(_, _) => Ok(()),
         Exp::Letter(_) => Ok(()),
         Exp::Truth(_) => Ok(()),
-        Exp::Paren(inner) => mention_exp(scope, out, inner),
-        Exp::Tuple(parts) => mention_exps(scope, out, parts.as_slice()),
+        Exp::Paren(inner) => mention_part(scope, out, inner),
+        Exp::Tuple(parts) => mention_exps(scope, out, parts),
         Exp::Cast(inner, ty) => mention_cast(scope, out, inner, ty),
-        Exp::Vect(items) => mention_exps(scope, out, items.as_slice()),
+        Exp::Vect(items) => mention_exps(scope, out, items),
         Exp::Star => Ok(()),
     }
+}
+
+// All parts come here from their boxes.
+#[cycle(mention_exps)]
+fn mention_part<'a>(
+    scope: &mut NameList<'a>,
+    out: &mut MentionList<'a>,
+    part: &'a Box<Exp>,
+) -> Result<(), AllocError>
+    ensures scope { OnOk result (scope.new ≡ scope.old) }
+    ensures out { OnOk result (out.new ≡ out.old ++ mentions part.now scope.old) }
+{
+    mention_exp(scope, out, part.get())
 }
 
 #[cycle(mention_exps)]
@@ -55,16 +63,16 @@ fn mention_let<'a>(
     scope: &mut NameList<'a>,
     out: &mut MentionList<'a>,
     name: &'a Text,
-    value: &'a Exp,
-    body: &'a Exp,
+    value: &'a Box<Exp>,
+    body: &'a Box<Exp>,
 ) -> Result<(), AllocError>
     ensures scope { OnOk result (scope.new ≡ scope.old) }
     ensures out { OnOk result (out.new ≡ out.old ++ (mentions value.now scope.old ++ mentions body.now (scope.old ++ name.now ∷ []))) }
 {
-    mention_exp(scope, out, value)?;
+    mention_part(scope, out, value)?;
     let count = scope.len();
-    scope.push(name.bytes())?;
-    mention_exp(scope, out, body)?;
+    scope.push(name)?;
+    mention_part(scope, out, body)?;
     scope.leave(count);
     Ok(())
 }
@@ -73,30 +81,30 @@ fn mention_let<'a>(
 fn mention_two<'a>(
     scope: &mut NameList<'a>,
     out: &mut MentionList<'a>,
-    left: &'a Exp,
-    right: &'a Exp,
+    left: &'a Box<Exp>,
+    right: &'a Box<Exp>,
 ) -> Result<(), AllocError>
     ensures scope { OnOk result (scope.new ≡ scope.old) }
     ensures out { OnOk result (out.new ≡ out.old ++ (mentions left.now scope.old ++ mentions right.now scope.old)) }
 {
-    mention_exp(scope, out, left)?;
-    mention_exp(scope, out, right)
+    mention_part(scope, out, left)?;
+    mention_part(scope, out, right)
 }
 
 #[cycle(mention_exps)]
 fn mention_three<'a>(
     scope: &mut NameList<'a>,
     out: &mut MentionList<'a>,
-    first: &'a Exp,
-    second: &'a Exp,
-    third: &'a Exp,
+    first: &'a Box<Exp>,
+    second: &'a Box<Exp>,
+    third: &'a Box<Exp>,
 ) -> Result<(), AllocError>
     ensures scope { OnOk result (scope.new ≡ scope.old) }
     ensures out { OnOk result (out.new ≡ out.old ++ (mentions first.now scope.old ++ (mentions second.now scope.old ++ mentions third.now scope.old))) }
 {
-    mention_exp(scope, out, first)?;
-    mention_exp(scope, out, second)?;
-    mention_exp(scope, out, third)
+    mention_part(scope, out, first)?;
+    mention_part(scope, out, second)?;
+    mention_part(scope, out, third)
 }
 
 #[cycle(mention_exps)]
@@ -104,26 +112,26 @@ fn mention_raise<'a>(
     scope: &mut NameList<'a>,
     out: &mut MentionList<'a>,
     name: &'a Text,
-    value: &'a Exp,
+    value: &'a Box<Exp>,
 ) -> Result<(), AllocError>
     ensures scope { OnOk result (scope.new ≡ scope.old) }
     ensures out { OnOk result (out.new ≡ out.old ++ (Exception, name.now) ∷ mentions value.now scope.old) }
 {
-    out.push(NameKind::Exception, name.bytes())?;
-    mention_exp(scope, out, value)
+    out.push(NameKind::Exception, name)?;
+    mention_part(scope, out, value)
 }
 
 #[cycle(mention_exps)]
 fn mention_cast<'a>(
     scope: &mut NameList<'a>,
     out: &mut MentionList<'a>,
-    inner: &'a Exp,
+    inner: &'a Box<Exp>,
     ty: &'a TyExp,
 ) -> Result<(), AllocError>
     ensures scope { OnOk result (scope.new ≡ scope.old) }
     ensures out { OnOk result (out.new ≡ out.old ++ (mentions inner.now scope.old ++ type_mentions ty.now)) }
 {
-    mention_exp(scope, out, inner)?;
+    mention_part(scope, out, inner)?;
     mention_type(out, ty)
 }
 
@@ -132,12 +140,12 @@ fn mention_construction<'a>(
     scope: &mut NameList<'a>,
     out: &mut MentionList<'a>,
     name: &'a Text,
-    parts: &'a [Exp],
+    parts: &'a List<Exp>,
 ) -> Result<(), AllocError>
     ensures scope { OnOk result (scope.new ≡ scope.old) }
     ensures out { OnOk result (out.new ≡ out.old ++ (Constructor, name.now) ∷ all_in (map mentions parts.now) scope.old) }
 {
-    out.push(NameKind::Constructor, name.bytes())?;
+    out.push(NameKind::Constructor, name)?;
     mention_exps(scope, out, parts)
 }
 
@@ -147,15 +155,15 @@ fn mention_application<'a>(
     scope: &mut NameList<'a>,
     out: &mut MentionList<'a>,
     name: &'a Text,
-    parts: &'a [Exp],
+    parts: &'a List<Exp>,
 ) -> Result<(), AllocError>
     ensures scope { OnOk result (scope.new ≡ scope.old) }
     ensures out { OnOk result (out.new ≡ out.old ++ application name.now (map mentions parts.now) scope.old) }
 {
-    if parts.is_empty() {
+    if parts.as_slice().is_empty() {
         return mention_variable(scope, out, name);
     }
-    out.push(NameKind::Function, name.bytes())?;
+    out.push(NameKind::Function, name)?;
     mention_exps(scope, out, parts)
 }
 
@@ -169,7 +177,7 @@ fn mention_variable<'a>(
     if scope.has(name.bytes()) {
         return Ok(());
     }
-    out.push(NameKind::Unbound, name.bytes())
+    out.push(NameKind::Unbound, name)
 }
 
 #[cycle(mention_exps)]
@@ -177,12 +185,12 @@ fn mention_variable<'a>(
 fn mention_exps<'a>(
     scope: &mut NameList<'a>,
     out: &mut MentionList<'a>,
-    exps: &'a [Exp],
+    exps: &'a List<Exp>,
 ) -> Result<(), AllocError>
     ensures scope { OnOk result (scope.new ≡ scope.old) }
     ensures out { OnOk result (out.new ≡ out.old ++ all_in (map mentions exps.now) scope.old) }
 {
-    for exp in exps {
+    for exp in exps.as_slice() {
         mention_exp(scope, out, exp)?;
     }
     Ok(())
@@ -193,13 +201,13 @@ fn mention_exps<'a>(
 fn mention_case<'a>(
     scope: &mut NameList<'a>,
     out: &mut MentionList<'a>,
-    subject: &'a Exp,
-    alternatives: &'a [(Pat, Exp)],
+    subject: &'a Box<Exp>,
+    alternatives: &'a List<(Pat, Exp)>,
 ) -> Result<(), AllocError>
     ensures scope { OnOk result (scope.new ≡ scope.old) }
     ensures out { OnOk result (out.new ≡ out.old ++ (mentions subject.now scope.old ++ alternatives_in (map alternative_with alternatives.now) scope.old)) }
 {
-    mention_exp(scope, out, subject)?;
+    mention_part(scope, out, subject)?;
     mention_alternatives(scope, out, alternatives)
 }
 
@@ -208,12 +216,12 @@ fn mention_case<'a>(
 fn mention_alternatives<'a>(
     scope: &mut NameList<'a>,
     out: &mut MentionList<'a>,
-    alternatives: &'a [(Pat, Exp)],
+    alternatives: &'a List<(Pat, Exp)>,
 ) -> Result<(), AllocError>
     ensures scope { OnOk result (scope.new ≡ scope.old) }
     ensures out { OnOk result (out.new ≡ out.old ++ alternatives_in (map alternative_with alternatives.now) scope.old) }
 {
-    for alternative in alternatives {
+    for alternative in alternatives.as_slice() {
         mention_alternative(scope, out, &alternative.0, &alternative.1)?;
     }
     Ok(())

@@ -1,5 +1,6 @@
 ghost use Rattle.std.specs.Prelude.{◌≡◌, ◌<◌, ◌∷◌, [], ◌++◌, Some, length, slice_get, OnOk, IfOk};
 
+use hume_base::Text;
 use std::alloc::{AllocError, Global};
 use std::marker::Model;
 
@@ -37,10 +38,10 @@ impl<'a> MentionList<'a> {
         }
     }
 
-    pub(crate) fn push(&mut self, kind: NameKind, name: &'a [u8]) -> Result<(), AllocError>
+    pub(crate) fn push(&mut self, kind: NameKind, name: &'a Text) -> Result<(), AllocError>
         ensures { OnOk result (self.new ≡ self.old ++ (kind, name.now) ∷ []) }
     {
-        self.mentions.push((kind, name))?;
+        self.mentions.push((kind, name.bytes()))?;
         Ok(())
     }
 

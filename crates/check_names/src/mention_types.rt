@@ -19,7 +19,7 @@ pub(crate) fn mention_type<'a>(out: &mut MentionList<'a>, ty: &'a TyExp) -> Resu
         TyExp::Int(_) => Ok(()),
         TyExp::Nat(_) => Ok(()),
         TyExp::Vector(_, item) => mention_type(out, item),
-        TyExp::Named(name) => out.push(NameKind::DataType, name.bytes()),
+        TyExp::Named(name) => out.push(NameKind::DataType, name),
         TyExp::Tuple(parts) => mention_types(out, parts.as_slice()),
     }
 }
@@ -45,7 +45,7 @@ pub(crate) fn bind<'a>(scope: &mut NameList<'a>, pattern: &'a Pat) -> Result<(),
     ensures { OnOk result (scope.new ≡ scope.old ++ variables_of pattern.now) }
 {
     match pattern {
-        Pat::Name(name) => scope.push(name.bytes()),
+        Pat::Name(name) => scope.push(name),
         Pat::Any => Ok(()),
         Pat::Num(_, _) => Ok(()),
         Pat::Letter(_) => Ok(()),
@@ -84,7 +84,7 @@ pub(crate) fn mention_pattern<'a>(
         Pat::Letter(_) => Ok(()),
         Pat::Truth(_) => Ok(()),
         Pat::Con(name, parts) => {
-            out.push(NameKind::Constructor, name.bytes())?;
+            out.push(NameKind::Constructor, name)?;
             mention_patterns(out, parts.as_slice())
         }
         Pat::Paren(inner) => mention_pattern(out, inner),

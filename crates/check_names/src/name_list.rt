@@ -1,6 +1,7 @@
 ghost use Rattle.std.specs.Prelude.{◌≡◌, ◌<◌, ◌∷◌, [], ◌++◌, take, map, length, slice_index_or, OnOk, IfOk};
 ghost use Rattle.check_tables.specs.names.Names.{among};
 
+use hume_base::Text;
 use std::alloc::{AllocError, Global};
 use std::marker::Model;
 
@@ -27,7 +28,7 @@ impl<'a> NameList<'a> {
         }
     }
 
-    pub(crate) fn of_one(alloc: Global, name: &'a [u8]) -> Result<NameList<'a>, AllocError>
+    pub(crate) fn of_one(alloc: Global, name: &'a Text) -> Result<NameList<'a>, AllocError>
         ensures { IfOk result (λ list. list ≡ name.now ∷ []) }
     {
         let mut list = NameList::new(alloc);
@@ -41,10 +42,10 @@ impl<'a> NameList<'a> {
         self.names.len()
     }
 
-    pub(crate) fn push(&mut self, name: &'a [u8]) -> Result<(), AllocError>
+    pub(crate) fn push(&mut self, name: &'a Text) -> Result<(), AllocError>
         ensures { OnOk result (self.new ≡ self.old ++ name.now ∷ []) }
     {
-        self.names.push(name)?;
+        self.names.push(name.bytes())?;
         Ok(())
     }
 

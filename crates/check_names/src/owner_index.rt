@@ -28,14 +28,6 @@ pub(crate) fn index_of<'a>(
     ensures indexed { IfOk result IsIndexed }
 {
     let owners = owners_of(alloc, kind, decls)?;
-    let index = indexed(alloc, owners)?;
-    Ok(index)
-}
-
-fn indexed<'a>(alloc: Global, owners: Owners<'a>) -> Result<OwnerIndex<'a>, AllocError>
-    ensures owners { IfOk result (λ index. index.owners ≡ owners.entry) }
-    ensures indexed { IfOk result IsIndexed }
-{
     let mut table = NameTable::new(alloc);
     let distinct = add_owners(&mut table, &owners)?;
     Ok(OwnerIndex {

@@ -1,8 +1,8 @@
 //! Names of a kind, with the numbers of their declarations.
 ghost use Rattle.std.specs.Prelude.{◌≡◌, ◌<◌, ◌^◌, ◌∷◌, [], ◌++◌, map, length, slice_get, Some, OnOk, IfOk};
-ghost use Rattle.check_names.specs.Leading.{names_of_kind, owners_from, numbers_of};
+ghost use Rattle.check_names.specs.Leading.{owners_from, numbers_of};
 
-use crate::declared::{constructors_of, exceptions_of, functions_of, types_of};
+use crate::declared::names_declared;
 use crate::mention_list::NameKind;
 use crate::name_list::NameList;
 use hume_ast::Decl;
@@ -104,20 +104,4 @@ fn push_all<'a>(
         owners.push(names.get(at), number)?;
     }
     Ok(())
-}
-
-fn names_declared<'a>(
-    alloc: Global,
-    kind: NameKind,
-    decl: &'a Decl,
-) -> Result<NameList<'a>, AllocError>
-    ensures { IfOk result (λ names. names ≡ names_of_kind kind decl.now) }
-{
-    match kind {
-        NameKind::DataType => types_of(alloc, decl),
-        NameKind::Constructor => constructors_of(alloc, decl),
-        NameKind::Exception => exceptions_of(alloc, decl),
-        NameKind::Function => functions_of(alloc, decl),
-        NameKind::Unbound => Ok(NameList::new(alloc)),
-    }
 }

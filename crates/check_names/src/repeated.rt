@@ -1,11 +1,15 @@
-ghost use Rattle.std.specs.Prelude.{◌≡◌, ℕ, ◌<◌, ◌^◌, [], length, ◌||◌, IfOk, OnOk};
+ghost use Rattle.std.specs.Prelude.{◌≡◌, ℕ, ◌<◌, ◌^◌, [], ◌++◌, length, ◌||◌, IfOk, OnOk};
 ghost use Rattle.hume_base.specs.Least.{IsFirst};
 ghost use Rattle.check_names.specs.Names.{repeats};
+ghost use Rattle.check_tables.specs.names.Names.{names_of};
+ghost use Rattle.check_names.specs.DeclaredNames as declared;
+ghost use Rattle.check_names.specs.Repeated as shared;
 ghost use Rattle.check_names.specs.Repeated.{RepeatsName, spaces_in, repeats_shared, repeats_own};
-ghost use Rattle.check_names.specs.inner.Spaces.{SameSpaces, spaces_of, with_declared};
+ghost use Rattle.check_names.specs.inner.Spaces.{SameNames, SameSpaces, spaces_of, with_declared};
 
-use crate::adding::add_all;
-use crate::declared::{capitals_of, functions_of, handled_of, nodes_of, ports_of, types_of};
+use crate::adding::{add_declared_names, add_given, add_names};
+use crate::declared::{capitals_of, handled_of, nodes_of, ports_of};
+use crate::mention_list::NameKind;
 use crate::name_list::NameList;
 use check_tables::names::NameTable;
 use hume_ast::{Decl, Program};
@@ -25,24 +29,30 @@ pub fn first_repeated(alloc: Global, program: &Program) -> Result<Option<u32>, A
     requires { length program.now.decls < 2 ^ 32 }
     ensures { IfOk result (IsFirst (RepeatsName program.now.decls)) }
 {
-    let mut tables = first_tables(alloc)?;
-    let found = first_repeated_in(alloc, &mut tables, program.decls.as_slice())?;
-    Ok(found)
-}
-
-fn first_tables<'a>(alloc: Global) -> Result<Tables<'a>, AllocError>
-    ensures { IfOk result (λ tables. SameSpaces (spaces_of tables) (spaces_in [])) }
-{
-    let mut capitals = NameTable::new(alloc);
-    capitals.add(b"DivZero", 0)?;
-    capitals.add(b"Range", 0)?;
-    capitals.add(b"NoCase", 0)?;
-    Ok(Tables {
+    // Each way out of a function drops what it owns: so the tables are owned here, and lent to what can fail.
+    let mut tables = Tables {
         types: NameTable::new(alloc),
-        capitals,
+        capitals: NameTable::new(alloc),
         functions: NameTable::new(alloc),
         nodes: NameTable::new(alloc),
-    })
+    };
+    first_repeated_over(alloc, &mut tables, program.decls.as_slice())
+}
+
+fn first_repeated_over<'a>(
+    alloc: Global,
+    tables: &mut Tables<'a>,
+    decls: &'a [(u32, Decl)],
+) -> Result<Option<u32>, AllocError>
+    requires few { length decls.now < 2 ^ 32 }
+    requires types { tables.old.types ≡ [] }
+    requires capitals { tables.old.capitals ≡ [] }
+    requires functions { tables.old.functions ≡ [] }
+    requires nodes { tables.old.nodes ≡ [] }
+    ensures { IfOk result (IsFirst (RepeatsName decls.now)) }
+{
+    add_given(&mut tables.capitals)?;
+    first_repeated_in(alloc, tables, decls)
 }
 
 fn first_repeated_in<'a>(
@@ -73,7 +83,7 @@ fn add_declared<'a>(
 {
     let shared = add_shared(alloc, tables, decl)?;
     let own = repeats_within(alloc, decl)?;
-    Ok(shared || own)
+    Ok(shared | own)
 }
 
 fn add_shared<'a>(
@@ -84,27 +94,52 @@ fn add_shared<'a>(
     ensures again { IfOk result (λ again. again ≡ repeats_shared (spaces_of tables.old) decl.now) }
     ensures added { OnOk result (SameSpaces (spaces_of tables.new) (with_declared (spaces_of tables.old) decl.now)) }
 {
-    let types = add_all(&mut tables.types, &types_of(alloc, decl)?, 0)?;
-    let capitals = add_all(&mut tables.capitals, &capitals_of(alloc, decl)?, 0)?;
-    let functions = add_all(&mut tables.functions, &functions_of(alloc, decl)?, 0)?;
-    let nodes = add_all(&mut tables.nodes, &nodes_of(alloc, decl)?, 0)?;
-    Ok(types || (capitals || (functions || nodes)))
+    let types = add_declared_names(alloc, &mut tables.types, NameKind::DataType, decl)?;
+    let capitals = add_capitals(alloc, &mut tables.capitals, decl)?;
+    let functions = add_declared_names(alloc, &mut tables.functions, NameKind::Function, decl)?;
+    let nodes = add_nodes(alloc, &mut tables.nodes, decl)?;
+    Ok(types | (capitals | (functions | nodes)))
+}
+
+fn add_capitals<'a>(
+    alloc: Global,
+    table: &mut NameTable<'a>,
+    decl: &'a Decl,
+) -> Result<bool, AllocError>
+    ensures again { IfOk result (λ again. again ≡ repeats (names_of table.old) (shared.capitals_of decl.now)) }
+    ensures added { OnOk result (SameNames (names_of table.new) (names_of table.old ++ shared.capitals_of decl.now)) }
+{
+    let names = capitals_of(alloc, decl)?;
+    let again = add_names(table, names)?;
+    Ok(again)
+}
+
+fn add_nodes<'a>(
+    alloc: Global,
+    table: &mut NameTable<'a>,
+    decl: &'a Decl,
+) -> Result<bool, AllocError>
+    ensures again { IfOk result (λ again. again ≡ repeats (names_of table.old) (declared.nodes_of decl.now)) }
+    ensures added { OnOk result (SameNames (names_of table.new) (names_of table.old ++ declared.nodes_of decl.now)) }
+{
+    let names = nodes_of(alloc, decl)?;
+    let again = add_names(table, names)?;
+    Ok(again)
 }
 
 // Whether a name comes twice in one of a box's own spaces.
 fn repeats_within(alloc: Global, decl: &Decl) -> Result<bool, AllocError>
     ensures { IfOk result (λ again. again ≡ repeats_own decl.now) }
 {
-    let ports = come_twice(alloc, &ports_of(alloc, decl)?)?;
-    let handled = come_twice(alloc, &handled_of(alloc, decl)?)?;
-    Ok(ports || handled)
+    let ports = come_twice(alloc, ports_of(alloc, decl)?)?;
+    let handled = come_twice(alloc, handled_of(alloc, decl)?)?;
+    Ok(ports | handled)
 }
 
 /// Whether one of the names comes twice.
-pub(crate) fn come_twice(alloc: Global, names: &NameList) -> Result<bool, AllocError>
-    ensures { IfOk result (λ again. again ≡ repeats [] names.now) }
+pub(crate) fn come_twice(alloc: Global, names: NameList) -> Result<bool, AllocError>
+    ensures { IfOk result (λ again. again ≡ repeats [] names.entry) }
 {
     let mut table = NameTable::new(alloc);
-    let again = add_all(&mut table, names, 0)?;
-    Ok(again)
+    add_names(&mut table, names)
 }

@@ -19,8 +19,7 @@ pub fn first_bound_twice(alloc: Global, program: &Program) -> Result<Option<u32>
     requires { length program.now.decls < 2 ^ 32 }
     ensures { IfOk result (IsFirst (BindsTwice program.now.decls)) }
 {
-    let found = first_bound_twice_in(alloc, program.decls.as_slice())?;
-    Ok(found)
+    first_bound_twice_in(alloc, program.decls.as_slice())
 }
 
 fn first_bound_twice_in(alloc: Global, decls: &[(u32, Decl)]) -> Result<Option<u32>, AllocError>
@@ -102,6 +101,5 @@ fn patterns_bind_twice(alloc: Global, patterns: &[Pat]) -> Result<bool, AllocErr
 {
     let mut names = NameList::new(alloc);
     bind_all(&mut names, patterns)?;
-    let again = come_twice(alloc, &names)?;
-    Ok(again)
+    come_twice(alloc, names)
 }

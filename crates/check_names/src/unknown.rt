@@ -1,4 +1,4 @@
-ghost use Rattle.std.specs.Prelude.{◌≡◌, ℕ, ◌<◌, ◌^◌, ◌||◌, not, length, IfOk};
+ghost use Rattle.std.specs.Prelude.{◌≡◌, ℕ, ◌<◌, ◌^◌, [], ◌||◌, not, length, IfOk};
 ghost use Rattle.std.specs.List.{list_any};
 ghost use Rattle.std.specs.Str.{bytes_eq};
 ghost use Rattle.hume_base.specs.Least.{IsFirst};
@@ -7,8 +7,9 @@ ghost use Rattle.check_names.specs.Unknown.{HasUnknownName, known_in, mentions_u
 ghost use Rattle.check_names.specs.inner.KnownTables.{SameKnown, known_of};
 
 use crate::ends::{is_source, is_target};
-use crate::known::{KnownNames, known_names};
+use crate::known::{KnownNames, add_all_known};
 use crate::mention_decls::mentions_of;
+use check_tables::names::NameTable;
 use hume_ast::{Decl, Exp, Pat, Program};
 use hume_base::{List, Text};
 use std::alloc::{AllocError, Global};
@@ -18,17 +19,30 @@ pub fn first_unknown(alloc: Global, program: &Program) -> Result<Option<u32>, Al
     requires { length program.now.decls < 2 ^ 32 }
     ensures { IfOk result (IsFirst (HasUnknownName program.now.decls)) }
 {
-    let found = first_unknown_in(alloc, program.decls.as_slice())?;
-    Ok(found)
+    // Each way out of a function drops what it owns: so the tables are owned here, and lent to what can fail.
+    let mut known = KnownNames {
+        types: NameTable::new(alloc),
+        constructors: NameTable::new(alloc),
+        exceptions: NameTable::new(alloc),
+        functions: NameTable::new(alloc),
+    };
+    first_unknown_over(alloc, &mut known, program.decls.as_slice())
 }
 
-fn first_unknown_in(alloc: Global, decls: &[(u32, Decl)]) -> Result<Option<u32>, AllocError>
-    requires { length decls.now < 2 ^ 32 }
+fn first_unknown_over<'a>(
+    alloc: Global,
+    known: &mut KnownNames<'a>,
+    decls: &'a [(u32, Decl)],
+) -> Result<Option<u32>, AllocError>
+    requires few { length decls.now < 2 ^ 32 }
+    requires types { known.old.types ≡ [] }
+    requires constructors { known.old.constructors ≡ [] }
+    requires exceptions { known.old.exceptions ≡ [] }
+    requires functions { known.old.functions ≡ [] }
     ensures { IfOk result (IsFirst (HasUnknownName decls.now)) }
 {
-    let known = known_names(alloc, decls)?;
-    let found = first_lacking(alloc, &known, decls)?;
-    Ok(found)
+    add_all_known(alloc, known, decls)?;
+    first_lacking(alloc, known, decls)
 }
 
 fn first_lacking(

@@ -31,6 +31,13 @@ use Rattle.parse_readers.specs.inner.Expressions.{exps, expressions_with, at_lev
 use Rattle.parse_errors.proofs.ReportedPlaces.{kinds_length}
 use Rattle.parse_expressions.proofs.Loops.{made_twice, fails_on}
 
+-- the room of the parts, as the code counts it down
+less : (n : ℕ) → suc n ≡ suc (suc n) - 1
+less n = simp unary_clauses
+
+less_one : (n : ℕ) → n ≡ suc n - 1
+less_one n = simp unary_clauses
+
 -- where a test holds of the next token, and where a token would be too deep
 form_room : (n : ℕ) (k : Kind) (ks : List Kind) → opens_form k ≡ true → 0 < n → too_deep opens_form n (k ∷ ks) ≡ false → 1 < n
 form_room zero k ks o some d = absurd (omega (arith, some))
@@ -66,27 +73,27 @@ unfolding expressions_with
 exp_let zero ks h d t = absurd (omega (arith, h))
 exp_let n [] h d t = cc
 exp_let (suc zero) (k ∷ ks) h d t = absurd (omega (arith, form_room 1 k ks (rw t) h d))
-exp_let (suc (suc n)) (k ∷ ks) h d t = rw t (simp unary_clauses)
+exp_let (suc (suc n)) (k ∷ ks) h d t = rw t (ap (λ m. let_parts m ks) (less n))
 
 pub exp_if : (n : ℕ) (ks : List Kind) → 0 < n → too_deep opens_form n ks ≡ false → next (is_word word.Let) ks ≡ false → next (is_word word.If) ks ≡ true → (exps n).whole ks ≡ if_parts (n - 1) (behind ks)
 unfolding expressions_with
 exp_if zero ks h d a t = absurd (omega (arith, h))
 exp_if n [] h d a t = cc
 exp_if (suc zero) (k ∷ ks) h d a t = absurd (omega (arith, form_room 1 k ks (rw (a, t)) h d))
-exp_if (suc (suc n)) (k ∷ ks) h d a t = rw (a, t) (simp unary_clauses)
+exp_if (suc (suc n)) (k ∷ ks) h d a t = rw (a, t) (ap (λ m. if_parts m ks) (less n))
 
 pub exp_case : (n : ℕ) (ks : List Kind) → 0 < n → too_deep opens_form n ks ≡ false → next (is_word word.Let) ks ≡ false → next (is_word word.If) ks ≡ false → next (is_word word.Case) ks ≡ true → (exps n).whole ks ≡ case_parts (n - 1) (behind ks)
 unfolding expressions_with
 exp_case zero ks h d a b t = absurd (omega (arith, h))
 exp_case n [] h d a b t = cc
 exp_case (suc zero) (k ∷ ks) h d a b t = absurd (omega (arith, form_room 1 k ks (rw (a, b, t)) h d))
-exp_case (suc (suc n)) (k ∷ ks) h d a b t = rw (a, b, t) (simp unary_clauses)
+exp_case (suc (suc n)) (k ∷ ks) h d a b t = rw (a, b, t) (ap (λ m. case_parts m ks) (less n))
 
 pub exp_raise : (n : ℕ) (ks : List Kind) → 0 < n → next (is_word word.Let) ks ≡ false → next (is_word word.If) ks ≡ false → next (is_word word.Case) ks ≡ false → next (is_word word.Raise) ks ≡ true → (exps n).whole ks ≡ raise_parts (n - 1) (behind ks)
 unfolding expressions_with
 exp_raise zero ks h a b c t = absurd (omega (arith, h))
 exp_raise (suc n) [] h a b c t = cc
-exp_raise (suc n) (k ∷ ks) h a b c t = rw (a, b, c, t) (simp unary_clauses)
+exp_raise (suc n) (k ∷ ks) h a b c t = rw (a, b, c, t) (ap (λ m. raise_parts m ks) (less_one n))
 
 pub exp_or : (n : ℕ) (ks : List Kind) → 0 < n → next (is_word word.Let) ks ≡ false → next (is_word word.If) ks ≡ false → next (is_word word.Case) ks ≡ false → next (is_word word.Raise) ks ≡ false → (exps n).whole ks ≡ at_level 2 (exps n) ks
 unfolding expressions_with
@@ -115,14 +122,14 @@ pub unary_minus : (n : ℕ) (ks : List Kind) → 0 < n → next (is_sign symbol.
 unfolding expressions_with
 unary_minus zero ks h t = absurd (omega (arith, h))
 unary_minus (suc n) [] h t = cc
-unary_minus (suc n) (k ∷ ks) h t = rw (t) (simp unary_clauses)
+unary_minus (suc n) (k ∷ ks) h t = rw (t) (ap (λ m. minus_parts m ks) (less_one n))
 
 pub unary_not : (n : ℕ) (ks : List Kind) → 1 < n → next (is_sign symbol.Minus) ks ≡ false → next (is_word word.Not) ks ≡ true → (exps n).unary ks ≡ made tree.Not (exps (n - 1)).unary (behind ks)
 unfolding expressions_with
 unary_not zero ks h a t = absurd (omega (arith, h))
 unary_not (suc zero) ks h a t = absurd (omega (arith, h))
 unary_not (suc (suc n)) [] h a t = cc
-unary_not (suc (suc n)) (k ∷ ks) h a t = rw (a, t) (made_twice (exps (suc n)).unary ks Exp-F.Not roll-Exp tree.Not rolls-Not ∙ (simp unary_clauses))
+unary_not (suc (suc n)) (k ∷ ks) h a t = rw (a, t) (made_twice (exps (suc n)).unary ks Exp-F.Not roll-Exp tree.Not rolls-Not ∙ ap (λ m. made tree.Not (exps m).unary ks) (less n))
 
 pub unary_not_one : (n : ℕ) (ts : List Token) → n ≡ 1 → next (is_sign symbol.Minus) (kinds ts) ≡ false → next (is_word word.Not) (kinds ts) ≡ true → (exps n).unary (kinds ts) ≡ Err (true, length ts)
 unfolding expressions_with
@@ -170,11 +177,11 @@ app_call (suc n) [] ls head h e = cc
 app_call (suc n) (Lower name ∷ ks) ls head h e =
     let pairs : (Function name, ks) ≡ (head, ls) = cc in
     called (Function name) app_of name (λ items. refl) (many starts_atom (exps n).atom ks)
-    ∙ ap (λ (y : Head × List Kind). call_with y.0 n y.1) pairs ∙ (simp unary_clauses)
+    ∙ ap (λ (y : Head × List Kind). call_with y.0 n y.1) pairs ∙ ap (λ m. call_with head m ls) (less_one n)
 app_call (suc n) (Upper name ∷ ks) ls head h e =
     let pairs : (Constructor name, ks) ≡ (head, ls) = cc in
     called (Constructor name) con_exp_of name (λ items. refl) (many starts_atom (exps n).atom ks)
-    ∙ ap (λ (y : Head × List Kind). call_with y.0 n y.1) pairs ∙ (simp unary_clauses)
+    ∙ ap (λ (y : Head × List Kind). call_with y.0 n y.1) pairs ∙ ap (λ m. call_with head m ls) (less_one n)
 app_call (suc n) (_ ∷ ks) ls head h e = cc
 
 pub app_update : (n : ℕ) (ks : List Kind) → 1 < n → next is_name ks ≡ false → next (is_word word.Update) ks ≡ true → (exps n).app ks ≡ update_parts (n - 1) (behind ks)
@@ -182,7 +189,7 @@ unfolding expressions_with
 app_update zero ks h a t = absurd (omega (arith, h))
 app_update (suc zero) ks h a t = absurd (omega (arith, h))
 app_update (suc (suc n)) [] h a t = cc
-app_update (suc (suc n)) (k ∷ ks) h a t = rw (not_lower (k ∷ ks) a, not_upper (k ∷ ks) a, t) (simp unary_clauses)
+app_update (suc (suc n)) (k ∷ ks) h a t = rw (not_lower (k ∷ ks) a, not_upper (k ∷ ks) a, t) (ap (λ m. update_parts m ks) (less n))
 
 pub app_update_one : (n : ℕ) (ts : List Token) → n ≡ 1 → next is_name (kinds ts) ≡ false → next (is_word word.Update) (kinds ts) ≡ true → (exps n).app (kinds ts) ≡ Err (true, length ts)
 unfolding expressions_with
@@ -231,14 +238,14 @@ unfolding expressions_with
 atom_open zero ks h d t = absurd (h refl)
 atom_open n [] h d t = cc
 atom_open (suc zero) (k ∷ ks) h d t = absurd (omega (arith, parts_room 1 k ks (rw t) (omega arith) d))
-atom_open (suc (suc n)) (k ∷ ks) h d t = rw (sign_next symbol.OpenParen k t word.True, sign_next symbol.OpenParen k t word.False, t) (simp unary_clauses)
+atom_open (suc (suc n)) (k ∷ ks) h d t = rw (sign_next symbol.OpenParen k t word.True, sign_next symbol.OpenParen k t word.False, t) (ap (λ m. parens_parts m ks) (less n))
 
 pub atom_angles : (n : ℕ) (ks : List Kind) → n ≢ 0 → too_deep opens_parts n ks ≡ false → next (is_sign symbol.OpenParen) ks ≡ false → next (is_sign symbol.OpenAngles) ks ≡ true → (exps n).atom ks ≡ vect_parts (n - 1) (behind ks)
 unfolding expressions_with
 atom_angles zero ks h d a t = absurd (h refl)
 atom_angles n [] h d a t = cc
 atom_angles (suc zero) (k ∷ ks) h d a t = absurd (omega (arith, parts_room 1 k ks (rw (a, t)) (omega arith) d))
-atom_angles (suc (suc n)) (k ∷ ks) h d a t = rw (sign_next symbol.OpenAngles k t word.True, sign_next symbol.OpenAngles k t word.False, a, t) (simp unary_clauses)
+atom_angles (suc (suc n)) (k ∷ ks) h d a t = rw (sign_next symbol.OpenAngles k t word.True, sign_next symbol.OpenAngles k t word.False, a, t) (ap (λ m. vect_parts m ks) (less n))
 
 pub atom_plain : (n : ℕ) (ks : List Kind) → n ≢ 0 → next (is_sign symbol.OpenParen) ks ≡ false → next (is_sign symbol.OpenAngles) ks ≡ false → (exps n).atom ks ≡ plain_atom ks
 unfolding expressions_with

@@ -23,8 +23,9 @@ use crate::tokens::{
     after_sign, after_word, behind, next_is_name, next_is_number, next_is_sign, next_is_word, upper,
 };
 use crate::trees::{
-    Alternatives, Tree, Trees, binary_tree, call_tree, case_tree, cast_tree, if_tree, let_tree,
-    neg_tree, not_tree, parens_tree, raise_tree, update_tree, vect_tree,
+    Alternatives, Tree, Trees, bare_raise_tree, binary_tree, call_tree, case_tree, cast_tree,
+    if_tree, let_tree, neg_tree, not_tree, parens_tree, raise_tree, star_tree, update_tree,
+    vect_tree,
 };
 use hume_ast::{BinOp, Exp, Pat};
 use hume_base::limits::MAX_DEPTH;
@@ -38,7 +39,7 @@ pub fn expression(alloc: Global, rest: &[Token]) -> Result<(Exp, &[Token]), Stop
     ensures shorter { IfOk result (λ x. length x.1.now ≤ length rest.now) }
 {
     let (found, rest) = exp(alloc, rest, MAX_DEPTH)?;
-    Ok((found.exp, rest))
+    Ok((found.exp.into_inner(), rest))
 }
 
 /// An expression from the front of the tokens, at most so deep.
@@ -157,7 +158,7 @@ fn raise_exp(alloc: Global, rest: &[Token], room: u32) -> Result<(Tree, &[Token]
 {
     let (name, rest) = upper(rest)?;
     if !starts_atom(rest) {
-        return Ok((Tree::leaf(Exp::Raise(name, None)), rest));
+        return Ok((bare_raise_tree(alloc, name)?, rest));
     }
     let (value, rest) = atom(alloc, rest, room)?;
     Ok((raise_tree(alloc, name, value)?, rest))
@@ -251,7 +252,7 @@ fn minus(alloc: Global, rest: &[Token], room: u32) -> Result<(Tree, &[Token]), S
     ensures { Gives (λ x. (x.0.exp, kinds x.1.now)) result (minus_parts room (kinds rest.now)) }
 {
     if next_is_number(rest) {
-        return negative_number(rest);
+        return negative_number(alloc, rest);
     }
     let (part, rest) = unary(alloc, rest, room)?;
     Ok((neg_tree(alloc, part)?, rest))
@@ -266,7 +267,7 @@ fn app(alloc: Global, rest: &[Token], room: u32) -> Result<(Tree, &[Token]), Sto
     if next_is_name(rest) {
         let (head, rest) = head(rest)?;
         let (items, rest) = arguments(alloc, rest, room - 1)?;
-        return Ok((call_tree(head, items), rest));
+        return Ok((call_tree(alloc, head, items)?, rest));
     }
     if next_is_word(rest, Keyword::Update) {
         if room == 1 {
@@ -275,7 +276,7 @@ fn app(alloc: Global, rest: &[Token], room: u32) -> Result<(Tree, &[Token]), Sto
         return update(alloc, behind(rest), room - 1);
     }
     if next_is_sign(rest, Symbol::Star) {
-        return Ok((Tree::leaf(Exp::Star), behind(rest)));
+        return Ok((star_tree(alloc)?, behind(rest)));
     }
     atom(alloc, rest, room)
 }
@@ -349,7 +350,7 @@ fn vect(alloc: Global, rest: &[Token], room: u32) -> Result<(Tree, &[Token]), St
 {
     let (first, rest) = exp(alloc, rest, room)?;
     let (items, rest) = others(alloc, first, rest, Symbol::CloseAngles, room)?;
-    Ok((vect_tree(items), rest))
+    Ok((vect_tree(alloc, items)?, rest))
 }
 
 /// The first part and the others, up to the symbol that closes them.

@@ -64,11 +64,11 @@ pub fn head(rest: &[Token]) -> Result<(Head, &[Token]), Stop>
 }
 
 /// The number behind a minus, with it.
-pub fn negative_number(rest: &[Token]) -> Result<(Tree, &[Token]), Stop>
+pub fn negative_number(alloc: Global, rest: &[Token]) -> Result<(Tree, &[Token]), Stop>
     ensures { Gives (λ x. (x.0.exp, kinds x.1.now)) result (made (NumTree true) (pick number_of) (kinds rest.now)) }
 {
     let (amount, rest) = number(rest)?;
-    Ok((Tree::leaf(Exp::Num(true, amount)), rest))
+    Ok((Tree::leaf(alloc, Exp::Num(true, amount))?, rest))
 }
 
 /// An atom that holds no expression.
@@ -76,7 +76,7 @@ pub fn plain_atom(alloc: Global, rest: &[Token]) -> Result<(Tree, &[Token]), Sto
     ensures { Gives (λ x. (x.0.exp, kinds x.1.now)) result (plain_read (kinds rest.now)) }
 {
     let (exp, after) = leaf(alloc, rest)?;
-    Ok((Tree::leaf(exp), after))
+    Ok((Tree::leaf(alloc, exp)?, after))
 }
 
 #[tactic(auto, using(crate::proofs::ExpSteps::leaf_steps))]

@@ -1,6 +1,6 @@
-ghost use Rattle.std.specs.Prelude.{◌≡◌, ◌+◌, ◌<◌, ◌∷◌, ◌++◌, [], ℕ, max, nat_le, IfOk, IsTrue, Some};
+ghost use Rattle.std.specs.Prelude.{◌≡◌, ◌+◌, ◌<◌, ◌∷◌, ◌++◌, [], ℕ, max, nat_le, IfOk, IsTrue, Some, None};
 ghost use Rattle.hume_ast.specs.Depth.{exp_depth};
-ghost use Rattle.hume_ast.specs.declared.tree.Exp.{roll-Exp, Let, If, Case, Raise, Binary, Neg, Not, Update, Cast, Vect};
+ghost use Rattle.hume_ast.specs.declared.tree.Exp.{roll-Exp, Let, If, Case, Raise, Binary, Neg, Not, Update, Cast, Vect, Star};
 ghost use Rattle.parse_expressions.specs.inner.Measures.{counted, parts_depth, alternatives_depth};
 ghost use Rattle.parse_expressions.specs.inner.Parts.{in_list, call_of};
 
@@ -8,10 +8,11 @@ use hume_ast::{BinOp, Exp, Pat, TyExp};
 use hume_base::{Box, List, Text};
 use std::alloc::{AllocError, Global};
 
-/// An expression, and how deep it is.
+/// An expression, and how deep it is. It stands behind a pointer, so that one call drops it where a reader stops:
+/// the forms of expressions are no part of the proofs there.
 #[derive(Drop)]
 pub struct Tree {
-    pub exp: Exp,
+    pub exp: Box<Exp>,
     pub depth: u32,
     ghost counts: { depth ≡ counted (exp_depth exp) },
 }
@@ -53,11 +54,19 @@ fn deeper(first: u32, second: u32) -> u32
 
 impl Tree {
     /// An expression with no expression in it.
-    pub fn leaf(exp: Exp) -> Tree
+    pub fn leaf(alloc: Global, exp: Exp) -> Result<Tree, AllocError>
         requires { exp_depth exp ≡ 1 }
-        ensures { result.exp ≡ exp }
+        ensures { IfOk result (λ made. made.exp ≡ exp) }
     {
-        Tree { exp, depth: 1 }
+        Tree::with_depth(alloc, exp, 1)
+    }
+
+    fn with_depth(alloc: Global, exp: Exp, depth: u32) -> Result<Tree, AllocError>
+        requires { depth ≡ counted (exp_depth exp) }
+        ensures { IfOk result (λ made. made.exp ≡ exp) }
+    {
+        let exp = Box::new(alloc, exp)?;
+        Ok(Tree { exp, depth })
     }
 
     /// Whether it may be a part where parts are at most so deep.
@@ -86,7 +95,7 @@ impl Trees {
     {
         let Trees { mut items, depth } = self;
         let Tree { exp, depth: other } = tree;
-        items.push(exp)?;
+        items.push(exp.into_inner())?;
         Ok(Trees {
             items,
             depth: deeper(depth, other),
@@ -110,7 +119,7 @@ impl Alternatives {
     {
         let Alternatives { mut items, depth } = self;
         let Tree { exp, depth: other } = tree;
-        items.push((pattern, exp))?;
+        items.push((pattern, exp.into_inner()))?;
         Ok(Alternatives {
             items,
             depth: deeper(depth, other),
@@ -123,12 +132,7 @@ pub fn let_tree(alloc: Global, name: Text, value: Tree, body: Tree) -> Result<Tr
     ensures { IfOk result (λ made. made.exp ≡ Let name value.exp body.exp) }
 {
     let depth = one_deeper(deeper(value.depth, body.depth));
-    let exp = Exp::Let(
-        name,
-        Box::new(alloc, value.exp)?,
-        Box::new(alloc, body.exp)?,
-    );
-    Ok(Tree { exp, depth })
+    Tree::with_depth(alloc, Exp::Let(name, value.exp, body.exp), depth)
 }
 
 /// `if test then first else second`.
@@ -136,12 +140,7 @@ pub fn if_tree(alloc: Global, test: Tree, first: Tree, second: Tree) -> Result<T
     ensures { IfOk result (λ made. made.exp ≡ If test.exp first.exp second.exp) }
 {
     let depth = one_deeper(deeper(test.depth, deeper(first.depth, second.depth)));
-    let exp = Exp::If(
-        Box::new(alloc, test.exp)?,
-        Box::new(alloc, first.exp)?,
-        Box::new(alloc, second.exp)?,
-    );
-    Ok(Tree { exp, depth })
+    Tree::with_depth(alloc, Exp::If(test.exp, first.exp, second.exp), depth)
 }
 
 /// `case subject of` the alternatives.
@@ -149,8 +148,14 @@ pub fn case_tree(alloc: Global, subject: Tree, found: Alternatives) -> Result<Tr
     ensures { IfOk result (λ made. made.exp ≡ Case subject.exp found.items) }
 {
     let depth = one_deeper(deeper(subject.depth, found.depth));
-    let exp = Exp::Case(Box::new(alloc, subject.exp)?, found.items);
-    Ok(Tree { exp, depth })
+    Tree::with_depth(alloc, Exp::Case(subject.exp, found.items), depth)
+}
+
+/// `raise name`.
+pub fn bare_raise_tree(alloc: Global, name: Text) -> Result<Tree, AllocError>
+    ensures { IfOk result (λ made. made.exp ≡ Raise name None) }
+{
+    Tree::leaf(alloc, Exp::Raise(name, None))
 }
 
 /// `raise name value`.
@@ -158,8 +163,7 @@ pub fn raise_tree(alloc: Global, name: Text, value: Tree) -> Result<Tree, AllocE
     ensures { IfOk result (λ made. made.exp ≡ Raise name (Some value.exp)) }
 {
     let depth = one_deeper(value.depth);
-    let exp = Exp::Raise(name, Some(Box::new(alloc, value.exp)?));
-    Ok(Tree { exp, depth })
+    Tree::with_depth(alloc, Exp::Raise(name, Some(value.exp)), depth)
 }
 
 /// Two parts with an operator between them.
@@ -172,12 +176,7 @@ pub fn binary_tree(
     ensures { IfOk result (λ made. made.exp ≡ Binary operator left.exp right.exp) }
 {
     let depth = one_deeper(deeper(left.depth, right.depth));
-    let exp = Exp::Binary(
-        operator,
-        Box::new(alloc, left.exp)?,
-        Box::new(alloc, right.exp)?,
-    );
-    Ok(Tree { exp, depth })
+    Tree::with_depth(alloc, Exp::Binary(operator, left.exp, right.exp), depth)
 }
 
 /// A part behind a minus.
@@ -185,8 +184,7 @@ pub fn neg_tree(alloc: Global, part: Tree) -> Result<Tree, AllocError>
     ensures { IfOk result (λ made. made.exp ≡ Neg part.exp) }
 {
     let depth = one_deeper(part.depth);
-    let exp = Exp::Neg(Box::new(alloc, part.exp)?);
-    Ok(Tree { exp, depth })
+    Tree::with_depth(alloc, Exp::Neg(part.exp), depth)
 }
 
 /// A part behind `not`.
@@ -194,20 +192,25 @@ pub fn not_tree(alloc: Global, part: Tree) -> Result<Tree, AllocError>
     ensures { IfOk result (λ made. made.exp ≡ Not part.exp) }
 {
     let depth = one_deeper(part.depth);
-    let exp = Exp::Not(Box::new(alloc, part.exp)?);
-    Ok(Tree { exp, depth })
+    Tree::with_depth(alloc, Exp::Not(part.exp), depth)
+}
+
+/// `*`.
+pub fn star_tree(alloc: Global) -> Result<Tree, AllocError>
+    ensures { IfOk result (λ made. made.exp ≡ Star) }
+{
+    Tree::leaf(alloc, Exp::Star)
 }
 
 /// A name with its arguments.
-pub fn call_tree(head: Head, arguments: Trees) -> Tree
-    ensures { result.exp ≡ roll-Exp (call_of head arguments.items) }
+pub fn call_tree(alloc: Global, head: Head, arguments: Trees) -> Result<Tree, AllocError>
+    ensures { IfOk result (λ made. made.exp ≡ roll-Exp (call_of head arguments.items)) }
 {
     let depth = one_deeper(arguments.depth);
-    let exp = match head {
-        Head::Function(name) => Exp::App(name, arguments.items),
-        Head::Constructor(name) => Exp::Con(name, arguments.items),
-    };
-    Tree { exp, depth }
+    match head {
+        Head::Function(name) => Tree::with_depth(alloc, Exp::App(name, arguments.items), depth),
+        Head::Constructor(name) => Tree::with_depth(alloc, Exp::Con(name, arguments.items), depth),
+    }
 }
 
 /// `update vector at item`.
@@ -215,12 +218,7 @@ pub fn update_tree(alloc: Global, vector: Tree, at: Tree, item: Tree) -> Result<
     ensures { IfOk result (λ made. made.exp ≡ Update vector.exp at.exp item.exp) }
 {
     let depth = one_deeper(deeper(vector.depth, deeper(at.depth, item.depth)));
-    let exp = Exp::Update(
-        Box::new(alloc, vector.exp)?,
-        Box::new(alloc, at.exp)?,
-        Box::new(alloc, item.exp)?,
-    );
-    Ok(Tree { exp, depth })
+    Tree::with_depth(alloc, Exp::Update(vector.exp, at.exp, item.exp), depth)
 }
 
 /// `(inner as type)`.
@@ -228,19 +226,15 @@ pub fn cast_tree(alloc: Global, inner: Tree, type_exp: TyExp) -> Result<Tree, Al
     ensures { IfOk result (λ made. made.exp ≡ Cast inner.exp type_exp) }
 {
     let depth = one_deeper(inner.depth);
-    let exp = Exp::Cast(Box::new(alloc, inner.exp)?, type_exp);
-    Ok(Tree { exp, depth })
+    Tree::with_depth(alloc, Exp::Cast(inner.exp, type_exp), depth)
 }
 
 /// A vector of the items.
-pub fn vect_tree(items: Trees) -> Tree
-    ensures { result.exp ≡ Vect items.items }
+pub fn vect_tree(alloc: Global, items: Trees) -> Result<Tree, AllocError>
+    ensures { IfOk result (λ made. made.exp ≡ Vect items.items) }
 {
     let depth = one_deeper(items.depth);
-    Tree {
-        exp: Exp::Vect(items.items),
-        depth,
-    }
+    Tree::with_depth(alloc, Exp::Vect(items.items), depth)
 }
 
 /// One expression in parentheses, or a tuple.
@@ -249,7 +243,7 @@ pub fn parens_tree(alloc: Global, parts: Trees) -> Result<Tree, AllocError>
 {
     let depth = one_deeper(parts.depth);
     let exp = in_parens(alloc, parts.items)?;
-    Ok(Tree { exp, depth })
+    Tree::with_depth(alloc, exp, depth)
 }
 
 fn in_parens(alloc: Global, parts: List<Exp>) -> Result<Exp, AllocError>

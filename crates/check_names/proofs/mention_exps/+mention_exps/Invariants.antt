@@ -9,20 +9,23 @@ use Rattle.check_names.proofs.mention_exps.+mention_exps.Given as goal
 abbrev pub decreases-mention_exp : goal.decreases-mention_exp
 decreases-mention_exp l = 4 * size-Exp l.exp.now
 
+abbrev pub decreases-mention_part : goal.decreases-mention_part
+decreases-mention_part l = 4 * size-Exp l.part.now + 1
+
 abbrev pub decreases-mention_let : goal.decreases-mention_let
-decreases-mention_let l = 4 * max (size-Exp l.value.now) (size-Exp l.body.now) + 1
+decreases-mention_let l = 4 * max (size-Exp l.value.now) (size-Exp l.body.now) + 2
 
 abbrev pub decreases-mention_two : goal.decreases-mention_two
-decreases-mention_two l = 4 * max (size-Exp l.left.now) (size-Exp l.right.now) + 1
+decreases-mention_two l = 4 * max (size-Exp l.left.now) (size-Exp l.right.now) + 2
 
 abbrev pub decreases-mention_three : goal.decreases-mention_three
-decreases-mention_three l = 4 * max (size-Exp l.first.now) (max (size-Exp l.second.now) (size-Exp l.third.now)) + 1
+decreases-mention_three l = 4 * max (size-Exp l.first.now) (max (size-Exp l.second.now) (size-Exp l.third.now)) + 2
 
 abbrev pub decreases-mention_raise : goal.decreases-mention_raise
-decreases-mention_raise l = 4 * size-Exp l.value.now + 1
+decreases-mention_raise l = 4 * size-Exp l.value.now + 2
 
 abbrev pub decreases-mention_cast : goal.decreases-mention_cast
-decreases-mention_cast l = 4 * size-Exp l.inner.now + 1
+decreases-mention_cast l = 4 * size-Exp l.inner.now + 2
 
 abbrev pub decreases-mention_construction : goal.decreases-mention_construction
 decreases-mention_construction l = 4 * most size-Exp l.parts.now + 2

@@ -5,4 +5,4 @@ use Rattle.check_names.proofs.twice_exps.+twice_exps.Goals as goal
 
 pub exp_binds_twice-returns-in_ok-yes-in-Case : goal.exp_binds_twice-returns-in_ok-yes-in-Case
 exp_binds_twice-returns-in_ok-yes-in-Case t c =
-    (rw c.deref-in-Case.ensures at (rw c.as_slice.ensures at c.in_ok-yes-in-Case.ensures)) ∙ sym (case_twice c.in-Case.subject c.in-Case.alternatives) ∙ ap exp_binds_twice (sym c.in-Case.is)
+    c.in_ok-yes-in-Case.ensures ∙ sym (case_twice c.in-Case.subject c.in-Case.alternatives) ∙ ap exp_binds_twice (sym c.in-Case.is)

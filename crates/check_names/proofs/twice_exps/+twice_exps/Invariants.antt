@@ -9,11 +9,14 @@ use Rattle.check_names.proofs.twice_exps.+twice_exps.Given as goal
 abbrev pub decreases-exp_binds_twice : goal.decreases-exp_binds_twice
 decreases-exp_binds_twice l = 4 * size-Exp l.exp.now
 
+abbrev pub decreases-part_binds_twice : goal.decreases-part_binds_twice
+decreases-part_binds_twice l = 4 * size-Exp l.part.now + 1
+
 abbrev pub decreases-one_of_two : goal.decreases-one_of_two
-decreases-one_of_two l = 4 * max (size-Exp l.left.now) (size-Exp l.right.now) + 1
+decreases-one_of_two l = 4 * max (size-Exp l.left.now) (size-Exp l.right.now) + 2
 
 abbrev pub decreases-one_of_three : goal.decreases-one_of_three
-decreases-one_of_three l = 4 * max (size-Exp l.first.now) (max (size-Exp l.second.now) (size-Exp l.third.now)) + 1
+decreases-one_of_three l = 4 * max (size-Exp l.first.now) (max (size-Exp l.second.now) (size-Exp l.third.now)) + 2
 
 abbrev pub decreases-one_binds_twice : goal.decreases-one_binds_twice
 decreases-one_binds_twice l = 4 * most size-Exp l.exps.now + 1

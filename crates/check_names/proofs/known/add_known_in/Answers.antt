@@ -1,6 +1,6 @@
 use Rattle.check_names.specs.inner.KnownTables.{known_of}
 use Rattle.check_names.proofs.Steps.{known_more}
-use Rattle.check_names.proofs.known.known_names.Goals as goal
+use Rattle.check_names.proofs.known.add_known_in.Goals as goal
 
 pub loop-d-preserved : goal.loop-d-preserved
 loop-d-preserved c =
