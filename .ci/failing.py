@@ -3,7 +3,7 @@
 owed until then.
 
 usage: failing.py calls LIBRARY PROGRAM [whole]       each open, read and write fails, once or from then on
-       failing.py sessions LIBRARY CONSOLE            the same in sessions
+       failing.py sessions LIBRARY PROGRAM            the same in sessions
        failing.py memory LIBRARY PROGRAM FOLDER..     each growth of memory is refused, in the call of each folder with `words` as in examples/
        failing.py judge LIBRARY PROGRAM               outcomes that are wrong in one part, each of which has to be found
 

@@ -211,7 +211,7 @@ def session(name, commands, acts, status, workers, **files):
     """A session of ADD_ONE, whose ports are the inputs `i` and `j` and the outputs `o` and `q`."""
     files = {"p": ADD_ONE, "i": b"1\n2\n", "j": b"7\n", **files}
     text = "".join(f"{line}\n" for line in commands).encode()
-    return Case(name, f"{workers} p i j o q", files, [wants("p"), *TABLE, *acts], status, ["o", "q"], text, True)
+    return Case(name, f"console {workers} p i j o q", files, [wants("p"), *TABLE, *acts], status, ["o", "q"], text, True)
 
 
 def exchanged(workers):
@@ -258,6 +258,4 @@ def example(folder, workers):
     words = text("words").decode().split()
     if words[0] in WORKERS_AT:
         words[WORKERS_AT[words[0]]] = str(workers)
-    # the console is a program of its own
-    words = words[1:] if words[0] == "console" else words
     return Case(folder, " ".join(words), files, acts, int(text("expected", "status")), outputs, text("stdin"))

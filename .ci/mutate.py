@@ -18,7 +18,7 @@ sys.path.insert(0, str(TOP / "tools"))
 from lexing import KEYWORDS  # noqa: E402
 
 HUME = os.environ.get("HUME", str(TOP / "dist/hume-x86_64-linux"))
-LOOK = os.environ.get("LOOK", str(TOP / "dist/look-x86_64-linux"))
+LOOK = os.environ.get("LOOK", str(TOP / "dist/hume-x86_64-linux"))
 MOST_BYTES = 20_000
 PIECE = re.compile(r"--[^\n]*|\"[^\"\n]*\"|'(?:\\.|[^\\])'|[A-Za-z][A-Za-z0-9_]*|[0-9]+|[<>=/]=|<<|>>|->|::|_\*|\s+|.", re.S)
 NUMBERS = ("0", "1", "2", "7", "16", "17", "64", "65", "128", "255", "256", "1024", "1025", "65536", "2147483648", "18446744073709551616")

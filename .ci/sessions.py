@@ -6,7 +6,7 @@
 read yet, an output with a new file, whose bytes then follow those of the old one.
 `answers`: each answer is out before the next command is read, through a terminal and through two pipes.
 
-Prints a line for each difference; the status is 1 then. CONSOLE and HUME name other programs than those of dist/.
+Prints a line for each difference; the status is 1 then. HUME names another program than that of dist/.
 """
 import os
 import pty
@@ -20,7 +20,6 @@ import tempfile
 from pathlib import Path
 
 TOP = Path(__file__).resolve().parent.parent
-CONSOLE = os.environ.get("CONSOLE", str(TOP / "dist/console-x86_64-linux"))
 HUME = os.environ.get("HUME", str(TOP / "dist/hume-x86_64-linux"))
 STREAM = re.compile(r'^\s*stream\s+(\w+)\s+(from|to)\s+"([^"]*)"', re.MULTILINE)
 SPAN = 64
@@ -76,7 +75,7 @@ class Room:
     def session(self, commands, more=()):
         example = self.example
         text = "".join(line + "\n" for line in commands).encode()
-        return self.call(CONSOLE, [example.workers, example.source, *example.ports, *more], text)
+        return self.call(HUME, ["console", example.workers, example.source, *example.ports, *more], text)
 
     def text(self, name):
         path = self.path / name
@@ -206,8 +205,8 @@ def try_pipes():
     folder = folder_with_ports()
     for name in ("commands", "answers"):
         os.mkfifo(folder / name)
-    script = 'exec "$0" 2 p i j <commands >answers'
-    with subprocess.Popen(["sh", "-c", script, CONSOLE], cwd=folder) as process:
+    script = 'exec "$0" console 2 p i j <commands >answers'
+    with subprocess.Popen(["sh", "-c", script, HUME], cwd=folder) as process:
         give, take = os.open(folder / "commands", os.O_WRONLY), os.open(folder / "answers", os.O_RDONLY)
         yield from talk(give, take, "through two pipes")
         os.close(give)
@@ -221,7 +220,7 @@ def try_terminal():
     folder = folder_with_ports()
     ours, theirs = pty.openpty()
     subprocess.run(["stty", "-echo"], stdin=theirs, check=True)
-    with subprocess.Popen([CONSOLE, "2", "p", "i", "j"], cwd=folder, stdin=theirs, stdout=theirs) as process:
+    with subprocess.Popen([HUME, "console", "2", "p", "i", "j"], cwd=folder, stdin=theirs, stdout=theirs) as process:
         yield from talk(ours, ours, "on a terminal")
         if process.wait() != 0:
             yield "on a terminal: the session doesn't end well"

@@ -1,11 +1,9 @@
 #!/usr/bin/env bash
-# console.sh [CONSOLE [TOOL]]: times a superstep of a net of 200 boxes by sessions of CONSOLE (the program of dist/) with `step 64`, beside
-# runs of TOOL (the program of dist/), in turn, least of CALLS calls (7), the time of few supersteps taken off; then the most memory that
+# console.sh [TOOL]: times a superstep of a net of 200 boxes by sessions of TOOL (the program of dist/) with `step 64`, beside its runs, in turn, least of CALLS calls (7), the time of few supersteps taken off; then the most memory that
 # a session takes for 1,000 and for 1,000,000 commands `peaks` on a net of one box.
 set -eu
 here=$(dirname -- "$(readlink -f -- "${BASH_SOURCE[0]}")")
-console=$(readlink -f -- "${1:-$here/../dist/console-x86_64-linux}")
-tool=$(readlink -f -- "${2:-$here/../dist/hume-x86_64-linux}")
+tool=$(readlink -f -- "${1:-$here/../dist/hume-x86_64-linux}")
 calls=${CALLS:-7}
 few=128 many=1280
 room=$(mktemp -d)
@@ -32,7 +30,7 @@ commands $((many / 64)) 'step 64' >"steps$many"
 call() {
     case $1 in
     run) "$tool" run "$2" 1 p ;;
-    console) "$console" 1 p <"steps$2" ;;
+    console) "$tool" console 1 p <"steps$2" ;;
     esac >/dev/null
 }
 
@@ -51,10 +49,10 @@ least() {
 # memory COMMANDS: the most memory of a session of so many commands, in KiB
 memory() {
     commands "$1" peaks >many
-    python3 - "$console" <<'PY'
+    python3 - "$tool" <<'PY'
 import resource, subprocess, sys
 with open("many", "rb") as commands:
-    subprocess.run([sys.argv[1], "1", "q"], stdin=commands, stdout=subprocess.DEVNULL, check=True)
+    subprocess.run([sys.argv[1], "console", "1", "q"], stdin=commands, stdout=subprocess.DEVNULL, check=True)
 print(resource.getrusage(resource.RUSAGE_CHILDREN).ru_maxrss)
 PY
 }

@@ -1,5 +1,5 @@
 #!/usr/bin/env bash
-# How much memory the programs of dist/ take at most for each long source that bench/hostile.py makes: a table of MB by sources and words. It
+# How much memory the program of dist/ takes at most for each long source that bench/hostile.py makes: a table of MB by sources and words. It
 # needs GNU time.
 set -euo pipefail
 
@@ -11,9 +11,7 @@ python3 -B -- "$top/bench/hostile.py" "$room/sources"
 
 # megabytes_of WORD SOURCE: the most memory that the call has
 megabytes_of() {
-    local program=look
-    [[ $1 != check ]] || program=hume
-    /usr/bin/time -q -f %M -o "$room/kilobytes" "$top/dist/$program-x86_64-linux" "$@" </dev/null >/dev/null || true
+    /usr/bin/time -q -f %M -o "$room/kilobytes" "$top/dist/hume-x86_64-linux" "$@" </dev/null >/dev/null || true
     echo $((($(<"$room/kilobytes") + 1023) / 1024))
 }
 

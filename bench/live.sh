@@ -49,5 +49,5 @@ row() {
 
 printf '| between the FIFOs | us a superstep, middle | mean | 99 of 100 |\n|---|---|---|---|\n'
 row 'hume live' 2 0 "$here/../hume" live thermostat.hume
-row 'the session alone' 2 2 sh -c 'exec "$0" 1 standard.hume temperature <commands >heater' "$here/../dist/console-x86_64-linux"
+row 'the session alone' 2 2 sh -c 'exec "$0" console 1 standard.hume temperature <commands >heater' "$here/../dist/hume-x86_64-linux"
 row 'cat' 0 0 sh -c 'exec cat <temperature >heater'

@@ -1,4 +1,4 @@
-"""What the program `look` says of the text in an editor: errors by `why`, warnings by `hints`, and the bounds of a box."""
+"""What the program says of the text in an editor: errors by `why`, warnings by `hints`, and the bounds of a box."""
 import os
 import re
 import subprocess
@@ -14,7 +14,7 @@ CARET = re.compile(r"  *\^$")
 
 def look(word, text):
     """What the program prints of the bytes of a source; nothing where it takes too long."""
-    program = os.path.join(TOP, "dist", "look-x86_64-linux")
+    program = os.path.join(TOP, "dist", "hume-x86_64-linux")
     try:
         done = subprocess.run([program, word, "std_in"], input=text, stdout=subprocess.PIPE, stderr=subprocess.DEVNULL, timeout=SECONDS)
     except subprocess.TimeoutExpired:

@@ -69,12 +69,12 @@ def has_workers(example):
 
 
 def compare_with(example, workers):
-    """The call with so many workers writes the same bytes and ends alike. The words of a session aren't those of the built program."""
+    """The call with so many workers writes the same bytes and ends alike."""
     words, wanted = words_of(example), os.path.join(example, "expected")
     words[WORKERS_AT[words[0]]] = workers
     with Room(example) as room:
         files = room.files() | {it: read(wanted, it) for it in outputs(example)}
-        done = (room.call if words[0] == "console" else room.call_program)(words)
+        done = room.call_program(words)
         difference = (
             first_difference("status", read(wanted, "status").strip(), str(done.returncode).encode())
             or first_difference("standard output", read(wanted, "table") + read(wanted, "stdout"), done.stdout)

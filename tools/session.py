@@ -1,4 +1,4 @@
-"""A session of the proved program `console` (docs/CONSOLE.md): its words, its commands, which go to it ahead, and its answers."""
+"""A session of the proved program (docs/CONSOLE.md): its words, its commands, which go to it ahead, and its answers."""
 import errno
 import fcntl
 import os
