@@ -7,7 +7,7 @@ ghost use Rattle.c_arithmetic.specs.Bodies.{below_half, body, brought_back, divi
 ghost use Rattle.c_arithmetic.specs.Bodies.{signed_low, turned_low, unsigned_low, wrapping};
 
 use crate::functions::{Helper, Numbers, helper_name};
-use c_forms::{binary, cast, choice, define, equal, name, one_if, text};
+use c_forms::{binary, called, cast, choice, define, equal, name, one_if, signed, text, unsigned};
 use c_names::Names;
 use c_tree::{CExp, COp, CStm, CType, Width};
 use c_types::width_of;
@@ -27,7 +27,7 @@ pub(crate) fn body(
         Helper::To if numbers.signed => signed_body(alloc, numbers),
         Helper::To => returned(alloc, unsigned_low(alloc, numbers)?),
         Helper::Neg => {
-            let zero = CExp::Unsigned(numbers.work(), 0);
+            let zero = unsigned(alloc, numbers.work(), 0)?;
             let a = operand(alloc, b"a", numbers)?;
             brought_back(
                 alloc,
@@ -40,12 +40,12 @@ pub(crate) fn body(
         Helper::Sub => wrapping(alloc, names, numbers, COp::Subtract),
         Helper::Mul => wrapping(alloc, names, numbers, COp::Multiply),
         Helper::Div => {
-            let a = List::of_one(alloc, name(alloc, b"a")?)?;
+            let a = List::of_one(alloc, name(alloc, b"a")?.into_inner())?;
             let negative = helper_name(alloc, names, Helper::Neg, numbers)?;
-            divided(alloc, numbers, COp::Divide, CExp::Call(negative, a))
+            divided(alloc, numbers, COp::Divide, called(alloc, negative, a)?)
         }
         Helper::Mod => {
-            let zero = CExp::Signed(width_of(numbers.bits), false, 0);
+            let zero = signed(alloc, width_of(numbers.bits), false, 0)?;
             divided(alloc, numbers, COp::Remainder, zero)
         }
         Helper::Less => returned(alloc, of_both(alloc, COp::Less)?),
@@ -54,13 +54,13 @@ pub(crate) fn body(
     }
 }
 
-fn returned(alloc: Global, exp: CExp) -> Result<List<CStm>, AllocError>
+fn returned(alloc: Global, exp: Box<CExp>) -> Result<List<CStm>, AllocError>
     ensures { IfOk result (λ it. it ≡ returned exp) }
 {
     List::of_one(alloc, CStm::Return(Some(exp)))
 }
 
-fn of_both(alloc: Global, operator: COp) -> Result<CExp, AllocError>
+fn of_both(alloc: Global, operator: COp) -> Result<Box<CExp>, AllocError>
     ensures { IfOk result (λ it. it ≡ of_both operator) }
 {
     binary(alloc, operator, name(alloc, b"a")?, name(alloc, b"b")?)
@@ -89,7 +89,7 @@ fn bits_of(width: Width) -> u8
 }
 
 // `u`, but for the bits above those of the numbers.
-fn low_bits(alloc: Global, numbers: Numbers) -> Result<CExp, AllocError>
+fn low_bits(alloc: Global, numbers: Numbers) -> Result<Box<CExp>, AllocError>
     requires { (1 ≤ numbers.bits) × (numbers.bits ≤ 64) }
     ensures { IfOk result (λ it. it ≡ low_bits numbers) }
 {
@@ -97,11 +97,11 @@ fn low_bits(alloc: Global, numbers: Numbers) -> Result<CExp, AllocError>
     if bits_of(numbers.work()) == numbers.bits {
         return Ok(u);
     }
-    let mask = CExp::Unsigned(numbers.work(), greatest(numbers.bits));
+    let mask = unsigned(alloc, numbers.work(), greatest(numbers.bits))?;
     binary(alloc, COp::BitAnd, u, mask)
 }
 
-fn unsigned_low(alloc: Global, numbers: Numbers) -> Result<CExp, AllocError>
+fn unsigned_low(alloc: Global, numbers: Numbers) -> Result<Box<CExp>, AllocError>
     requires { (1 ≤ numbers.bits) × (numbers.bits ≤ 64) }
     ensures { IfOk result (λ it. it ≡ unsigned_low numbers) }
 {
@@ -123,7 +123,7 @@ fn signed_body(alloc: Global, numbers: Numbers) -> Result<List<CStm>, AllocError
 }
 
 // The number that the low bits stand for in two's complement.
-fn signed_low(alloc: Global, numbers: Numbers) -> Result<CExp, AllocError>
+fn signed_low(alloc: Global, numbers: Numbers) -> Result<Box<CExp>, AllocError>
     requires { (1 ≤ numbers.bits) × (numbers.bits ≤ 64) }
     ensures { IfOk result (λ it. it ≡ signed_low numbers) }
 {
@@ -134,11 +134,11 @@ fn signed_low(alloc: Global, numbers: Numbers) -> Result<CExp, AllocError>
     choice(alloc, numbers.c_type(), inner, below, low, negative)
 }
 
-fn below_half(alloc: Global, numbers: Numbers) -> Result<CExp, AllocError>
+fn below_half(alloc: Global, numbers: Numbers) -> Result<Box<CExp>, AllocError>
     requires { (1 ≤ numbers.bits) × (numbers.bits ≤ 64) }
     ensures { IfOk result (λ it. it ≡ below_half numbers) }
 {
-    let half = CExp::Unsigned(numbers.work(), half(numbers.bits));
+    let half = unsigned(alloc, numbers.work(), half(numbers.bits))?;
     binary(alloc, COp::Less, name(alloc, b"low")?, half)
 }
 
@@ -151,31 +151,27 @@ fn half(bits: u8) -> u64
 }
 
 // Where the highest bit is set, the number is -1 less the other bits turned.
-fn negative_low(alloc: Global, numbers: Numbers) -> Result<CExp, AllocError>
+fn negative_low(alloc: Global, numbers: Numbers) -> Result<Box<CExp>, AllocError>
     requires { (1 ≤ numbers.bits) × (numbers.bits ≤ 64) }
     ensures { IfOk result (λ it. it ≡ negative_low numbers) }
 {
     let turned = turned_low(alloc, numbers)?;
     let turned = cast(alloc, CType::Signed(numbers.work()), turned)?;
-    let negative = CExp::Negate(Box::new(alloc, turned)?);
-    binary(
-        alloc,
-        COp::Subtract,
-        negative,
-        CExp::Signed(numbers.work(), false, 1),
-    )
+    let negative = Box::new(alloc, CExp::Negate(turned))?;
+    let one = signed(alloc, numbers.work(), false, 1)?;
+    binary(alloc, COp::Subtract, negative, one)
 }
 
-fn turned_low(alloc: Global, numbers: Numbers) -> Result<CExp, AllocError>
+fn turned_low(alloc: Global, numbers: Numbers) -> Result<Box<CExp>, AllocError>
     requires { numbers.bits ≤ 64 }
     ensures { IfOk result (λ it. it ≡ turned_low numbers) }
 {
-    let mask = CExp::Unsigned(numbers.work(), greatest(numbers.bits));
+    let mask = unsigned(alloc, numbers.work(), greatest(numbers.bits))?;
     binary(alloc, COp::Subtract, mask, name(alloc, b"low")?)
 }
 
 // A parameter without its sign, in the width of the work.
-fn operand(alloc: Global, parameter: &[u8], numbers: Numbers) -> Result<CExp, AllocError>
+fn operand(alloc: Global, parameter: &[u8], numbers: Numbers) -> Result<Box<CExp>, AllocError>
     ensures { IfOk result (λ it. it ≡ operand numbers parameter.now) }
 {
     cast(
@@ -189,12 +185,13 @@ fn brought_back(
     alloc: Global,
     names: &Names,
     numbers: Numbers,
-    exp: CExp,
+    exp: Box<CExp>,
 ) -> Result<List<CStm>, AllocError>
     ensures { IfOk result (λ it. it ≡ brought_back names.now numbers exp) }
 {
     let to = helper_name(alloc, names, Helper::To, numbers)?;
-    returned(alloc, CExp::Call(to, List::of_one(alloc, exp)?))
+    let exp = List::of_one(alloc, exp.into_inner())?;
+    returned(alloc, called(alloc, to, exp)?)
 }
 
 fn wrapping(
@@ -215,11 +212,11 @@ fn divided(
     alloc: Global,
     numbers: Numbers,
     operator: COp,
-    by_minus_one: CExp,
+    by_minus_one: Box<CExp>,
 ) -> Result<List<CStm>, AllocError>
     ensures { IfOk result (λ it. it ≡ divided numbers operator by_minus_one) }
 {
-    let minus_one = CExp::Signed(width_of(numbers.bits), true, 1);
+    let minus_one = signed(alloc, width_of(numbers.bits), true, 1)?;
     let test = equal(alloc, name(alloc, b"b")?, minus_one)?;
     let special = one_if(alloc, test, returned(alloc, by_minus_one)?);
     let mut statements = List::of_one(alloc, special)?;

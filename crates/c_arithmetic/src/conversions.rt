@@ -5,11 +5,11 @@ ghost use Rattle.c_arithmetic.specs.Widths.{is_within, numbers_of};
 ghost use Rattle.c_arithmetic.specs.Operations.{conversion, converted, same_c_type, same_sign};
 
 use crate::functions::{Helper, Numbers, helper_name};
-use c_forms::cast;
+use c_forms::{called, cast};
 use c_names::Names;
 use c_tree::{CExp, CType, Width};
 use c_types::width_of;
-use hume_base::{List, Ty};
+use hume_base::{Box, List, Ty};
 use std::alloc::{AllocError, Global};
 
 /// A number of the first type as one of the second.
@@ -18,8 +18,8 @@ pub fn conversion(
     names: &Names,
     from: &Ty,
     to: &Ty,
-    part: CExp,
-) -> Result<CExp, AllocError>
+    part: Box<CExp>,
+) -> Result<Box<CExp>, AllocError>
     ensures { IfOk result (λ it. it ≡ conversion names.now from.now to.now part) }
 {
     match (numbers_of(from), numbers_of(to)) {
@@ -33,8 +33,8 @@ fn converted(
     names: &Names,
     from: Numbers,
     to: Numbers,
-    part: CExp,
-) -> Result<CExp, AllocError>
+    part: Box<CExp>,
+) -> Result<Box<CExp>, AllocError>
     ensures { IfOk result (λ it. it ≡ converted names.now from to part) }
 {
     if is_within(from, to) {
@@ -45,7 +45,7 @@ fn converted(
     }
     let plain = cast(alloc, CType::Unsigned(to.work()), part)?;
     let name = helper_name(alloc, names, Helper::To, to)?;
-    Ok(CExp::Call(name, List::of_one(alloc, plain)?))
+    called(alloc, name, List::of_one(alloc, plain.into_inner())?)
 }
 
 pub(crate) fn numbers_of(ty: &Ty) -> Option<Numbers>

@@ -8,10 +8,10 @@ ghost use Rattle.c_arithmetic.specs.Operations.{operation_of, operation_of_one, 
 
 use crate::conversions::numbers_of;
 use crate::functions::{Helper, helper_name};
-use c_forms::{binary, cast, is_same, not};
+use c_forms::{binary, called, cast, is_same, not, truth};
 use c_names::Names;
 use c_tree::{CExp, COp, Width};
-use hume_base::{List, Ty};
+use hume_base::{Box, List, Ty};
 use hume_model::Op;
 use std::alloc::{AllocError, Global};
 
@@ -21,8 +21,8 @@ pub fn operation(
     names: &Names,
     op: Op,
     of: &Ty,
-    operands: (CExp, Option<CExp>),
-) -> Result<CExp, AllocError>
+    operands: (Box<CExp>, Option<Box<CExp>>),
+) -> Result<Box<CExp>, AllocError>
     ensures { IfOk result (λ it. it ≡ operation_of names.now op of.now operands.0 operands.1) }
 {
     match operands {
@@ -31,7 +31,13 @@ pub fn operation(
     }
 }
 
-fn on_one(alloc: Global, names: &Names, op: Op, of: &Ty, part: CExp) -> Result<CExp, AllocError>
+fn on_one(
+    alloc: Global,
+    names: &Names,
+    op: Op,
+    of: &Ty,
+    part: Box<CExp>,
+) -> Result<Box<CExp>, AllocError>
     ensures { IfOk result (λ it. it ≡ operation_of_one names.now op of.now part) }
 {
     match op {
@@ -46,9 +52,9 @@ fn on_two(
     names: &Names,
     op: Op,
     of: &Ty,
-    left: CExp,
-    right: CExp,
-) -> Result<CExp, AllocError>
+    left: Box<CExp>,
+    right: Box<CExp>,
+) -> Result<Box<CExp>, AllocError>
     ensures { IfOk result (λ it. it ≡ operation_of_two names.now op of.now left right) }
 {
     match op {
@@ -73,10 +79,10 @@ pub fn quotient(
     names: &Names,
     op: Op,
     of: &Ty,
-    left: CExp,
-    right: CExp,
+    left: Box<CExp>,
+    right: Box<CExp>,
     literal: Option<u64>,
-) -> Result<CExp, AllocError>
+) -> Result<Box<CExp>, AllocError>
     ensures { IfOk result (λ it. it ≡ quotient names.now op of.now left right literal) }
 {
     match numbers_of(of) {
@@ -127,19 +133,19 @@ fn helped(
     names: &Names,
     which: Helper,
     of: &Ty,
-    left: CExp,
-    right: Option<CExp>,
-) -> Result<CExp, AllocError>
+    left: Box<CExp>,
+    right: Option<Box<CExp>>,
+) -> Result<Box<CExp>, AllocError>
     ensures { IfOk result (λ it. it ≡ helped names.now which of.now left right) }
 {
     let Some(numbers) = numbers_of(of) else {
         return Ok(left);
     };
-    let mut arguments = List::of_one(alloc, left)?;
+    let mut arguments = List::of_one(alloc, left.into_inner())?;
     if let Some(right) = right {
-        arguments.push(right)?;
+        arguments.push(right.into_inner())?;
     }
-    Ok(CExp::Call(helper_name(alloc, names, which, numbers)?, arguments))
+    called(alloc, helper_name(alloc, names, which, numbers)?, arguments)
 }
 
 // Whether two operands are the same. A function compares where compilers warn of the comparison.
@@ -147,9 +153,9 @@ fn equality(
     alloc: Global,
     names: &Names,
     of: &Ty,
-    left: CExp,
-    right: CExp,
-) -> Result<CExp, AllocError>
+    left: Box<CExp>,
+    right: Box<CExp>,
+) -> Result<Box<CExp>, AllocError>
     ensures { IfOk result (λ it. it ≡ equality names.now of.now left right) }
 {
     if !is_foregone(of, &left, &right) {
@@ -157,7 +163,7 @@ fn equality(
     }
     match numbers_of(of) {
         Some(_) => helped(alloc, names, Helper::Equal, of, left, Some(right)),
-        None => Ok(CExp::Truth(true)),
+        None => truth(alloc, true),
     }
 }
 
@@ -165,9 +171,9 @@ fn inequality(
     alloc: Global,
     names: &Names,
     of: &Ty,
-    left: CExp,
-    right: CExp,
-) -> Result<CExp, AllocError>
+    left: Box<CExp>,
+    right: Box<CExp>,
+) -> Result<Box<CExp>, AllocError>
     ensures { IfOk result (λ it. it ≡ inequality names.now of.now left right) }
 {
     if is_foregone(of, &left, &right) {
@@ -232,9 +238,9 @@ fn compared(
     names: &Names,
     of: &Ty,
     operator: COp,
-    left: CExp,
-    right: CExp,
-) -> Result<CExp, AllocError>
+    left: Box<CExp>,
+    right: Box<CExp>,
+) -> Result<Box<CExp>, AllocError>
     ensures { IfOk result (λ it. it ≡ compared names.now of.now operator left right) }
 {
     if is_plain(of, &left, &right) {

@@ -19,7 +19,7 @@ pub fn copy_type(ty: &CType) -> Result<CType, AllocError>
 }
 
 #[cycle(copy_exp)]
-pub fn copy_exp(alloc: Global, exp: &CExp) -> Result<CExp, AllocError>
+fn copy_form(alloc: Global, exp: &CExp) -> Result<CExp, AllocError>
     ensures { IfOk result (λ copy. copy ≡ exp.now) }
 {
     match exp {
@@ -32,9 +32,9 @@ pub fn copy_exp(alloc: Global, exp: &CExp) -> Result<CExp, AllocError>
         CExp::Element(array, index) => copy_element(alloc, array, index),
         CExp::Call(name, arguments) => copy_call(alloc, name, arguments.as_slice()),
         CExp::Cast(ty, part) => copy_cast(alloc, ty, part),
-        CExp::Negate(part) => Ok(CExp::Negate(copy_part(alloc, part)?)),
-        CExp::Not(part) => Ok(CExp::Not(copy_part(alloc, part)?)),
-        CExp::Address(part) => Ok(CExp::Address(copy_part(alloc, part)?)),
+        CExp::Negate(part) => Ok(CExp::Negate(copy_exp(alloc, part)?)),
+        CExp::Not(part) => Ok(CExp::Not(copy_exp(alloc, part)?)),
+        CExp::Address(part) => Ok(CExp::Address(copy_exp(alloc, part)?)),
         CExp::Binary(operator, left, right) => copy_binary(alloc, *operator, left, right),
         CExp::All(parts) => Ok(CExp::All(copy_parts(alloc, parts.as_slice())?)),
         CExp::Any(parts) => Ok(CExp::Any(copy_parts(alloc, parts.as_slice())?)),
@@ -46,7 +46,7 @@ pub fn copy_exp(alloc: Global, exp: &CExp) -> Result<CExp, AllocError>
 fn copy_member(alloc: Global, object: &Box<CExp>, name: &Text) -> Result<CExp, AllocError>
     ensures { IfOk result (λ copy. copy ≡ exp.Member object.now name.now) }
 {
-    let object = copy_part(alloc, object)?;
+    let object = copy_exp(alloc, object)?;
     Ok(CExp::Member(object, name.copy()?))
 }
 
@@ -54,8 +54,8 @@ fn copy_member(alloc: Global, object: &Box<CExp>, name: &Text) -> Result<CExp, A
 fn copy_element(alloc: Global, array: &Box<CExp>, index: &Box<CExp>) -> Result<CExp, AllocError>
     ensures { IfOk result (λ copy. copy ≡ exp.Element array.now index.now) }
 {
-    let array = copy_part(alloc, array)?;
-    Ok(CExp::Element(array, copy_part(alloc, index)?))
+    let array = copy_exp(alloc, array)?;
+    Ok(CExp::Element(array, copy_exp(alloc, index)?))
 }
 
 #[cycle(copy_exp)]
@@ -70,7 +70,7 @@ fn copy_call(alloc: Global, name: &Text, arguments: &[CExp]) -> Result<CExp, All
 fn copy_cast(alloc: Global, ty: &CType, part: &Box<CExp>) -> Result<CExp, AllocError>
     ensures { IfOk result (λ copy. copy ≡ exp.Cast ty.now part.now) }
 {
-    let part = copy_part(alloc, part)?;
+    let part = copy_exp(alloc, part)?;
     Ok(CExp::Cast(copy_type(ty)?, part))
 }
 
@@ -83,8 +83,8 @@ fn copy_binary(
 ) -> Result<CExp, AllocError>
     ensures { IfOk result (λ copy. copy ≡ exp.Binary operator left.now right.now) }
 {
-    let left = copy_part(alloc, left)?;
-    Ok(CExp::Binary(operator, left, copy_part(alloc, right)?))
+    let left = copy_exp(alloc, left)?;
+    Ok(CExp::Binary(operator, left, copy_exp(alloc, right)?))
 }
 
 #[cycle(copy_exp)]
@@ -96,16 +96,16 @@ fn copy_choice(
 ) -> Result<CExp, AllocError>
     ensures { IfOk result (λ copy. copy ≡ exp.Choice test.now first.now second.now) }
 {
-    let test = copy_part(alloc, test)?;
-    let first = copy_part(alloc, first)?;
-    Ok(CExp::Choice(test, first, copy_part(alloc, second)?))
+    let test = copy_exp(alloc, test)?;
+    let first = copy_exp(alloc, first)?;
+    Ok(CExp::Choice(test, first, copy_exp(alloc, second)?))
 }
 
 #[cycle(copy_exp)]
-fn copy_part(alloc: Global, part: &Box<CExp>) -> Result<Box<CExp>, AllocError>
-    ensures { IfOk result (λ copy. copy ≡ part.now) }
+pub fn copy_exp(alloc: Global, exp: &CExp) -> Result<Box<CExp>, AllocError>
+    ensures { IfOk result (λ copy. copy ≡ exp.now) }
 {
-    Box::new(alloc, copy_exp(alloc, part.get())?)
+    Box::new(alloc, copy_form(alloc, exp)?)
 }
 
 #[cycle(copy_exp)]
@@ -114,7 +114,7 @@ fn copy_parts(alloc: Global, parts: &[CExp]) -> Result<List<CExp>, AllocError>
 {
     let mut copies = List::new(alloc);
     for part in parts {
-        copies.push(copy_exp(alloc, part)?)?;
+        copies.push(copy_form(alloc, part)?)?;
     }
     Ok(copies)
 }

@@ -9,67 +9,97 @@ use c_tree::{CExp, COp, CType, Width};
 use hume_base::{Box, List, Text};
 use std::alloc::{AllocError, Global};
 
-pub fn name(alloc: Global, bytes: &[u8]) -> Result<CExp, AllocError>
+pub fn name(alloc: Global, bytes: &[u8]) -> Result<Box<CExp>, AllocError>
     ensures { IfOk result (λ e. e ≡ exp.Name bytes.now) }
 {
-    Ok(CExp::Name(Text::from_bytes(alloc, bytes)?))
+    Box::new(alloc, CExp::Name(Text::from_bytes(alloc, bytes)?))
+}
+
+pub fn truth(alloc: Global, holds: bool) -> Result<Box<CExp>, AllocError>
+    ensures { IfOk result (λ e. e ≡ exp.Truth holds) }
+{
+    Box::new(alloc, CExp::Truth(holds))
+}
+
+pub fn unsigned(alloc: Global, width: Width, amount: u64) -> Result<Box<CExp>, AllocError>
+    ensures { IfOk result (λ e. e ≡ exp.Unsigned width amount) }
+{
+    Box::new(alloc, CExp::Unsigned(width, amount))
+}
+
+/// A number of a signed type: whether it is negative, and its amount.
+pub fn signed(
+    alloc: Global,
+    width: Width,
+    negative: bool,
+    amount: u64,
+) -> Result<Box<CExp>, AllocError>
+    ensures { IfOk result (λ e. e ≡ exp.Signed width negative amount) }
+{
+    Box::new(alloc, CExp::Signed(width, negative, amount))
 }
 
 /// A number of at most 8 bits.
-pub fn number(amount: u64) -> CExp
-    ensures { result ≡ exp.Unsigned W8 amount }
+pub fn number(alloc: Global, amount: u64) -> Result<Box<CExp>, AllocError>
+    ensures { IfOk result (λ e. e ≡ exp.Unsigned W8 amount) }
 {
-    CExp::Unsigned(Width::W8, amount)
+    unsigned(alloc, Width::W8, amount)
 }
 
-pub fn member(alloc: Global, object: CExp, name: &[u8]) -> Result<CExp, AllocError>
+pub fn member(alloc: Global, object: Box<CExp>, name: &[u8]) -> Result<Box<CExp>, AllocError>
     ensures { IfOk result (λ e. e ≡ exp.Member object name.now) }
 {
-    Ok(CExp::Member(Box::new(alloc, object)?, Text::from_bytes(alloc, name)?))
+    let name = Text::from_bytes(alloc, name)?;
+    Box::new(alloc, CExp::Member(object, name))
 }
 
-pub fn element(alloc: Global, array: CExp, index: CExp) -> Result<CExp, AllocError>
+pub fn element(alloc: Global, array: Box<CExp>, index: Box<CExp>) -> Result<Box<CExp>, AllocError>
     ensures { IfOk result (λ e. e ≡ exp.Element array index) }
 {
-    Ok(CExp::Element(Box::new(alloc, array)?, Box::new(alloc, index)?))
+    Box::new(alloc, CExp::Element(array, index))
 }
 
-pub fn cast(alloc: Global, ty: CType, part: CExp) -> Result<CExp, AllocError>
+pub fn cast(alloc: Global, ty: CType, part: Box<CExp>) -> Result<Box<CExp>, AllocError>
     ensures { IfOk result (λ e. e ≡ exp.Cast ty part) }
 {
-    Ok(CExp::Cast(ty, Box::new(alloc, part)?))
+    Box::new(alloc, CExp::Cast(ty, part))
 }
 
-pub fn not(alloc: Global, part: CExp) -> Result<CExp, AllocError>
+pub fn not(alloc: Global, part: Box<CExp>) -> Result<Box<CExp>, AllocError>
     ensures { IfOk result (λ e. e ≡ exp.Not part) }
 {
-    Ok(CExp::Not(Box::new(alloc, part)?))
+    Box::new(alloc, CExp::Not(part))
 }
 
-pub fn address(alloc: Global, part: CExp) -> Result<CExp, AllocError>
+pub fn address(alloc: Global, part: Box<CExp>) -> Result<Box<CExp>, AllocError>
     ensures { IfOk result (λ e. e ≡ exp.Address part) }
 {
-    Ok(CExp::Address(Box::new(alloc, part)?))
+    Box::new(alloc, CExp::Address(part))
 }
 
 /// How an object is passed to a parameter that is read through a pointer: what a pointer points to by that pointer.
 #[tactic(auto, using(crate::proofs::OpenedForms::opened_forms))]
-pub fn read_of(alloc: Global, place: CExp) -> Result<CExp, AllocError>
+pub fn read_of(alloc: Global, place: Box<CExp>) -> Result<Box<CExp>, AllocError>
     ensures { IfOk result (λ e. e ≡ read_of place) }
 {
-    match place {
-        CExp::Pointed(name) => Ok(CExp::Name(name)),
-        place => address(alloc, place),
+    match place.get() {
+        CExp::Pointed(pointer) => name(alloc, pointer.bytes()),
+        _ => address(alloc, place),
     }
 }
 
-pub fn binary(alloc: Global, operator: COp, left: CExp, right: CExp) -> Result<CExp, AllocError>
+pub fn binary(
+    alloc: Global,
+    operator: COp,
+    left: Box<CExp>,
+    right: Box<CExp>,
+) -> Result<Box<CExp>, AllocError>
     ensures { IfOk result (λ e. e ≡ exp.Binary operator left right) }
 {
-    Ok(CExp::Binary(operator, Box::new(alloc, left)?, Box::new(alloc, right)?))
+    Box::new(alloc, CExp::Binary(operator, left, right))
 }
 
-pub fn equal(alloc: Global, left: CExp, right: CExp) -> Result<CExp, AllocError>
+pub fn equal(alloc: Global, left: Box<CExp>, right: Box<CExp>) -> Result<Box<CExp>, AllocError>
     ensures { IfOk result (λ e. e ≡ exp.Binary op.Equal left right) }
 {
     binary(alloc, COp::Equal, left, right)
@@ -80,24 +110,28 @@ pub fn choice(
     alloc: Global,
     ty: CType,
     inner: (CType, CType),
-    test: CExp,
-    first: CExp,
-    second: CExp,
-) -> Result<CExp, AllocError>
+    test: Box<CExp>,
+    first: Box<CExp>,
+    second: Box<CExp>,
+) -> Result<Box<CExp>, AllocError>
     ensures { IfOk result (λ e. e ≡ choice ty inner test first second) }
 {
     let (first_ty, second_ty) = inner;
-    let first = Box::new(alloc, cast(alloc, first_ty, first)?)?;
-    let second = Box::new(alloc, cast(alloc, second_ty, second)?)?;
-    cast(
-        alloc,
-        ty,
-        CExp::Choice(Box::new(alloc, test)?, first, second),
-    )
+    let first = cast(alloc, first_ty, first)?;
+    let second = cast(alloc, second_ty, second)?;
+    let chosen = Box::new(alloc, CExp::Choice(test, first, second))?;
+    cast(alloc, ty, chosen)
 }
 
-pub fn call(alloc: Global, name: &[u8], arguments: List<CExp>) -> Result<CExp, AllocError>
+pub fn call(alloc: Global, name: &[u8], arguments: List<CExp>) -> Result<Box<CExp>, AllocError>
     ensures { IfOk result (λ e. e ≡ exp.Call name.now arguments) }
 {
-    Ok(CExp::Call(Text::from_bytes(alloc, name)?, arguments))
+    called(alloc, Text::from_bytes(alloc, name)?, arguments)
+}
+
+/// A call of the function of that name.
+pub fn called(alloc: Global, name: Text, arguments: List<CExp>) -> Result<Box<CExp>, AllocError>
+    ensures { IfOk result (λ e. e ≡ exp.Call name arguments) }
+{
+    Box::new(alloc, CExp::Call(name, arguments))
 }

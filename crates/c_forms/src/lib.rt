@@ -17,7 +17,8 @@ mod texts;
 
 pub use copies::{copy_exp, copy_type, is_lasting};
 pub use expressions::{
-    address, binary, call, cast, choice, element, equal, member, name, not, number, read_of,
+    address, binary, call, called, cast, choice, element, equal, member, name, not, number,
+    read_of, signed, truth, unsigned,
 };
 pub use mentioned::{exp_mentions, is_same, mentions};
 pub use statements::{assign, comment, declare, define, increment, one_if, set, tested};

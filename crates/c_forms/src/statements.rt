@@ -7,7 +7,7 @@ ghost use Rattle.c_forms.specs.Statements.{one_if, tested, tested_last, variable
 
 use crate::texts::text;
 use c_tree::{CExp, CStm, CType, CVariable};
-use hume_base::{List, Text};
+use hume_base::{Box, List, Text};
 use std::alloc::{AllocError, Global};
 
 pub fn comment(alloc: Global, bytes: &[u8]) -> Result<CStm, AllocError>
@@ -16,7 +16,7 @@ pub fn comment(alloc: Global, bytes: &[u8]) -> Result<CStm, AllocError>
     Ok(CStm::Comment(text(alloc, bytes)?))
 }
 
-pub fn assign(object: CExp, value: CExp) -> CStm
+pub fn assign(object: Box<CExp>, value: Box<CExp>) -> CStm
     ensures { result ≡ stm.Assign object value }
 {
     CStm::Assign(object, value)
@@ -34,7 +34,7 @@ pub fn declare(ty: CType, name: Text) -> CStm
 }
 
 /// A variable that keeps its value.
-pub fn define(ty: CType, name: Text, value: CExp) -> CStm
+pub fn define(ty: CType, name: Text, value: Box<CExp>) -> CStm
     ensures { result ≡ stm.Define (variable true ty name) value }
 {
     let variable = CVariable {
@@ -45,19 +45,19 @@ pub fn define(ty: CType, name: Text, value: CExp) -> CStm
     CStm::Define(variable, value)
 }
 
-pub fn set(object: CExp, holds: bool) -> CStm
-    ensures { result ≡ stm.Assign object (exp.Truth holds) }
+pub fn set(alloc: Global, object: Box<CExp>, holds: bool) -> Result<CStm, AllocError>
+    ensures { IfOk result (λ s. s ≡ stm.Assign object (exp.Truth holds)) }
 {
-    CStm::Assign(object, CExp::Truth(holds))
+    Ok(CStm::Assign(object, Box::new(alloc, CExp::Truth(holds))?))
 }
 
-pub fn increment(object: CExp) -> CStm
+pub fn increment(object: Box<CExp>) -> CStm
     ensures { result ≡ stm.Increment object }
 {
     CStm::Increment(object)
 }
 
-pub fn one_if(alloc: Global, test: CExp, body: List<CStm>) -> CStm
+pub fn one_if(alloc: Global, test: Box<CExp>, body: List<CStm>) -> CStm
     ensures { result ≡ one_if test body }
 {
     CStm::If(test, body, List::new(alloc), List::new(alloc))
@@ -66,7 +66,7 @@ pub fn one_if(alloc: Global, test: CExp, body: List<CStm>) -> CStm
 /// A choice between statements. Where the second ones are a choice alone, its tests follow this one's.
 pub fn tested(
     alloc: Global,
-    test: CExp,
+    test: Box<CExp>,
     body: List<CStm>,
     otherwise: List<CStm>,
 ) -> Result<CStm, AllocError>
@@ -83,12 +83,17 @@ pub fn tested(
 }
 
 #[tactic(auto, using(crate::proofs::OpenedForms::opened_statements))]
-fn tested_last(alloc: Global, test: CExp, body: List<CStm>, last: CStm) -> Result<CStm, AllocError>
+fn tested_last(
+    alloc: Global,
+    test: Box<CExp>,
+    body: List<CStm>,
+    last: CStm,
+) -> Result<CStm, AllocError>
     ensures { IfOk result (λ s. s ≡ tested_last test body last (out-CStm last)) }
 {
     match last {
         CStm::If(next, inner, others, otherwise) => {
-            let arms = followed(alloc, (next, inner), others)?;
+            let arms = followed(alloc, (next.into_inner(), inner), others)?;
             Ok(CStm::If(test, body, arms, otherwise))
         }
         last => {

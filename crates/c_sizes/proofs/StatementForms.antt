@@ -72,23 +72,23 @@ pub frame_of_return : (types : Types) (functions : Functions) (value : Option CE
     → statement_frame types functions (stm.Return value) ≡ return_of functions value
 frame_of_return types functions value = frame_form types functions _ (CStm-F.Return value) (stm.rolls-Return value)
 
--- the same of lists that are those of the statement
+-- the same of an expression and of lists that are those of the statement
 pub if_of_parts : (types : Types) (functions : Functions) (test : CExp) (body : List CStm) (others : List (CExp × List CStm)) (otherwise : List CStm)
-    (b : List CStm) (o : List (CExp × List CStm)) (w : List CStm) → b ≡ body → o ≡ others → w ≡ otherwise
-    → also (arm_of functions (test, map (statement_frame types functions) b))
+    (e : CExp) (b : List CStm) (o : List (CExp × List CStm)) (w : List CStm) → e ≡ test → b ≡ body → o ≡ others → w ≡ otherwise
+    → also (arm_of functions (e, map (statement_frame types functions) b))
     (arms_of functions (map (framed_arm types functions) o) (map (statement_frame types functions) w))
     ≡ statement_frame types functions (stm.If test body others otherwise)
-if_of_parts types functions test body others otherwise b o w p q r =
-    (λ i. also (arm_of functions (test, map (statement_frame types functions) (p i)))
+if_of_parts types functions test body others otherwise e b o w is p q r =
+    (λ i. also (arm_of functions (is i, map (statement_frame types functions) (p i)))
     (arms_of functions (map (framed_arm types functions) (q i)) (map (statement_frame types functions) (r i))))
     ∙ sym (frame_of_if types functions test body others otherwise)
 
 pub switch_of_parts : (types : Types) (functions : Functions) (subject : CExp) (cases : List (CExp × List CStm)) (otherwise : List CStm)
-    (o : List (CExp × List CStm)) (w : List CStm) → o ≡ cases → w ≡ otherwise
-    → also (value_of functions subject) (arms_of functions (map (framed_arm types functions) o) (map (statement_frame types functions) w))
+    (e : CExp) (o : List (CExp × List CStm)) (w : List CStm) → e ≡ subject → o ≡ cases → w ≡ otherwise
+    → also (value_of functions e) (arms_of functions (map (framed_arm types functions) o) (map (statement_frame types functions) w))
     ≡ statement_frame types functions (stm.Switch subject cases otherwise)
-switch_of_parts types functions subject cases otherwise o w q r =
-    (λ i. also (value_of functions subject)
+switch_of_parts types functions subject cases otherwise e o w is q r =
+    (λ i. also (value_of functions (is i))
     (arms_of functions (map (framed_arm types functions) (q i)) (map (statement_frame types functions) (r i))))
     ∙ sym (frame_of_switch types functions subject cases otherwise)
 

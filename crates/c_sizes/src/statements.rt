@@ -9,7 +9,7 @@ use crate::expressions::{call_of, value_of};
 use crate::frame::{Frame, Functions};
 use crate::layout::{Types, type_layout};
 use c_tree::{CCount, CExp, CFunction, CParameter, CStm, CType, Passing};
-use hume_base::List;
+use hume_base::{Box, List};
 
 #[cycle(statement_frame)]
 #[tactic(auto, using(crate::proofs::StatementForms::frame_forms))]
@@ -145,7 +145,7 @@ fn assign_frame(functions: &Functions, object: &CExp, value: &CExp) -> Frame
     value_of(functions, object).also(value_of(functions, value))
 }
 
-fn return_frame(functions: &Functions, value: &Option<CExp>) -> Frame
+fn return_frame(functions: &Functions, value: &Option<Box<CExp>>) -> Frame
     ensures { result ≡ return_of functions.now value.now }
 {
     match value {

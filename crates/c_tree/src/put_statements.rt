@@ -13,7 +13,7 @@ use crate::put_expressions::{put_call, put_expression, put_operand};
 use crate::put_words::{deeper, put_comment, put_type};
 use crate::rank::PREFIX;
 use crate::tree::{CCount, CExp, CStm, CVariable};
-use hume_base::List;
+use hume_base::{Box, List};
 use std::alloc::AllocError;
 
 // The ends of the first lines of blocks, and the last line of a block.
@@ -399,7 +399,11 @@ fn put_call_line(
 }
 
 #[tactic(auto, using(crate::proofs::Steps::text_steps))]
-fn put_return(text: &mut Vec<u8>, margin: &[u8], value: &Option<CExp>) -> Result<(), AllocError>
+fn put_return(
+    text: &mut Vec<u8>,
+    margin: &[u8],
+    value: &Option<Box<CExp>>,
+) -> Result<(), AllocError>
     ensures { OnOk result (text.new.items ≡ text.old.items ++ return_text value.now margin.now) }
 {
     match value {

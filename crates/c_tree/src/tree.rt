@@ -84,7 +84,7 @@ pub struct CVariable {
 pub struct CCount {
     pub ty: CType,
     pub name: Text,
-    pub limit: CExp,
+    pub limit: Box<CExp>,
 }
 
 /// A statement.
@@ -93,21 +93,21 @@ pub enum CStm {
     Comment(Text),
     Declare(CVariable),
     /// A declaration with a first value.
-    Define(CVariable, CExp),
+    Define(CVariable, Box<CExp>),
     /// To an object, the value of an expression.
-    Assign(CExp, CExp),
-    Increment(CExp),
-    Decrement(CExp),
+    Assign(Box<CExp>, Box<CExp>),
+    Increment(Box<CExp>),
+    Decrement(Box<CExp>),
     Call(Text, List<CExp>),
     /// A test with its statements, further tests with theirs, and the statements of the last `else`, which is left out
     /// where there are none.
-    If(CExp, List<CStm>, List<(CExp, List<CStm>)>, List<CStm>),
+    If(Box<CExp>, List<CStm>, List<(CExp, List<CStm>)>, List<CStm>),
     /// The cases, each a constant with its statements, which a `break` ends, and the statements of `default`.
-    Switch(CExp, List<(CExp, List<CStm>)>, List<CStm>),
+    Switch(Box<CExp>, List<(CExp, List<CStm>)>, List<CStm>),
     For(CCount, List<CStm>),
     /// Leaves the innermost `for` or `switch`.
     Break,
-    Return(Option<CExp>),
+    Return(Option<Box<CExp>>),
 }
 
 /// How a parameter is passed.

@@ -10,10 +10,10 @@ ghost use Rattle.c_types.specs.Declarations.{items};
 
 use crate::declarations::items_of;
 use crate::shapes::{Shape, scalar_width, shape_of};
-use c_forms::numbered;
+use c_forms::{numbered, unsigned};
 use c_names::Names;
 use c_tree::{CExp, CItem, CType, Width};
-use hume_base::{List, Shared, SumDef, Ty, Types, copy_ty, same_ty};
+use hume_base::{Box, List, Shared, SumDef, Ty, Types, copy_ty, same_ty};
 use std::alloc::{AllocError, Global};
 
 /// The types that a file declares, each behind those that it is made of: the data types of a program in their order, and the
@@ -103,14 +103,15 @@ impl<'a> CTypes<'a> {
     }
 
     /// A constructor's constant: by its name, or by its number where an `int` of 16 bits doesn't hold that.
-    pub fn tag(&self, alloc: Global, sum: &SumDef, place: u32) -> Result<CExp, AllocError>
+    pub fn tag(&self, alloc: Global, sum: &SumDef, place: u32) -> Result<Box<CExp>, AllocError>
         ensures { IfOk result (λ made. made ≡ tag (gathered self.now).names sum.now place) }
     {
         match sum.cons.get(place as usize) {
             Some(con) if place < 32_768 => {
-                Ok(CExp::Name(self.names.constructor(alloc, con.name.bytes())?))
+                let name = self.names.constructor(alloc, con.name.bytes())?;
+                Box::new(alloc, CExp::Name(name))
             }
-            _ => Ok(CExp::Unsigned(Width::W16, u64::from(place))),
+            _ => unsigned(alloc, Width::W16, u64::from(place)),
         }
     }
 }

@@ -1,11 +1,13 @@
 //! Which forms the types of C have.
-ghost use Rattle.std.specs.Prelude.{◌≡◌, ◌≤◌, ◌^◌};
+ghost use Rattle.std.specs.Prelude.{◌≡◌, ◌≤◌, ◌^◌, IfOk};
 ghost use Rattle.c_types.specs.Shapes.{seen, form_of, form_of_data, some_have_fields as some_told, is_scalar as scalar_told};
 ghost use Rattle.c_types.specs.Widths.{width_of as width_told};
 ghost use Rattle.c_types.specs.Shapes.{tag_width as tag_told, scalar_type, signed_literal as signed_told, literal as literal_told};
 
+use c_forms::{signed, truth, unsigned};
 use c_tree::{CExp, CType, Width};
-use hume_base::{ConDef, SumDef, Ty, Types};
+use hume_base::{Box, ConDef, SumDef, Ty, Types};
+use std::alloc::{AllocError, Global};
 
 /// The form of a type of C.
 #[derive(Clone, Copy)]
@@ -115,26 +117,25 @@ pub fn scalar_width(ty: &Ty) -> CType
 }
 
 /// The word of a scalar type as a constant.
-pub fn literal(ty: &Ty, word: u64) -> CExp
-    ensures { result ≡ literal_told ty.now word }
+pub fn literal(alloc: Global, ty: &Ty, word: u64) -> Result<Box<CExp>, AllocError>
+    ensures { IfOk result (λ e. e ≡ literal_told ty.now word) }
 {
     match ty {
-        Ty::Int(bits) => signed_literal(*bits, word),
-        Ty::Nat(bits) => CExp::Unsigned(width_of(*bits), word),
-        Ty::Char => CExp::Unsigned(Width::W8, word),
-        Ty::Bool => CExp::Truth(word != 0),
-        Ty::Tuple(_) => CExp::Truth(word != 0),
-        Ty::Vector(_, _) => CExp::Truth(word != 0),
-        Ty::Named(_) => CExp::Truth(word != 0),
+        Ty::Int(bits) => signed_literal(alloc, *bits, word),
+        Ty::Nat(bits) => unsigned(alloc, width_of(*bits), word),
+        Ty::Char => unsigned(alloc, Width::W8, word),
+        Ty::Bool => truth(alloc, word != 0),
+        Ty::Tuple(_) => truth(alloc, word != 0),
+        Ty::Vector(_, _) => truth(alloc, word != 0),
+        Ty::Named(_) => truth(alloc, word != 0),
     }
 }
 
-fn signed_literal(bits: u8, word: u64) -> CExp
-    ensures { result ≡ signed_told bits word }
+fn signed_literal(alloc: Global, bits: u8, word: u64) -> Result<Box<CExp>, AllocError>
+    ensures { IfOk result (λ e. e ≡ signed_told bits word) }
 {
     if word < 1 << 63 {
-        CExp::Signed(width_of(bits), false, word)
-    } else {
-        CExp::Signed(width_of(bits), true, u64::MAX - word + 1)
+        return signed(alloc, width_of(bits), false, word);
     }
+    signed(alloc, width_of(bits), true, u64::MAX - word + 1)
 }

@@ -5,20 +5,20 @@ ghost use Rattle.check_cores.specs.Stacks.{top_core, top_pattern, lifted};
 
 use crate::stack::Stack;
 use crate::{forms, gather};
-use hume_base::{Shared, Ty};
+use hume_base::{Box, Shared, Ty};
 use hume_model::{Op, PatC};
 use std::alloc::{AllocError, Global};
 use std::marker::Model;
 use typed_core::TypedExpr;
 
 /// An alternative: its pattern and its body, each with whether a literal in it is out of range.
-pub(crate) type Arm = ((PatC, bool), (TypedExpr, bool));
+pub(crate) type Arm = ((PatC, bool), (Box<TypedExpr>, bool));
 
 /// Cores of expressions, of patterns and of alternatives that wait to become parts of larger ones. What finds too few of them is answered with
 /// want of memory.
 #[derive(Drop)]
 pub struct Builder {
-    pub(crate) cores: Stack<(TypedExpr, bool)>,
+    pub(crate) cores: Stack<(Box<TypedExpr>, bool)>,
     pub(crate) patterns: Stack<(PatC, bool)>,
     arms: Stack<Arm>,
 }
@@ -53,23 +53,23 @@ impl Builder {
     pub fn word(&mut self, word: u64, too_wide: bool) -> Result<(), AllocError>
         ensures { OnOk result (self.new ≡ ((WordCore word, too_wide) ∷ self.old.0, self.old.1, self.old.2)) }
     {
-        self.cores.push((TypedExpr::Word(word), too_wide))?;
-        Ok(())
+        let alloc = self.cores.alloc();
+        forms::put(alloc, &mut self.cores, TypedExpr::Word(word), too_wide)
     }
 
     pub fn variable(&mut self, number: u32) -> Result<(), AllocError>
         ensures { OnOk result (self.new ≡ (variable_core number ∷ self.old.0, self.old.1, self.old.2)) }
     {
-        self.cores.push((TypedExpr::Var(number), false))?;
-        Ok(())
+        let alloc = self.cores.alloc();
+        forms::put(alloc, &mut self.cores, TypedExpr::Var(number), false)
     }
 
     /// An exception that carries nothing.
     pub fn raise(&mut self, exn: u32) -> Result<(), AllocError>
         ensures { OnOk result (self.new ≡ (raise_core exn ∷ self.old.0, self.old.1, self.old.2)) }
     {
-        self.cores.push((TypedExpr::Raise(exn, None), false))?;
-        Ok(())
+        let alloc = self.cores.alloc();
+        forms::put(alloc, &mut self.cores, TypedExpr::Raise(exn, None), false)
     }
 
     /// An exception that carries the last core.
@@ -174,8 +174,12 @@ impl Builder {
         ensures { OnOk result (self.new ≡ (call_core number (reverse (take count self.old.0)) ∷ drop count self.old.0, self.old.1, self.old.2)) }
     {
         let (parts, too_wide) = gather::cores(alloc, &mut self.cores, count)?;
-        self.cores.push((TypedExpr::Call(number, parts), too_wide))?;
-        Ok(())
+        forms::put(
+            alloc,
+            &mut self.cores,
+            TypedExpr::Call(number, parts),
+            too_wide,
+        )
     }
 
     /// A constructor of the last cores.
@@ -183,8 +187,12 @@ impl Builder {
         ensures { OnOk result (self.new ≡ (con_core place (reverse (take count self.old.0)) ∷ drop count self.old.0, self.old.1, self.old.2)) }
     {
         let (parts, too_wide) = gather::cores(alloc, &mut self.cores, count)?;
-        self.cores.push((TypedExpr::Con(place, parts), too_wide))?;
-        Ok(())
+        forms::put(
+            alloc,
+            &mut self.cores,
+            TypedExpr::Con(place, parts),
+            too_wide,
+        )
     }
 
     /// A tuple of the last cores.
@@ -192,8 +200,7 @@ impl Builder {
         ensures { OnOk result (self.new ≡ (tuple_core (reverse (take count self.old.0)) ∷ drop count self.old.0, self.old.1, self.old.2)) }
     {
         let (parts, too_wide) = gather::cores(alloc, &mut self.cores, count)?;
-        self.cores.push((TypedExpr::Tuple(parts), too_wide))?;
-        Ok(())
+        forms::put(alloc, &mut self.cores, TypedExpr::Tuple(parts), too_wide)
     }
 
     /// A vector of the last cores.
@@ -201,8 +208,7 @@ impl Builder {
         ensures { OnOk result (self.new ≡ (vector_core (reverse (take count self.old.0)) ∷ drop count self.old.0, self.old.1, self.old.2)) }
     {
         let (parts, too_wide) = gather::cores(alloc, &mut self.cores, count)?;
-        self.cores.push((TypedExpr::Vect(parts), too_wide))?;
-        Ok(())
+        forms::put(alloc, &mut self.cores, TypedExpr::Vect(parts), too_wide)
     }
 
     /// An alternative of the last pattern and the last core.
@@ -212,9 +218,7 @@ impl Builder {
         let Some(pattern) = self.patterns.pop() else {
             return Err(AllocError);
         };
-        let Some(body) = self.cores.pop() else {
-            return Err(AllocError);
-        };
+        let body = forms::last(&mut self.cores)?;
         self.arms.push((pattern, body))
     }
 
@@ -237,14 +241,11 @@ impl Builder {
     }
 
     /// Takes the last core out.
-    pub fn take_core(&mut self) -> Result<(TypedExpr, bool), AllocError>
+    pub fn take_core(&mut self) -> Result<(Box<TypedExpr>, bool), AllocError>
         ensures taken { IfOk result (λ core. core ≡ top_core self.old.0) }
         ensures left { OnOk result (self.new ≡ (drop 1 self.old.0, self.old.1, self.old.2)) }
     {
-        match self.cores.pop() {
-            None => Err(AllocError),
-            Some(core) => Ok(core),
-        }
+        forms::last(&mut self.cores)
     }
 
     /// Moves the core below so many others to the end.

@@ -10,46 +10,54 @@ use hume_model::{Op, PatC};
 use std::alloc::{AllocError, Global};
 use typed_core::TypedExpr;
 
-type Cores = Stack<(TypedExpr, bool)>;
+type Cores = Stack<(Box<TypedExpr>, bool)>;
 
 pub(crate) fn raise_with(alloc: Global, cores: &mut Cores, exn: u32) -> Result<(), AllocError>
     ensures { OnOk result (cores.new ≡ raise_with_core exn (top_core cores.old) ∷ drop 1 cores.old) }
 {
-    let (part, too_wide) = last(alloc, cores)?;
-    cores.push((TypedExpr::Raise(exn, Some(part)), too_wide))
+    let (part, too_wide) = last(cores)?;
+    put(alloc, cores, TypedExpr::Raise(exn, Some(part)), too_wide)
 }
 
 pub(crate) fn binding(alloc: Global, cores: &mut Cores, of: Shared<Ty>) -> Result<(), AllocError>
     ensures { OnOk result (cores.new ≡ let_core of (top_core (drop 1 cores.old)) (top_core cores.old) ∷ drop 2 cores.old) }
 {
-    let (body, body_wide) = last(alloc, cores)?;
-    let (part, part_wide) = last(alloc, cores)?;
-    cores.push((TypedExpr::Let(of, part, body), part_wide || body_wide))
+    let (body, body_wide) = last(cores)?;
+    let (part, part_wide) = last(cores)?;
+    put(
+        alloc,
+        cores,
+        TypedExpr::Let(of, part, body),
+        part_wide || body_wide,
+    )
 }
 
 pub(crate) fn branches(alloc: Global, cores: &mut Cores) -> Result<(), AllocError>
     ensures { OnOk result (cores.new ≡ if_core (top_core (drop 2 cores.old)) (top_core (drop 1 cores.old)) (top_core cores.old) ∷ drop 3 cores.old) }
 {
-    let (when_false, b) = last(alloc, cores)?;
-    let (when_true, a) = last(alloc, cores)?;
-    let (test, t) = last(alloc, cores)?;
-    cores.push((TypedExpr::If(test, when_true, when_false), t || (a || b)))
+    let (when_false, b) = last(cores)?;
+    let (when_true, a) = last(cores)?;
+    let (test, t) = last(cores)?;
+    put(
+        alloc,
+        cores,
+        TypedExpr::If(test, when_true, when_false),
+        t || (a || b),
+    )
 }
 
 pub(crate) fn both(alloc: Global, cores: &mut Cores) -> Result<(), AllocError>
     ensures { OnOk result (cores.new ≡ and_core (top_core (drop 1 cores.old)) (top_core cores.old) ∷ drop 2 cores.old) }
 {
-    cores.push((TypedExpr::Word(0), false))?;
+    put(alloc, cores, TypedExpr::Word(0), false)?;
     branches(alloc, cores)
 }
 
 pub(crate) fn either(alloc: Global, cores: &mut Cores) -> Result<(), AllocError>
     ensures { OnOk result (cores.new ≡ or_core (top_core (drop 1 cores.old)) (top_core cores.old) ∷ drop 2 cores.old) }
 {
-    let Some(right) = cores.pop() else {
-        return Err(AllocError);
-    };
-    cores.push((TypedExpr::Word(1), false))?;
+    let right = last(cores)?;
+    put(alloc, cores, TypedExpr::Word(1), false)?;
     cores.push(right)?;
     branches(alloc, cores)
 }
@@ -62,18 +70,12 @@ pub(crate) fn operation(
 ) -> Result<(), AllocError>
     ensures { OnOk result (cores.new ≡ operation_core operation ty (top_core (drop 1 cores.old)) (top_core cores.old) ∷ drop 2 cores.old) }
 {
-    let Some((right, right_wide)) = cores.pop() else {
-        return Err(AllocError);
-    };
-    let Some((left, left_wide)) = cores.pop() else {
-        return Err(AllocError);
-    };
-    let mut parts = List::of_one(alloc, left)?;
-    parts.push(right)?;
-    cores.push((
-        TypedExpr::Prim(operation, ty, parts),
-        left_wide || right_wide,
-    ))
+    let (right, right_wide) = last(cores)?;
+    let (left, left_wide) = last(cores)?;
+    let mut parts = List::of_one(alloc, left.into_inner())?;
+    parts.push(right.into_inner())?;
+    let operation = TypedExpr::Prim(operation, ty, parts);
+    put(alloc, cores, operation, left_wide || right_wide)
 }
 
 /// An operation on one core.
@@ -85,11 +87,14 @@ pub(crate) fn applied(
 ) -> Result<(), AllocError>
     ensures { OnOk result (cores.new ≡ (Prim operation ty ((top_core cores.old).0 ∷ []), (top_core cores.old).1) ∷ drop 1 cores.old) }
 {
-    let Some((part, too_wide)) = cores.pop() else {
-        return Err(AllocError);
-    };
-    let parts = List::of_one(alloc, part)?;
-    cores.push((TypedExpr::Prim(operation, ty, parts), too_wide))
+    let (part, too_wide) = last(cores)?;
+    let parts = List::of_one(alloc, part.into_inner())?;
+    put(
+        alloc,
+        cores,
+        TypedExpr::Prim(operation, ty, parts),
+        too_wide,
+    )
 }
 
 pub(crate) fn conversion(
@@ -100,8 +105,8 @@ pub(crate) fn conversion(
 ) -> Result<(), AllocError>
     ensures { OnOk result (cores.new ≡ convert_core from to (top_core cores.old) ∷ drop 1 cores.old) }
 {
-    let (part, too_wide) = last(alloc, cores)?;
-    cores.push((TypedExpr::Convert(from, to, part), too_wide))
+    let (part, too_wide) = last(cores)?;
+    put(alloc, cores, TypedExpr::Convert(from, to, part), too_wide)
 }
 
 pub(crate) fn element(
@@ -112,9 +117,14 @@ pub(crate) fn element(
 ) -> Result<(), AllocError>
     ensures { OnOk result (cores.new ≡ index_core of places (top_core (drop 1 cores.old)) (top_core cores.old) ∷ drop 2 cores.old) }
 {
-    let (place, p) = last(alloc, cores)?;
-    let (vector, v) = last(alloc, cores)?;
-    cores.push((TypedExpr::Index(of, places, vector, place), v || p))
+    let (place, p) = last(cores)?;
+    let (vector, v) = last(cores)?;
+    put(
+        alloc,
+        cores,
+        TypedExpr::Index(of, places, vector, place),
+        v || p,
+    )
 }
 
 pub(crate) fn update(
@@ -126,13 +136,11 @@ pub(crate) fn update(
     ensures { OnOk result (cores.new
         ≡ update_core of places (top_core (drop 2 cores.old)) (top_core (drop 1 cores.old)) (top_core cores.old) ∷ drop 3 cores.old) }
 {
-    let (item, i) = last(alloc, cores)?;
-    let (place, p) = last(alloc, cores)?;
-    let (vector, v) = last(alloc, cores)?;
-    cores.push((
-        TypedExpr::Update(of, places, vector, place, item),
-        v || (p || i),
-    ))
+    let (item, i) = last(cores)?;
+    let (place, p) = last(cores)?;
+    let (vector, v) = last(cores)?;
+    let update = TypedExpr::Update(of, places, vector, place, item);
+    put(alloc, cores, update, v || (p || i))
 }
 
 pub(crate) fn alternatives(
@@ -144,18 +152,34 @@ pub(crate) fn alternatives(
     ensures { OnOk result (cores.new ≡ (CaseCore of (top_core cores.old).0 arms.0, (top_core cores.old).1 || arms.1) ∷ drop 1 cores.old) }
 {
     let (arms, some_too_wide) = arms;
-    let (part, too_wide) = last(alloc, cores)?;
-    cores.push((TypedExpr::Case(of, part, arms), too_wide || some_too_wide))
+    let (part, too_wide) = last(cores)?;
+    put(
+        alloc,
+        cores,
+        TypedExpr::Case(of, part, arms),
+        too_wide || some_too_wide,
+    )
 }
 
-// Takes the last core out, to be a part of another.
-fn last(alloc: Global, cores: &mut Cores) -> Result<(Box<TypedExpr>, bool), AllocError>
+/// Puts a core onto the stack, and whether a literal in it is out of range.
+pub(crate) fn put(
+    alloc: Global,
+    cores: &mut Cores,
+    core: TypedExpr,
+    too_wide: bool,
+) -> Result<(), AllocError>
+    ensures { OnOk result (cores.new ≡ (core, too_wide) ∷ cores.old) }
+{
+    cores.push((Box::new(alloc, core)?, too_wide))
+}
+
+/// Takes the last core out, to be a part of another.
+pub(crate) fn last(cores: &mut Cores) -> Result<(Box<TypedExpr>, bool), AllocError>
     ensures taken { IfOk result (λ taken. taken ≡ top_core cores.old) }
     ensures left { OnOk result (cores.new ≡ drop 1 cores.old) }
 {
-    let Some((part, too_wide)) = cores.pop() else {
-        return Err(AllocError);
-    };
-    let part = Box::new(alloc, part)?;
-    Ok((part, too_wide))
+    match cores.pop() {
+        None => Err(AllocError),
+        Some(core) => Ok(core),
+    }
 }

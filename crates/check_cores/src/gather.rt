@@ -5,7 +5,7 @@ ghost use Rattle.check_typing.specs.Patterns.{pat_cores, some_pat_too_wide};
 
 use crate::builder::Arm;
 use crate::stack::Stack;
-use hume_base::List;
+use hume_base::{Box, List};
 use hume_model::PatC;
 use std::alloc::{AllocError, Global};
 use typed_core::TypedExpr;
@@ -13,7 +13,7 @@ use typed_core::TypedExpr;
 /// The last cores as one list, and whether a literal in one of them is out of range.
 pub(crate) fn cores(
     alloc: Global,
-    stack: &mut Stack<(TypedExpr, bool)>,
+    stack: &mut Stack<(Box<TypedExpr>, bool)>,
     count: usize,
 ) -> Result<(List<TypedExpr>, bool), AllocError>
     ensures gathered { IfOk result (λ all. all ≡ (cores_alone (reverse (take count stack.old)), one_too_wide (reverse (take count stack.old)))) }
@@ -25,14 +25,14 @@ pub(crate) fn cores(
 
 fn apart(
     alloc: Global,
-    items: Vec<(TypedExpr, bool)>,
+    items: Vec<(Box<TypedExpr>, bool)>,
 ) -> Result<(List<TypedExpr>, bool), AllocError>
     ensures { IfOk result (λ all. all ≡ (cores_alone items.items, one_too_wide items.items)) }
 {
     let mut parts = List::new(alloc);
     let mut some_too_wide = false;
     for (part, too_wide) in items {
-        parts.push(part)?;
+        parts.push(part.into_inner())?;
         some_too_wide = some_too_wide || too_wide;
     }
     Ok((parts, some_too_wide))
@@ -82,7 +82,7 @@ fn arms_apart(alloc: Global, items: Vec<Arm>) -> Result<(List<(PatC, TypedExpr)>
     let mut arms = List::new(alloc);
     let mut some_too_wide = false;
     for ((pattern, pattern_wide), (body, body_wide)) in items {
-        arms.push((pattern, body))?;
+        arms.push((pattern, body.into_inner()))?;
         some_too_wide = some_too_wide || (pattern_wide || body_wide);
     }
     Ok((arms, some_too_wide))

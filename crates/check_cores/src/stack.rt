@@ -29,6 +29,11 @@ impl<T> Stack<T> {
             items: Vec::new(alloc),
         }
     }
+
+    /// Where memory for the items comes from.
+    pub(crate) fn alloc(&self) -> Global {
+        *self.items.allocator()
+    }
 }
 
 impl<T: Drop> Stack<T> {

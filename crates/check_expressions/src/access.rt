@@ -9,7 +9,7 @@ ghost use Rattle.check_tasks.specs.States.{scope_in, types_in, signatures_in};
 
 use crate::elaboration::Elaboration;
 use check_scopes::types::Shape;
-use hume_base::{Shared, Ty};
+use hume_base::{Box, Shared, Ty};
 use hume_model::PatC;
 use std::alloc::{AllocError, Global};
 use typed_core::TypedExpr;
@@ -54,7 +54,7 @@ impl<'a> Elaboration<'a> {
     }
 
     /// Takes the last core out.
-    pub fn take_core(&mut self) -> Result<(TypedExpr, bool), AllocError>
+    pub fn take_core(&mut self) -> Result<(Box<TypedExpr>, bool), AllocError>
         ensures taken { IfOk result (λ core. core ≡ top_core self.old.1) }
         ensures left { OnOk result (self.new ≡ (self.old.0, drop 1 self.old.1, self.old.2, self.old.3)) }
     {

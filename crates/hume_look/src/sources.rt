@@ -1,17 +1,28 @@
-//! The core of a source that keeps the rules on names, counts, types and limits, whatever the rules after these say.
+//! What a source is refused for, and the core of one that keeps the rules on names, counts, types and limits, whatever the rules after
+//! these say.
 ghost use Rattle.std.specs.Prelude.{◌≤◌, length};
 ghost use Rattle.hume_base.specs.declared.limits.TheConstants.{MAX_SOURCE_BYTES as MOST_BYTES};
 ghost use Rattle.hume_ast.specs.Fits.{IsFit};
 
 use hume_ast::Program;
-use hume_base::Token;
 use hume_base::limits::{MAX_SOURCE_BYTES, MAX_TOKENS};
+use hume_base::{Refusal, Token};
 use hume_check::{CheckError, check};
+use hume_front::{FrontError, accept};
 use hume_lex::{LexError, lex};
 use hume_model::Core;
 use hume_parse::parse;
 use parse_errors::ParseError;
 use std::alloc::{AllocError, Global};
+
+/// What a source is refused for, if it is.
+pub(crate) fn refusal_of(alloc: Global, text: &[u8]) -> Result<Option<Refusal>, AllocError> {
+    match accept(alloc, text) {
+        Ok(_) => Ok(None),
+        Err(FrontError::NoMemory) => Err(AllocError),
+        Err(FrontError::Refused(refusal)) => Ok(Some(refusal)),
+    }
+}
 
 pub(crate) fn core_of(alloc: Global, text: &[u8]) -> Result<Option<Core>, AllocError> {
     if text.len() > MAX_SOURCE_BYTES {

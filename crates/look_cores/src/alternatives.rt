@@ -4,38 +4,88 @@ use hume_base::Types;
 use hume_model::{EqC, Expr, Forms, PatC, Res, forms_of};
 use std::alloc::{AllocError, Global};
 
-/// What has patterns, of which the first that fits is taken.
-#[derive(Clone, Copy)]
-pub(crate) enum Alternatives<'a> {
-    Equations(&'a [EqC]),
-    Values(&'a [(PatC, Expr)]),
-    Results(&'a [(PatC, Res)]),
+/// Equations of a function, or alternatives of a `case`, of which the first that fits is taken: their patterns.
+#[derive(Drop)]
+pub(crate) struct Alternatives<'a> {
+    // Those of one after those of the other.
+    patterns: Vec<Option<&'a PatC>>,
+    count: usize,
+    // How many patterns each has.
+    width: usize,
+    failed: bool,
 }
 
 impl<'a> Alternatives<'a> {
-    pub(crate) fn len(&self) -> usize {
-        match self {
-            Alternatives::Equations(equations) => equations.len(),
-            Alternatives::Values(arms) => arms.len(),
-            Alternatives::Results(arms) => arms.len(),
+    fn begin(alloc: Global, width: usize) -> Alternatives<'a> {
+        Alternatives {
+            patterns: Vec::new(alloc),
+            count: 0,
+            width,
+            failed: false,
         }
+    }
+
+    /// The equations of a function with so many parameters.
+    pub(crate) fn of_equations(
+        alloc: Global,
+        equations: &'a [EqC],
+        parameters: usize,
+    ) -> Alternatives<'a> {
+        let mut made = Alternatives::begin(alloc, parameters);
+        for i in 0..equations.len() {
+            made.add_equation(&equations[i]);
+        }
+        made
+    }
+
+    pub(crate) fn of_values(alloc: Global, arms: &'a [(PatC, Expr)]) -> Alternatives<'a> {
+        let mut made = Alternatives::begin(alloc, 1);
+        for i in 0..arms.len() {
+            made.add(&arms[i].0);
+        }
+        made
+    }
+
+    pub(crate) fn of_results(alloc: Global, arms: &'a [(PatC, Res)]) -> Alternatives<'a> {
+        let mut made = Alternatives::begin(alloc, 1);
+        for i in 0..arms.len() {
+            made.add(&arms[i].0);
+        }
+        made
+    }
+
+    fn add_equation(&mut self, equation: &'a EqC) {
+        self.count = self.count.saturating_add(1);
+        for parameter in 0..self.width {
+            let pattern = equation.pats.get(parameter);
+            self.push(pattern);
+        }
+    }
+
+    fn add(&mut self, pattern: &'a PatC) {
+        self.count = self.count.saturating_add(1);
+        self.push(Some(pattern));
+    }
+
+    fn push(&mut self, pattern: Option<&'a PatC>) {
+        if self.patterns.push(pattern).is_err() {
+            self.failed = true;
+        }
+    }
+
+    pub(crate) fn len(&self) -> usize {
+        self.count
     }
 
     /// The pattern of an alternative for a parameter, both counted from 0. A `case` has one parameter.
     pub(crate) fn pattern(&self, alternative: usize, parameter: usize) -> Option<&'a PatC> {
-        match self {
-            Alternatives::Equations(equations) => match equations.get(alternative) {
-                None => None,
-                Some(equation) => equation.pats.get(parameter),
-            },
-            Alternatives::Values(arms) => match arms.get(alternative) {
-                None => None,
-                Some(arm) => Some(&arm.0),
-            },
-            Alternatives::Results(arms) => match arms.get(alternative) {
-                None => None,
-                Some(arm) => Some(&arm.0),
-            },
+        let place = alternative
+            .saturating_mul(self.width)
+            .saturating_add(parameter);
+        if parameter < self.width && place < self.patterns.len() {
+            self.patterns[place]
+        } else {
+            None
         }
     }
 
@@ -45,7 +95,7 @@ impl<'a> Alternatives<'a> {
             Some(ty) if guess.parameters == 1 => {
                 self.are_complete_for(alloc, guess.types, forms_of(ty))
             }
-            _ => Ok(self.last_is_plain(guess.parameters)),
+            _ => self.last_is_plain(guess.parameters),
         }
     }
 
@@ -56,7 +106,7 @@ impl<'a> Alternatives<'a> {
         types: &Types,
         forms: Forms,
     ) -> Result<bool, AllocError> {
-        if self.last_is_plain(1) {
+        if self.last_is_plain(1)? {
             return Ok(true);
         }
         match forms {
@@ -69,22 +119,21 @@ impl<'a> Alternatives<'a> {
         }
     }
 
-    fn last_is_plain(&self, parameters: usize) -> bool {
-        if self.len() == 0 {
-            return false;
+    // Whether the last one takes all values; an error where memory ran out for the patterns.
+    fn last_is_plain(&self, parameters: usize) -> Result<bool, AllocError> {
+        if self.failed {
+            return Err(AllocError);
         }
-        let last = self.len().saturating_sub(1);
+        if self.count == 0 {
+            return Ok(false);
+        }
+        let last = self.count.saturating_sub(1);
         for parameter in 0..parameters {
-            match self.pattern(last, parameter) {
-                None => return false,
-                Some(pattern) => {
-                    if !is_plain(pattern) {
-                        return false;
-                    }
-                }
+            if !is_plain_if_there(self.pattern(last, parameter)) {
+                return Ok(false);
             }
         }
-        true
+        Ok(true)
     }
 
     fn taken_wholly(&self, alternative: usize) -> usize {
@@ -96,7 +145,7 @@ impl<'a> Alternatives<'a> {
 
     // Whether they are so many, and each word below that or constructor is taken by one of them.
     fn are_each(&self, alloc: Global, count: usize) -> Result<bool, AllocError> {
-        if self.len() != count {
+        if self.count != count {
             return Ok(false);
         }
         let mut taken = vec![in alloc; false; count]?;
@@ -123,6 +172,13 @@ fn taken_by(pattern: &PatC) -> usize {
             }
         }
         _ => usize::MAX,
+    }
+}
+
+fn is_plain_if_there(pattern: Option<&PatC>) -> bool {
+    match pattern {
+        None => false,
+        Some(pattern) => is_plain(pattern),
     }
 }
 

@@ -7,9 +7,10 @@ ghost use Rattle.look_sources.specs.Pages.{Grows};
 use crate::bound::{Bound, Measure};
 use crate::box_bounds::{Ground, built_count, built_variables, greatest, node_bounds, rule_bounds};
 use crate::chain::{Deciding, Form, Link, Stage};
+use crate::slices;
 use hume_base::limits::{MAX_HEAP_WORDS, MAX_SPACE_WORDS, MAX_STACK_WORDS, MAX_WORK};
 use hume_exceptions::{Raises, raises};
-use hume_model::{BoxC, Core, FunC, NodeC};
+use hume_model::{BoxC, Core, FunC, HandC, NodeC, Res, RuleC};
 use look_sources::Page;
 use std::alloc::{AllocError, Global};
 
@@ -22,8 +23,9 @@ pub fn put_bounds(alloc: Global, core: &Core, page: &mut Page) -> Result<(), All
 {
     let raised = raises(alloc, core)?;
     let ground = Ground::of(alloc, core)?;
-    for node in core.nodes.as_slice() {
-        put_node(alloc, core, &raised, &ground, node, page)?;
+    let nodes = slices::nodes(core);
+    for n in 0..nodes.len() {
+        put_node(alloc, core, &raised, &ground, &nodes[n], page)?;
     }
     let bounds = node_bounds(alloc, core)?;
     put_total(bounds.as_slice(), page);
@@ -174,12 +176,19 @@ fn deciding_rule(rules: &[Bound], bound: Bound, measure: Measure) -> Option<usiz
 fn put_handlers(page: &mut Page, core: &Core, ground: &Ground, b: &BoxC)
     ensures { Grows page.old page.new }
 {
-    for handler in b.handlers.as_slice() {
-        page.put(b"  handler ");
-        page.put(exception_name(core, handler.exn));
-        put_bound(page, ground.handler(handler));
-        page.put(b"\n");
+    let handlers = slices::handlers(b);
+    for h in 0..handlers.len() {
+        put_handler(page, core, ground, &handlers[h]);
     }
+}
+
+fn put_handler(page: &mut Page, core: &Core, ground: &Ground, handler: &HandC)
+    ensures { Grows page.old page.new }
+{
+    page.put(b"  handler ");
+    page.put(exception_name(core, handler.exn));
+    put_bound(page, ground.handler(handler));
+    page.put(b"\n");
 }
 
 fn exception_name(core: &Core, exn: u32) -> &[u8] {
@@ -209,35 +218,44 @@ fn put_reason(
 )
     ensures { Grows page.old page.new }
 {
-    let Some(number) = deciding_rule(rules, bound, measure) else {
-        return;
-    };
-    let (Some(rule), Some(whole)) = (b.rules.get(number), rules.get(number)) else {
-        return;
-    };
+    if let Some(number) = deciding_rule(rules, bound, measure) {
+        if number < rules.len() {
+            put_deciding(page, core, ground, b, number, rules[number], measure);
+        }
+    }
+}
+
+// Tells it of the rule of that number with that bound.
+fn put_deciding(
+    page: &mut Page,
+    core: &Core,
+    ground: &Ground,
+    b: &BoxC,
+    number: usize,
+    whole: Bound,
+    measure: Measure,
+)
+    ensures { Grows page.old page.new }
+{
+    let rules = slices::rules(b);
+    if number < rules.len() {
+        put_rule(page, number, whole.by(measure), measure);
+        put_shares(page, ground, b, &rules[number], whole, measure);
+        put_chain(page, core, ground, &rules[number].result, measure);
+    }
+}
+
+fn put_rule(page: &mut Page, number: usize, figure: u64, measure: Measure)
+    ensures { Grows page.old page.new }
+{
     page.put(b"  ");
     page.put(measure.name());
     page.put(b" ");
-    page.number(bound.by(measure));
-    put_excess(page, bound.by(measure), limit_of(measure));
+    page.number(figure);
+    put_excess(page, figure, limit_of(measure));
     page.put(b": rule ");
     page.number((number as u64).saturating_add(1));
     page.put(b"\n");
-    let by_itself = ground.rule(b, rule).by(measure);
-    let by_handler = whole.by(measure).saturating_sub(by_itself);
-    put_share(page, b"inputs", inputs_share(ground, b, number, measure));
-    put_share(page, b"handler", by_handler);
-    let deciding = Deciding {
-        measure,
-        functions: core.funs.as_slice(),
-        bounds: ground.functions.as_slice(),
-    };
-    put_chain(
-        page,
-        core.funs.as_slice(),
-        &deciding,
-        Stage::Outcome(&rule.result),
-    );
 }
 
 fn put_excess(page: &mut Page, figure: u64, limit: u64)
@@ -247,6 +265,22 @@ fn put_excess(page: &mut Page, figure: u64, limit: u64)
         page.put(b", past the limit of ");
         page.number(limit);
     }
+}
+
+fn put_shares(
+    page: &mut Page,
+    ground: &Ground,
+    b: &BoxC,
+    rule: &RuleC,
+    whole: Bound,
+    measure: Measure,
+)
+    ensures { Grows page.old page.new }
+{
+    let by_itself = ground.rule(b, rule).by(measure);
+    let by_handler = whole.by(measure).saturating_sub(by_itself);
+    put_share(page, b"inputs", inputs_share(ground, b, rule, measure));
+    put_share(page, b"handler", by_handler);
 }
 
 fn put_share(page: &mut Page, name: &[u8], amount: u64)
@@ -262,10 +296,7 @@ fn put_share(page: &mut Page, name: &[u8], amount: u64)
 }
 
 // What the inputs of a rule take of the measure.
-fn inputs_share(ground: &Ground, b: &BoxC, number: usize, measure: Measure) -> u64 {
-    let Some(rule) = b.rules.get(number) else {
-        return 0;
-    };
+fn inputs_share(ground: &Ground, b: &BoxC, rule: &RuleC, measure: Measure) -> u64 {
     let patterns = rule.pats.as_slice();
     match measure {
         Measure::Heap => ground.inputs(b, rule),
@@ -275,21 +306,27 @@ fn inputs_share(ground: &Ground, b: &BoxC, number: usize, measure: Measure) -> u
 }
 
 // The chain of dearest forms, to where nothing costs anything any more.
-fn put_chain<'a>(page: &mut Page, functions: &[FunC], deciding: &Deciding<'a>, stage: Stage<'a>)
+fn put_chain(page: &mut Page, core: &Core, ground: &Ground, res: &Res, measure: Measure)
     ensures { Grows page.old page.new }
 {
-    let mut stage = stage;
+    let functions = slices::functions(core);
+    let deciding = Deciding {
+        measure,
+        functions,
+        bounds: ground.functions.as_slice(),
+    };
+    let mut stage = Stage::Outcome(res);
     for _ in 0..MAX_LINKS {
         let link = deciding.next(stage);
-        if link.form == Form::End || link.amount == 0 {
+        if link.amount == 0 {
             return;
         }
         put_link(page, functions, link);
-        stage = link.stage;
+        stage = deciding.behind(stage, link);
     }
 }
 
-fn put_link<'a>(page: &mut Page, functions: &[FunC], link: Link<'a>)
+fn put_link(page: &mut Page, functions: &[FunC], link: Link)
     ensures { Grows page.old page.new }
 {
     page.put(b"    ");
@@ -301,13 +338,13 @@ fn put_link<'a>(page: &mut Page, functions: &[FunC], link: Link<'a>)
 }
 
 // Puts the function that is called, or the number of the part.
-fn put_which<'a>(page: &mut Page, functions: &[FunC], link: Link<'a>)
+fn put_which(page: &mut Page, functions: &[FunC], link: Link)
     ensures { Grows page.old page.new }
 {
     if link.form == Form::Call {
         page.put(b" ");
-        if let Some(function) = functions.get(link.number) {
-            page.put(function.name.bytes());
+        if link.number < functions.len() {
+            page.put(functions[link.number].name.bytes());
         }
     } else if link.number > 0 {
         page.put(b" ");

@@ -6,6 +6,7 @@ use crate::building::{builds, inputs_build};
 use crate::expression_bounds::expression_bound;
 use crate::pattern_counts::{all_tests, all_variables, variables};
 use crate::result_bounds::result_bound;
+use crate::slices;
 use hume_exceptions::{Raises, raises, result_may_raise};
 use hume_model::{BoxC, Core, EqC, HandC, InPat, NodeC, RuleC};
 use std::alloc::{AllocError, Global};
@@ -54,9 +55,10 @@ impl Ground {
 }
 
 fn function_bounds(alloc: Global, core: &Core) -> Result<Vec<Bound>, AllocError> {
+    let functions = slices::functions(core);
     let mut bounds = Vec::new(alloc);
-    for function in core.funs.as_slice() {
-        let bound = equations_bound(bounds.as_slice(), function.equations.as_slice());
+    for i in 0..functions.len() {
+        let bound = equations_bound(bounds.as_slice(), slices::equations(&functions[i]));
         bounds.push(bound)?;
     }
     Ok(bounds)
@@ -65,9 +67,9 @@ fn function_bounds(alloc: Global, core: &Core) -> Result<Vec<Bound>, AllocError>
 fn equations_bound(called: &[Bound], equations: &[EqC]) -> Bound {
     let mut tests: u64 = 0;
     let mut taken = Bound::nothing();
-    for equation in equations {
-        tests = tests.saturating_add(all_tests(equation.pats.as_slice()));
-        taken = either(taken, equation_bound(called, equation));
+    for i in 0..equations.len() {
+        tests = tests.saturating_add(all_tests(equations[i].pats.as_slice()));
+        taken = either(taken, equation_bound(called, &equations[i]));
     }
     one_way(tests, taken)
 }
@@ -105,10 +107,12 @@ fn handlers_bound(core: &Core, raised: &Raises, ground: &Ground, b: &BoxC, rule:
     requires { IsRaisesOf core.now raised.now }
 {
     let set = result_may_raise(core, raised, &rule.result);
+    let handlers = slices::handlers(b);
     let mut bound = Bound::nothing();
-    for handler in b.handlers.as_slice() {
-        if handler.exn < 64 && set.has(handler.exn) {
-            bound = either(bound, ground.handler(handler));
+    for i in 0..handlers.len() {
+        let exn = handlers[i].exn;
+        if exn < 64 && set.has(exn) {
+            bound = either(bound, ground.handler(&handlers[i]));
         }
     }
     bound
@@ -124,10 +128,11 @@ pub(crate) fn rule_bounds(
 ) -> Result<Vec<Bound>, AllocError>
     requires { IsRaisesOf core.now raised.now }
 {
+    let rules = slices::rules(b);
     let mut bounds = Vec::new(alloc);
-    for rule in b.rules.as_slice() {
-        let handlers = handlers_bound(core, raised, ground, b, rule);
-        bounds.push(both(ground.rule(b, rule), handlers))?;
+    for i in 0..rules.len() {
+        let handlers = handlers_bound(core, raised, ground, b, &rules[i]);
+        bounds.push(both(ground.rule(b, &rules[i]), handlers))?;
     }
     Ok(bounds)
 }
@@ -146,14 +151,40 @@ pub(crate) fn node_bounds(alloc: Global, core: &Core) -> Result<Vec<Bound>, Allo
     let raised = raises(alloc, core)?;
     let ground = Ground::of(alloc, core)?;
     let mut bounds = Vec::new(alloc);
-    for node in core.nodes.as_slice() {
-        let bound = match node {
-            NodeC::Rules(b) => {
-                greatest(rule_bounds(alloc, core, &raised, &ground, b)?.as_slice())
-            }
-            _ => Bound::nothing(),
-        };
-        bounds.push(bound)?;
-    }
+    add_node_bounds(alloc, core, &raised, &ground, &mut bounds)?;
     Ok(bounds)
+}
+
+fn add_node_bounds(
+    alloc: Global,
+    core: &Core,
+    raised: &Raises,
+    ground: &Ground,
+    bounds: &mut Vec<Bound>,
+) -> Result<(), AllocError>
+    requires { IsRaisesOf core.now raised.now }
+{
+    let nodes = slices::nodes(core);
+    for n in 0..nodes.len() {
+        bounds.push(node_bound(alloc, core, raised, ground, &nodes[n])?)?;
+    }
+    Ok(())
+}
+
+fn node_bound(
+    alloc: Global,
+    core: &Core,
+    raised: &Raises,
+    ground: &Ground,
+    node: &NodeC,
+) -> Result<Bound, AllocError>
+    requires { IsRaisesOf core.now raised.now }
+{
+    match node {
+        NodeC::Rules(b) => {
+            let bounds = rule_bounds(alloc, core, raised, ground, b)?;
+            Ok(greatest(bounds.as_slice()))
+        }
+        _ => Ok(Bound::nothing()),
+    }
 }

@@ -8,9 +8,11 @@ ghost use Rattle.hume_model.specs.HandlerRules.{has_handler};
 
 use crate::bound::Bound;
 use crate::box_bounds::node_bounds;
+use crate::found::{box_at, type_at};
+use crate::slices;
 use crate::texts::put_type;
 use hume_base::limits::{MAX_HEAP_WORDS, MAX_SPACE_WORDS, MAX_STACK_WORDS, MAX_WORK};
-use hume_base::{Refusal, Rule};
+use hume_base::{Refusal, Rule, Ty};
 use hume_exceptions::{ExnSet, Raises, raises, result_may_raise};
 use hume_model::{BoxC, Core, HandC, NodeC, PortC, WireC};
 use look_sources::{Page, Sort};
@@ -62,9 +64,10 @@ fn tell_wires(core: &Core, refusal: Refusal, note: &mut Page) -> Option<Culprit>
 fn tell_nodes(core: &Core, refusal: Refusal, note: &mut Page) -> Option<Culprit>
     ensures { Grows note.old note.new }
 {
+    let nodes = slices::nodes(core);
     let mut first = None;
-    for n in 0..core.nodes.len() {
-        first = first.or(tell_node(core, &core.nodes[n], n, refusal, note));
+    for n in 0..nodes.len() {
+        first = first.or(tell_node(core, &nodes[n], n, refusal, note));
     }
     first
 }
@@ -89,8 +92,9 @@ fn tell_node(
 fn tell_each_wire(core: &Core, refusal: Refusal, note: &mut Page) -> Option<Culprit>
     ensures { Grows note.old note.new }
 {
-    for w in 0..core.wires.len() {
-        tell_wire(core, &core.wires[w], w, refusal, note);
+    let wires = slices::wires(core);
+    for w in 0..wires.len() {
+        tell_wire(core, &wires[w], w, refusal, note);
     }
     let sort = match refusal.rule {
         Rule::C53 => Sort::WireFrom,
@@ -159,8 +163,9 @@ fn put_unwired(note: &mut Page, is_told: bool, what: &[u8], name: &[u8])
 
 /// Whether a wire has that end.
 pub(crate) fn has_wire(core: &Core, node: usize, place: usize, rule: Rule) -> bool {
-    for wire in core.wires.as_slice() {
-        let (end, port) = end_of(wire, rule);
+    let wires = slices::wires(core);
+    for w in 0..wires.len() {
+        let (end, port) = end_of(&wires[w], rule);
         if end as usize == node && port as usize == place {
             return true;
         }
@@ -192,35 +197,51 @@ fn tell_wire(core: &Core, wire: &WireC, number: usize, refusal: Refusal, note: &
 fn tell_earlier(core: &Core, wire: &WireC, number: usize, rule: Rule, note: &mut Page)
     ensures { Grows note.old note.new }
 {
-    for earlier in 0..number.min(core.wires.len()) {
-        if end_of(&core.wires[earlier], rule) == end_of(wire, rule) {
-            note.put(b"  the earlier wire there is in line ");
-            note.number(u64::from(core.wires[earlier].line));
-            note.put(b"\n");
+    let wires = slices::wires(core);
+    for earlier in 0..number.min(wires.len()) {
+        if end_of(&wires[earlier], rule) == end_of(wire, rule) {
+            put_earlier(note, wires[earlier].line);
             return;
         }
     }
+}
+
+fn put_earlier(note: &mut Page, line: u32)
+    ensures { Grows note.old note.new }
+{
+    note.put(b"  the earlier wire there is in line ");
+    note.number(u64::from(line));
+    note.put(b"\n");
 }
 
 // Tells the types at both ends.
 fn tell_types(core: &Core, wire: &WireC, note: &mut Page)
     ensures { Grows note.old note.new }
 {
-    let from = core.nodes.get(wire.from as usize);
-    let to = core.nodes.get(wire.to as usize);
-    if let (Some(NodeC::Rules(first)), Some(NodeC::Rules(second))) = (from, to) {
-        let out = first.outs.get(wire.from_port as usize);
-        let inn = second.ins.get(wire.to_port as usize);
-        if let (Some(out), Some(inn)) = (out, inn) {
-            note.put(b"  it comes from `");
-            put_type(note, &core.types, &out.ty);
-            note.put(b"` and leads to `");
-            put_type(note, &core.types, &inn.ty);
-            note.put(b"`\n");
-        }
-    } else {
-        note.put(b"  both ends are streams\n");
+    match (box_at(core, wire.from), box_at(core, wire.to)) {
+        (Some(first), Some(second)) => tell_types_of(core, first, second, wire, note),
+        _ => note.put(b"  both ends are streams\n"),
     }
+}
+
+fn tell_types_of(core: &Core, first: &BoxC, second: &BoxC, wire: &WireC, note: &mut Page)
+    ensures { Grows note.old note.new }
+{
+    let output = type_at(first.outs.as_slice(), wire.from_port);
+    let input = type_at(second.ins.as_slice(), wire.to_port);
+    if let (Some(output), Some(input)) = (output, input) {
+        put_types(core, output, input, note);
+    }
+}
+
+fn put_types(core: &Core, output: &Ty, input: &Ty, note: &mut Page)
+    ensures { Grows note.old note.new }
+{
+    note.put(b"  it comes from `");
+    put_type(note, &core.types, output);
+    note.put(b"` and leads to `");
+    put_type(note, &core.types, input);
+    note.put(b"`\n");
 }
 
 fn tell_exceptions(
@@ -232,13 +253,26 @@ fn tell_exceptions(
     ensures { Grows note.old note.new }
 {
     let raised = raises(alloc, core)?;
-    for node in core.nodes.as_slice() {
-        let first = tell_raising(core, &raised, node, refusal, note);
+    Ok(tell_all_raising(core, &raised, refusal, note))
+}
+
+fn tell_all_raising(
+    core: &Core,
+    raised: &Raises,
+    refusal: Refusal,
+    note: &mut Page,
+) -> Option<Culprit>
+    requires { IsRaisesOf core.now raised.now }
+    ensures { Grows note.old note.new }
+{
+    let nodes = slices::nodes(core);
+    for n in 0..nodes.len() {
+        let first = tell_raising(core, raised, &nodes[n], refusal, note);
         if first.is_some() {
-            return Ok(first);
+            return first;
         }
     }
-    Ok(None)
+    None
 }
 
 // Tells of the node, if it is the box in the line.
@@ -281,10 +315,12 @@ fn tell_rules(core: &Core, raised: &Raises, b: &BoxC, note: &mut Page) -> Option
     requires { IsRaisesOf core.now raised.now }
     ensures { Grows note.old note.new }
 {
+    let rules = slices::rules(b);
+    let handlers = slices::handlers(b);
     let mut first = None;
-    for i in 0..b.rules.len() {
-        let set = result_may_raise(core, raised, &b.rules[i].result);
-        if tell_set(core, set, b.handlers.as_slice(), b"rule ", i, note) && first.is_none() {
+    for i in 0..rules.len() {
+        let set = result_may_raise(core, raised, &rules[i].result);
+        if tell_set(core, set, handlers, b"rule ", i, note) && first.is_none() {
             first = Some(i);
         }
     }
@@ -296,9 +332,10 @@ fn tell_handlers(core: &Core, raised: &Raises, b: &BoxC, note: &mut Page) -> Opt
     requires { IsRaisesOf core.now raised.now }
     ensures { Grows note.old note.new }
 {
+    let handlers = slices::handlers(b);
     let mut first = None;
-    for i in 0..b.handlers.len() {
-        let set = result_may_raise(core, raised, &b.handlers[i].result);
+    for i in 0..handlers.len() {
+        let set = result_may_raise(core, raised, &handlers[i].result);
         if tell_set(core, set, &[], b"handler ", i, note) && first.is_none() {
             first = Some(i);
         }
@@ -360,16 +397,23 @@ fn tell_bounds(
     ensures { Grows note.old note.new }
 {
     let bounds = node_bounds(alloc, core)?;
+    tell_bounds_of(core, bounds.as_slice(), refusal, note);
+    Ok(())
+}
+
+fn tell_bounds_of(core: &Core, bounds: &[Bound], refusal: Refusal, note: &mut Page)
+    ensures { Grows note.old note.new }
+{
+    let nodes = slices::nodes(core);
     let mut through: u64 = 0;
-    for n in 0..core.nodes.len() {
-        let bound = bounds.get(n).copied().unwrap_or(Bound::nothing());
+    for n in 0..nodes.len().min(bounds.len()) {
+        let bound = bounds[n];
         through = through
             .saturating_add(bound.heap)
             .saturating_add(bound.stack);
-        let is_told = core.nodes[n].line() == refusal.line;
+        let is_told = nodes[n].line() == refusal.line;
         tell_bound(bound, through, refusal.rule, is_told, note);
     }
-    Ok(())
 }
 
 fn tell_bound(bound: Bound, through: u64, rule: Rule, is_told: bool, note: &mut Page)

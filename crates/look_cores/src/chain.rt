@@ -1,9 +1,11 @@
-//! What decides a bound: from a rule or a handler, form by form, to what costs most.
+//! What decides a bound: from a rule or a handler, part by part, to what costs most.
 use crate::bound::{Bound, Measure};
 use crate::box_bounds::equation_bound;
 use crate::expression_bounds::{call_bound, expression_bound};
 use crate::pattern_counts::variables;
 use crate::result_bounds::result_bound;
+use crate::slices;
+use hume_base::{Box, List};
 use hume_model::{EqC, Expr, FunC, PatC, Res};
 
 /// A form that a chain goes through.
@@ -65,33 +67,68 @@ impl Form {
 /// Where a chain is.
 #[derive(Clone, Copy)]
 pub(crate) enum Stage<'a> {
-    Nowhere,
+    /// Behind the last part.
+    Past,
+    /// An output that gets nothing.
+    Nothing,
     Expression(&'a Expr),
     Outcome(&'a Res),
-    /// The function of that number is called.
-    Called(u32),
+    /// The function of that number is called with so many arguments.
+    Called(u32, usize),
+    Equation(&'a EqC),
 }
 
-/// A link of a chain: the form, its number where it has one, what it adds, and where it leads.
+/// What a part is: its form, its number where it has one, and the words that are on the stack below it.
 #[derive(Clone, Copy)]
-pub(crate) struct Link<'a> {
+struct Role {
+    form: Form,
+    number: usize,
+    below: u64,
+}
+
+impl Role {
+    fn of(form: Form, below: u64) -> Role {
+        Role {
+            form,
+            number: 0,
+            below,
+        }
+    }
+
+    fn numbered(form: Form, number: usize, below: u64) -> Role {
+        Role {
+            form,
+            number,
+            below,
+        }
+    }
+
+    // One of several, counted from 0, each above those before it.
+    fn in_row(form: Form, place: usize) -> Role {
+        Role::numbered(form, place.saturating_add(1), place as u64)
+    }
+}
+
+/// A link of a chain: the form and the number of a part, what it adds, and its place among the parts.
+#[derive(Clone, Copy)]
+pub(crate) struct Link {
     pub(crate) form: Form,
     pub(crate) number: usize,
     pub(crate) amount: u64,
-    pub(crate) stage: Stage<'a>,
+    place: usize,
 }
 
-fn end<'a>() -> Link<'a> {
+fn end() -> Link {
     Link {
         form: Form::End,
         number: 0,
         amount: 0,
-        stage: Stage::Nowhere,
+        place: 0,
     }
 }
 
 // The dearer of two links; the first one of equal ones.
-fn dearer<'a>(first: Link<'a>, second: Link<'a>) -> Link<'a> {
+fn dearer(first: Link, second: Link) -> Link {
     if second.amount > first.amount {
         second
     } else {
@@ -109,34 +146,54 @@ pub(crate) struct Deciding<'a> {
 
 impl<'a> Deciding<'a> {
     /// The dearest part of what is at that stage.
-    pub(crate) fn next(&self, stage: Stage<'a>) -> Link<'a> {
+    pub(crate) fn next(&self, stage: Stage<'a>) -> Link {
+        let mut best = end();
+        for place in 0..usize::MAX {
+            let part = self.part(stage, place);
+            if is_past(part) {
+                return best;
+            }
+            let role = role_in(stage, place);
+            let amount = self.amount(part, role.below);
+            best = dearer(
+                best,
+                Link {
+                    form: role.form,
+                    number: role.number,
+                    amount,
+                    place,
+                },
+            );
+        }
+        best
+    }
+
+    /// Where a link leads from that stage.
+    pub(crate) fn behind(&self, stage: Stage<'a>, link: Link) -> Stage<'a> {
+        self.part(stage, link.place)
+    }
+
+    // The part at a place of what is at that stage.
+    fn part(&self, stage: Stage<'a>, place: usize) -> Stage<'a> {
         match stage {
-            Stage::Nowhere => end(),
-            Stage::Expression(e) => self.of_expression(e),
-            Stage::Outcome(res) => self.of_result(res),
-            Stage::Called(function) => match self.functions.get(function as usize) {
-                None => end(),
-                Some(function) => self.of_equations(function.equations.as_slice()),
-            },
+            Stage::Past | Stage::Nothing => Stage::Past,
+            Stage::Expression(e) => part_of_expression(e, place),
+            Stage::Outcome(res) => part_of_result(res, place),
+            Stage::Called(function, _) => equation_of(self.functions, function, place),
+            Stage::Equation(equation) => part_of_expression(&equation.body, place),
         }
     }
 
-    // An expression with so many words below it.
-    fn link(&self, form: Form, number: usize, below: u64, e: &'a Expr) -> Link<'a> {
-        Link {
-            form,
-            number,
-            amount: self.share(expression_bound(self.bounds, e), below),
-            stage: Stage::Expression(e),
-        }
-    }
-
-    fn link_result(&self, form: Form, number: usize, below: u64, res: &'a Res) -> Link<'a> {
-        Link {
-            form,
-            number,
-            amount: self.share(result_bound(self.bounds, res), below),
-            stage: Stage::Outcome(res),
+    // What a part adds above so many words of stack.
+    fn amount(&self, part: Stage<'a>, below: u64) -> u64 {
+        match part {
+            Stage::Past | Stage::Nothing => 0,
+            Stage::Expression(e) => self.share(expression_bound(self.bounds, e), below),
+            Stage::Outcome(res) => self.share(result_bound(self.bounds, res), below),
+            Stage::Called(function, arguments) => {
+                call_bound(self.bounds, function, arguments).by(self.measure)
+            }
+            Stage::Equation(equation) => equation_bound(self.bounds, equation).by(self.measure),
         }
     }
 
@@ -147,145 +204,264 @@ impl<'a> Deciding<'a> {
             _ => bound.by(self.measure),
         }
     }
+}
 
-    fn of_parts(&self, form: Form, parts: &'a [Expr]) -> Link<'a> {
-        let mut best = end();
-        for i in 0..parts.len() {
-            best = dearer(
-                best,
-                self.link(form, i.saturating_add(1), i as u64, &parts[i]),
-            );
+fn is_past(stage: Stage) -> bool {
+    match stage {
+        Stage::Past => true,
+        _ => false,
+    }
+}
+
+fn role_in(stage: Stage, place: usize) -> Role {
+    match stage {
+        Stage::Past | Stage::Nothing => Role::of(Form::End, 0),
+        Stage::Expression(e) => role_in_expression(e, place),
+        Stage::Outcome(res) => role_in_result(res, place),
+        Stage::Called(_, _) => Role::in_row(Form::Equation, place),
+        Stage::Equation(equation) => role_in_expression(&equation.body, place),
+    }
+}
+
+fn equation_of(functions: &[FunC], function: u32, place: usize) -> Stage<'_> {
+    let number = function as usize;
+    if number >= functions.len() {
+        return Stage::Past;
+    }
+    let equations = slices::equations(&functions[number]);
+    if place < equations.len() {
+        Stage::Equation(&equations[place])
+    } else {
+        Stage::Past
+    }
+}
+
+fn part_of_expression(e: &Expr, place: usize) -> Stage<'_> {
+    match e {
+        Expr::Word(_) | Expr::Var(_) | Expr::Raise(_, None) => Stage::Past,
+        Expr::Con(_, parts) | Expr::Tuple(parts) | Expr::Vect(parts) | Expr::Prim(_, _, parts) => {
+            one_of(parts, place)
         }
-        best
-    }
-
-    fn of_expression(&self, e: &'a Expr) -> Link<'a> {
-        match e {
-            Expr::Word(_) | Expr::Var(_) => end(),
-            Expr::Con(_, parts) | Expr::Tuple(parts) | Expr::Vect(parts) => {
-                self.of_parts(Form::Part, parts.as_slice())
-            }
-            Expr::Prim(_, _, parts) => self.of_parts(Form::Part, parts.as_slice()),
-            Expr::Index(_, vector, place) => dearer(
-                self.link(Form::Vector, 0, 0, vector),
-                self.link(Form::Place, 0, 1, place),
-            ),
-            Expr::Update(_, vector, place, item) => dearer(
-                self.link(Form::Vector, 0, 0, vector),
-                dearer(
-                    self.link(Form::Place, 0, 1, place),
-                    self.link(Form::Item, 0, 2, item),
-                ),
-            ),
-            Expr::If(test, when_true, when_false) => dearer(
-                self.link(Form::Test, 0, 0, test),
-                dearer(
-                    self.link(Form::Then, 0, 0, when_true),
-                    self.link(Form::Else, 0, 0, when_false),
-                ),
-            ),
-            Expr::Case(part, _, arms) => dearer(
-                self.link(Form::Subject, 0, 0, part),
-                self.of_arms(arms.as_slice()),
-            ),
-            Expr::Let(part, body) => dearer(
-                self.link(Form::Value, 0, 0, part),
-                self.link(Form::Body, 0, 1, body),
-            ),
-            Expr::Call(function, parts) => self.of_call(*function, parts.as_slice()),
-            Expr::Raise(_, part) => match part {
-                None => end(),
-                Some(part) => self.link(Form::Carried, 0, 0, part),
-            },
+        Expr::Index(_, first, second) | Expr::Let(first, second) => {
+            one_of_two(first, second, place)
         }
-    }
-
-    fn of_call(&self, function: u32, parts: &'a [Expr]) -> Link<'a> {
-        let bound = call_bound(self.bounds, function, parts.len());
-        let call = Link {
-            form: Form::Call,
-            number: function as usize,
-            amount: bound.by(self.measure),
-            stage: Stage::Called(function),
-        };
-        dearer(call, self.of_parts(Form::Argument, parts))
-    }
-
-    fn of_arms(&self, arms: &'a [(PatC, Expr)]) -> Link<'a> {
-        let mut best = end();
-        for i in 0..arms.len() {
-            let arm = &arms[i];
-            let below = variables(&arm.0).saturating_add(1);
-            best = dearer(
-                best,
-                self.link(Form::Alternative, i.saturating_add(1), below, &arm.1),
-            );
+        Expr::Update(_, first, second, third) | Expr::If(first, second, third) => {
+            one_of_three(first, second, third, place)
         }
-        best
-    }
-
-    fn of_equations(&self, equations: &'a [EqC]) -> Link<'a> {
-        let mut best = end();
-        for i in 0..equations.len() {
-            let equation = &equations[i];
-            let link = Link {
-                form: Form::Equation,
-                number: i.saturating_add(1),
-                amount: equation_bound(self.bounds, equation).by(self.measure),
-                stage: Stage::Expression(&equation.body),
-            };
-            best = dearer(best, link);
-        }
-        best
-    }
-
-    fn of_result(&self, res: &'a Res) -> Link<'a> {
-        match res {
-            Res::Outs(outs) => self.of_outs(outs.as_slice()),
-            Res::If(test, when_true, when_false) => dearer(
-                self.link(Form::Test, 0, 0, test),
-                dearer(
-                    self.link_result(Form::Then, 0, 0, when_true),
-                    self.link_result(Form::Else, 0, 0, when_false),
-                ),
-            ),
-            Res::Case(part, _, arms) => dearer(
-                self.link(Form::Subject, 0, 0, part),
-                self.of_result_arms(arms.as_slice()),
-            ),
-            Res::Let(part, body) => dearer(
-                self.link(Form::Value, 0, 0, part),
-                self.link_result(Form::Body, 0, 1, body),
-            ),
-            Res::Raise(_, part) => match part {
-                None => end(),
-                Some(part) => self.link(Form::Carried, 0, 0, part),
-            },
-        }
-    }
-
-    fn of_outs(&self, outs: &'a [Option<Expr>]) -> Link<'a> {
-        let mut best = end();
-        let mut below: u64 = 0;
-        for i in 0..outs.len() {
-            if let Some(e) = &outs[i] {
-                best = dearer(best, self.link(Form::Output, i.saturating_add(1), below, e));
-                below = below.saturating_add(1);
+        Expr::Case(subject, _, arms) => {
+            if place == 0 {
+                Stage::Expression(slices::part(subject))
+            } else {
+                body_of(arms, place - 1)
             }
         }
-        best
-    }
-
-    fn of_result_arms(&self, arms: &'a [(PatC, Res)]) -> Link<'a> {
-        let mut best = end();
-        for i in 0..arms.len() {
-            let arm = &arms[i];
-            let below = variables(&arm.0).saturating_add(1);
-            best = dearer(
-                best,
-                self.link_result(Form::Alternative, i.saturating_add(1), below, &arm.1),
-            );
+        Expr::Call(function, parts) => {
+            if place == 0 {
+                Stage::Called(*function, slices::parts(parts).len())
+            } else {
+                one_of(parts, place - 1)
+            }
         }
-        best
+        Expr::Raise(_, Some(part)) => only(part, place),
+    }
+}
+
+fn one_of(parts: &List<Expr>, place: usize) -> Stage<'_> {
+    let parts = slices::parts(parts);
+    if place < parts.len() {
+        Stage::Expression(&parts[place])
+    } else {
+        Stage::Past
+    }
+}
+
+fn only(part: &Box<Expr>, place: usize) -> Stage<'_> {
+    if place == 0 {
+        Stage::Expression(slices::part(part))
+    } else {
+        Stage::Past
+    }
+}
+
+fn one_of_two<'a>(first: &'a Box<Expr>, second: &'a Box<Expr>, place: usize) -> Stage<'a> {
+    if place == 0 {
+        Stage::Expression(slices::part(first))
+    } else {
+        only(second, place - 1)
+    }
+}
+
+fn one_of_three<'a>(
+    first: &'a Box<Expr>,
+    second: &'a Box<Expr>,
+    third: &'a Box<Expr>,
+    place: usize,
+) -> Stage<'a> {
+    if place == 0 {
+        Stage::Expression(slices::part(first))
+    } else {
+        one_of_two(second, third, place - 1)
+    }
+}
+
+fn body_of(arms: &List<(PatC, Expr)>, place: usize) -> Stage<'_> {
+    let arms = slices::arms(arms);
+    if place < arms.len() {
+        Stage::Expression(&arms[place].1)
+    } else {
+        Stage::Past
+    }
+}
+
+fn role_in_expression(e: &Expr, place: usize) -> Role {
+    match e {
+        Expr::Con(_, _) | Expr::Tuple(_) | Expr::Vect(_) | Expr::Prim(_, _, _) => {
+            Role::in_row(Form::Part, place)
+        }
+        Expr::Index(_, _, _) | Expr::Update(_, _, _, _) => {
+            Role::of(form_in_vector(place), place as u64)
+        }
+        Expr::If(_, _, _) => Role::of(form_in_if(place), 0),
+        Expr::Case(_, _, arms) => {
+            if place == 0 {
+                Role::of(Form::Subject, 0)
+            } else {
+                Role::numbered(Form::Alternative, place, below_body(arms, place - 1))
+            }
+        }
+        Expr::Let(_, _) => Role::of(form_in_let(place), place as u64),
+        Expr::Call(function, _) => {
+            if place == 0 {
+                Role::numbered(Form::Call, *function as usize, 0)
+            } else {
+                Role::in_row(Form::Argument, place - 1)
+            }
+        }
+        Expr::Word(_) | Expr::Var(_) | Expr::Raise(_, _) => Role::of(Form::Carried, 0),
+    }
+}
+
+fn form_in_vector(place: usize) -> Form {
+    match place {
+        0 => Form::Vector,
+        1 => Form::Place,
+        _ => Form::Item,
+    }
+}
+
+fn form_in_if(place: usize) -> Form {
+    match place {
+        0 => Form::Test,
+        1 => Form::Then,
+        _ => Form::Else,
+    }
+}
+
+fn form_in_let(place: usize) -> Form {
+    if place == 0 { Form::Value } else { Form::Body }
+}
+
+// The words below the body of an alternative: what is matched, and the variables of the pattern.
+fn below_body(arms: &List<(PatC, Expr)>, place: usize) -> u64 {
+    let arms = slices::arms(arms);
+    if place < arms.len() {
+        variables(&arms[place].0).saturating_add(1)
+    } else {
+        0
+    }
+}
+
+fn part_of_result(res: &Res, place: usize) -> Stage<'_> {
+    match res {
+        Res::Outs(outs) => output_at(outs, place),
+        Res::If(test, when_true, when_false) => match place {
+            0 => Stage::Expression(test),
+            1 => Stage::Outcome(slices::result_part(when_true)),
+            2 => Stage::Outcome(slices::result_part(when_false)),
+            _ => Stage::Past,
+        },
+        Res::Case(subject, _, arms) => {
+            if place == 0 {
+                Stage::Expression(subject)
+            } else {
+                result_of(arms, place - 1)
+            }
+        }
+        Res::Let(value, body) => match place {
+            0 => Stage::Expression(value),
+            1 => Stage::Outcome(slices::result_part(body)),
+            _ => Stage::Past,
+        },
+        Res::Raise(_, None) => Stage::Past,
+        Res::Raise(_, Some(part)) => {
+            if place == 0 {
+                Stage::Expression(part)
+            } else {
+                Stage::Past
+            }
+        }
+    }
+}
+
+fn output_at(outs: &List<Option<Expr>>, place: usize) -> Stage<'_> {
+    let outs = slices::outputs(outs);
+    if place >= outs.len() {
+        return Stage::Past;
+    }
+    match &outs[place] {
+        None => Stage::Nothing,
+        Some(e) => Stage::Expression(e),
+    }
+}
+
+fn result_of(arms: &List<(PatC, Res)>, place: usize) -> Stage<'_> {
+    let arms = slices::result_arms(arms);
+    if place < arms.len() {
+        Stage::Outcome(&arms[place].1)
+    } else {
+        Stage::Past
+    }
+}
+
+fn role_in_result(res: &Res, place: usize) -> Role {
+    match res {
+        Res::Outs(outs) => {
+            Role::numbered(
+                Form::Output,
+                place.saturating_add(1),
+                outputs_before(outs, place),
+            )
+        }
+        Res::If(_, _, _) => Role::of(form_in_if(place), 0),
+        Res::Case(_, _, arms) => {
+            if place == 0 {
+                Role::of(Form::Subject, 0)
+            } else {
+                Role::numbered(Form::Alternative, place, below_result(arms, place - 1))
+            }
+        }
+        Res::Let(_, _) => Role::of(form_in_let(place), place as u64),
+        Res::Raise(_, _) => Role::of(Form::Carried, 0),
+    }
+}
+
+// How many outputs before that place get a value.
+fn outputs_before(outs: &List<Option<Expr>>, place: usize) -> u64 {
+    let outs = slices::outputs(outs);
+    let mut count: u64 = 0;
+    for i in 0..place.min(outs.len()) {
+        if let Some(_) = &outs[i] {
+            count = count.saturating_add(1);
+        }
+    }
+    count
+}
+
+fn below_result(arms: &List<(PatC, Res)>, place: usize) -> u64 {
+    let arms = slices::result_arms(arms);
+    if place < arms.len() {
+        variables(&arms[place].0).saturating_add(1)
+    } else {
+        0
     }
 }

@@ -2,7 +2,7 @@
 //! has such a constructor, and a literal has none.
 ghost use Rattle.std.specs.Prelude.{◌≤◌};
 
-use hume_base::{List, Shared, Ty, same_ty};
+use hume_base::{List, Shared, Ty, Types, same_ty};
 use hume_model::{Core, Forms, PatC};
 use std::alloc::{AllocError, Global};
 
@@ -46,6 +46,10 @@ impl<'a> Scope<'a> {
 
     pub(crate) fn has_failed(&self) -> bool {
         self.failed
+    }
+
+    pub(crate) fn types(&self) -> &'a Types {
+        &self.core.types
     }
 
     /// How many variables are in scope.
@@ -109,13 +113,19 @@ impl<'a> Scope<'a> {
         }
     }
 
-    /// A vector of such elements.
-    pub(crate) fn vector(&mut self, item: Known<'a>) -> Known<'a> {
+    // A vector of such elements.
+    fn vector(&mut self, item: Known<'a>) -> Known<'a> {
         let number = self.parts.len();
         if self.parts.push(item).is_err() {
             self.failed = true;
         }
         Known::Vector(number)
+    }
+
+    /// A vector of elements that are given as the parts of a tuple.
+    pub(crate) fn vector_of(&mut self, items: Known<'a>) -> Known<'a> {
+        let item = self.part_of(items, 0);
+        self.vector(item)
     }
 
     fn part(&self, number: usize) -> Known<'a> {

@@ -33,7 +33,7 @@ pub enum Cause {
 pub(crate) fn left_out_by(
     alloc: Global,
     guess: &mut Guess,
-    alternatives: Alternatives,
+    alternatives: &Alternatives,
     name: &[u8],
 ) -> Cause {
     let mut is_open = false;
@@ -58,7 +58,7 @@ pub(crate) fn left_out_by(
     Cause::Unknown
 }
 
-fn all_miss(guess: &mut Guess, alternatives: Alternatives) -> bool {
+fn all_miss(guess: &mut Guess, alternatives: &Alternatives) -> bool {
     for number in 0..alternatives.len() {
         if fits_all(guess, alternatives, number) {
             return false;
@@ -68,7 +68,7 @@ fn all_miss(guess: &mut Guess, alternatives: Alternatives) -> bool {
 }
 
 // Whether each parameter fits the alternative.
-fn fits_all(guess: &mut Guess, alternatives: Alternatives, number: usize) -> bool {
+fn fits_all(guess: &mut Guess, alternatives: &Alternatives, number: usize) -> bool {
     for parameter in 0..guess.parameters {
         let holds = match alternatives.pattern(number, parameter) {
             None => false,
@@ -82,7 +82,7 @@ fn fits_all(guess: &mut Guess, alternatives: Alternatives, number: usize) -> boo
 }
 
 // Which of them fits all values: one that nothing has to be chosen for.
-fn met_by(guess: &mut Guess, alternatives: Alternatives) -> Cause {
+fn met_by(guess: &mut Guess, alternatives: &Alternatives) -> Cause {
     for number in 0..alternatives.len() {
         guess.forget_choices();
         guess.begin_again();

@@ -29,6 +29,7 @@ mod net;
 mod pattern_counts;
 mod raised;
 mod result_bounds;
+mod slices;
 mod texts;
 
 pub use bounds::put_bounds;

@@ -7,6 +7,7 @@ ghost use Rattle.look_sources.specs.Pages.{Grows};
 
 use crate::bound::Bound;
 use crate::box_bounds::node_bounds;
+use crate::slices;
 use crate::texts::{put_type, put_value};
 use hume_model::{BoxC, Core, NodeC, PortC, StreamC, WireC};
 use look_sources::Page;
@@ -18,15 +19,27 @@ pub fn put_net(alloc: Global, core: &Core, page: &mut Page) -> Result<(), AllocE
 {
     let bounds = node_bounds(alloc, core)?;
     page.put(b"digraph \"net\" {\n  rankdir=\"LR\";\n");
-    for i in 0..core.nodes.len() {
-        let bound = bounds.get(i).copied().unwrap_or(Bound::nothing());
-        put_node(page, &core.nodes[i], bound);
-    }
-    for wire in core.wires.as_slice() {
-        put_wire(alloc, core, wire, page);
-    }
+    put_nodes(page, slices::nodes(core), bounds.as_slice());
+    put_wires(alloc, core, page);
     page.put(b"}\n");
     Ok(())
+}
+
+fn put_nodes(page: &mut Page, nodes: &[NodeC], bounds: &[Bound])
+    ensures { Grows page.old page.new }
+{
+    for i in 0..nodes.len().min(bounds.len()) {
+        put_node(page, &nodes[i], bounds[i]);
+    }
+}
+
+fn put_wires(alloc: Global, core: &Core, page: &mut Page)
+    ensures { Grows page.old page.new }
+{
+    let wires = slices::wires(core);
+    for w in 0..wires.len() {
+        put_wire(alloc, core, &wires[w], page);
+    }
 }
 
 fn put_node(page: &mut Page, node: &NodeC, bound: Bound)
@@ -118,20 +131,10 @@ fn put_escaped(page: &mut Page, bytes: &[u8])
 fn put_wire(alloc: Global, core: &Core, wire: &WireC, page: &mut Page)
     ensures { Grows page.old page.new }
 {
-    let nodes = core.nodes.as_slice();
-    page.put(b"  \"");
-    page.put(node_name(nodes, wire.from));
-    page.put(b"\" -> \"");
-    page.put(node_name(nodes, wire.to));
-    page.put(b"\" [");
-    put_attribute(page, b"from", output_name(nodes, wire));
-    put_attribute(page, b"to", input_name(nodes, wire));
-    let mut ty = Page::make(alloc);
-    put_type(&mut ty, &core.types, &wire.ty);
-    let mut initial = Page::make(alloc);
-    if let Some(value) = &wire.initial {
-        put_value(&mut initial, &core.types, &wire.ty, value);
-    }
+    let nodes = slices::nodes(core);
+    put_ends(page, nodes, wire);
+    let ty = type_of(alloc, core, wire);
+    let initial = initial_of(alloc, core, wire);
     put_attribute(page, b"type", ty.bytes());
     put_number(page, b"depth", u64::from(wire.depth));
     put_attribute(page, b"initial", initial.bytes());
@@ -139,6 +142,32 @@ fn put_wire(alloc: Global, core: &Core, wire: &WireC, page: &mut Page)
     page.put(b"label=\"");
     put_ports(page, output_name(nodes, wire), input_name(nodes, wire));
     put_wire_label(page, wire, &ty, &initial);
+}
+
+fn put_ends(page: &mut Page, nodes: &[NodeC], wire: &WireC)
+    ensures { Grows page.old page.new }
+{
+    page.put(b"  \"");
+    page.put(node_name(nodes, wire.from));
+    page.put(b"\" -> \"");
+    page.put(node_name(nodes, wire.to));
+    page.put(b"\" [");
+    put_attribute(page, b"from", output_name(nodes, wire));
+    put_attribute(page, b"to", input_name(nodes, wire));
+}
+
+fn type_of(alloc: Global, core: &Core, wire: &WireC) -> Page {
+    let mut ty = Page::make(alloc);
+    put_type(&mut ty, &core.types, &wire.ty);
+    ty
+}
+
+fn initial_of(alloc: Global, core: &Core, wire: &WireC) -> Page {
+    let mut initial = Page::make(alloc);
+    if let Some(value) = &wire.initial {
+        put_value(&mut initial, &core.types, &wire.ty, value);
+    }
+    initial
 }
 
 // Puts the names of output and input; a stream has none.
@@ -159,7 +188,15 @@ fn put_wire_label(page: &mut Page, wire: &WireC, ty: &Page, initial: &Page)
     put_depth(page, wire.depth);
     put_initial(page, initial);
     page.put(b"\"];\n");
-    if ty.has_failed() || initial.has_failed() {
+    fail_with(page, ty);
+    fail_with(page, initial);
+}
+
+// Where memory ran out for the other page, it did for this one.
+fn fail_with(page: &mut Page, other: &Page)
+    ensures { Grows page.old page.new }
+{
+    if other.has_failed() {
         page.fail();
     }
 }
@@ -184,33 +221,45 @@ fn put_initial(page: &mut Page, initial: &Page)
 
 /// The name of a node.
 pub(crate) fn node_name(nodes: &[NodeC], node: u32) -> &[u8] {
-    match nodes.get(node as usize) {
-        None => b"",
-        Some(NodeC::Rules(b)) => b.name.bytes(),
-        Some(NodeC::From(stream)) => stream.name.bytes(),
-        Some(NodeC::To(stream)) => stream.name.bytes(),
+    let node = node as usize;
+    if node >= nodes.len() {
+        return b"";
+    }
+    match &nodes[node] {
+        NodeC::Rules(b) => b.name.bytes(),
+        NodeC::From(stream) | NodeC::To(stream) => stream.name.bytes(),
     }
 }
 
 /// The name of the output from which a wire comes; nothing for a stream.
 pub(crate) fn output_name<'a>(nodes: &'a [NodeC], wire: &WireC) -> &'a [u8] {
-    match nodes.get(wire.from as usize) {
-        Some(NodeC::Rules(b)) => port_name(b.outs.as_slice(), wire.from_port),
+    let node = wire.from as usize;
+    if node >= nodes.len() {
+        return b"";
+    }
+    match &nodes[node] {
+        NodeC::Rules(b) => port_name(b.outs.as_slice(), wire.from_port),
         _ => b"",
     }
 }
 
 /// The name of the input to which a wire leads; nothing for a stream.
 pub(crate) fn input_name<'a>(nodes: &'a [NodeC], wire: &WireC) -> &'a [u8] {
-    match nodes.get(wire.to as usize) {
-        Some(NodeC::Rules(b)) => port_name(b.ins.as_slice(), wire.to_port),
+    let node = wire.to as usize;
+    if node >= nodes.len() {
+        return b"";
+    }
+    match &nodes[node] {
+        NodeC::Rules(b) => port_name(b.ins.as_slice(), wire.to_port),
         _ => b"",
     }
 }
 
 pub(crate) fn port_name(ports: &[PortC], place: u32) -> &[u8] {
-    match ports.get(place as usize) {
-        None => b"",
-        Some(port) => port.name.bytes(),
+    let place = place as usize;
+    if place < ports.len() {
+        ports[place].name.bytes()
+    } else {
+        b""
     }
 }

@@ -5,8 +5,9 @@ ghost use Rattle.hume_exceptions.specs.Sets.{IsRaisesOf};
 ghost use Rattle.look_cores.specs.Raised.{IsFirstOut, handler_lets_out, lets_out, node_lets_out, part_lets_out, rule_lets_out};
 
 use crate::broken::{Culprit, is_handled};
+use crate::slices;
 use hume_exceptions::{Raises, raises, result_may_raise};
-use hume_model::{BoxC, Core, HandC, NodeC};
+use hume_model::{BoxC, Core, NodeC};
 use look_sources::Sort;
 use std::alloc::{AllocError, Global};
 
@@ -76,17 +77,17 @@ pub(crate) fn raises_it(core: &Core, raised: &Raises, b: &BoxC, culprit: Culprit
     }
     let place = culprit.number.saturating_sub(1);
     match culprit.sort {
-        Sort::Handler => handler_raises(core, raised, b.handlers.as_slice(), place, exn),
+        Sort::Handler => handler_raises(core, raised, b, place, exn),
         _ => rule_raises(core, raised, b, place, exn),
     }
 }
 
-fn handler_raises(core: &Core, raised: &Raises, handlers: &[HandC], place: usize, exn: u32) -> bool
+fn handler_raises(core: &Core, raised: &Raises, b: &BoxC, place: usize, exn: u32) -> bool
     requires raises { IsRaisesOf core.now raised.now }
     requires known { exn < MAX_EXCEPTIONS }
-    ensures { result ≡ handler_lets_out core.now exn (slice_get handlers.now place) }
+    ensures { result ≡ handler_lets_out core.now exn (slice_get b.now.handlers place) }
 {
-    match handlers.get(place) {
+    match slices::handler_at(b, place) {
         None => false,
         Some(handler) => result_may_raise(core, raised, &handler.result).has(exn),
     }
@@ -97,11 +98,11 @@ fn rule_raises(core: &Core, raised: &Raises, b: &BoxC, place: usize, exn: u32) -
     requires known { exn < MAX_EXCEPTIONS }
     ensures { result ≡ rule_lets_out core.now b.now.handlers exn (slice_get b.now.rules place) }
 {
-    match b.rules.get(place) {
+    match slices::rule_at(b, place) {
         None => false,
         Some(rule) => {
             result_may_raise(core, raised, &rule.result).has(exn)
-                && !is_handled(b.handlers.as_slice(), exn)
+                && !is_handled(slices::handlers(b), exn)
         }
     }
 }

@@ -1,45 +1,52 @@
 //! The bounds of results, by those of functions.
 use crate::bound::{Bound, before, both, either, instructions, one_way, pushed, with_variables};
-use crate::expression_bounds::expression_bound;
+use crate::expression_bounds::{chosen, expression_bound};
 use crate::pattern_counts::{tests, variables};
+use crate::slices;
+use hume_base::{Box, List};
 use hume_model::{Expr, PatC, Res};
 
 #[cycle(result)]
 pub(crate) fn result_bound(called: &[Bound], res: &Res) -> Bound {
     match res {
-        Res::Outs(outs) => both(outs_bound(called, outs.as_slice()), instructions(1)),
+        Res::Outs(outs) => both(outs_bound(called, outs), instructions(1)),
         Res::If(test, when_true, when_false) => {
             let test = expression_bound(called, test);
-            let when_true = result_bound(called, when_true);
-            let when_false = result_bound(called, when_false);
-            both(test, both(instructions(1), either(when_true, when_false)))
+            let when_true = part_bound(called, when_true);
+            chosen(test, when_true, part_bound(called, when_false))
         }
         Res::Case(part, _, arms) => {
             let part = expression_bound(called, part);
-            before(part, arms_bound(called, arms.as_slice()))
+            before(part, arms_bound(called, arms))
         }
         Res::Let(part, body) => {
             let part = expression_bound(called, part);
-            before(part, result_bound(called, body))
+            before(part, part_bound(called, body))
         }
         Res::Raise(_, part) => raise_bound(called, part),
     }
 }
 
 #[cycle(result)]
-fn arms_bound(called: &[Bound], arms: &[(PatC, Res)]) -> Bound {
+fn part_bound(called: &[Bound], part: &Box<Res>) -> Bound {
+    result_bound(called, slices::result_part(part))
+}
+
+#[cycle(result)]
+fn arms_bound(called: &[Bound], arms: &List<(PatC, Res)>) -> Bound {
+    let arms = slices::result_arms(arms);
     let mut all_tests: u64 = 0;
     let mut taken = Bound::nothing();
     for i in 0..arms.len() {
-        let arm = &arms[i];
-        all_tests = all_tests.saturating_add(tests(&arm.0));
-        let branch = result_bound(called, &arm.1);
-        taken = either(taken, with_variables(variables(&arm.0), 0, branch));
+        all_tests = all_tests.saturating_add(tests(&arms[i].0));
+        let branch = result_bound(called, &arms[i].1);
+        taken = either(taken, with_variables(variables(&arms[i].0), 0, branch));
     }
     one_way(all_tests, taken)
 }
 
-fn outs_bound(called: &[Bound], outs: &[Option<Expr>]) -> Bound {
+fn outs_bound(called: &[Bound], outs: &List<Option<Expr>>) -> Bound {
+    let outs = slices::outputs(outs);
     let mut bound = Bound::nothing();
     for i in (0..outs.len()).rev() {
         if let Some(e) = &outs[i] {

@@ -7,6 +7,7 @@ ghost use Rattle.look_sources.specs.Pages.{Grows};
 use crate::names::is_given;
 use crate::reason::Reason;
 use crate::site::Site;
+use crate::slices;
 use hume_ast::{Decl, Program};
 use hume_base::limits::{MAX_LENGTH, MAX_PARTS, MAX_WIDTH, MAX_WIRE_DEPTH};
 use hume_base::{Keyword, Kind, Symbol, Text};
@@ -73,9 +74,19 @@ fn is_vector(site: &Site, token: usize) -> bool {
 
 // How many outputs the box has that the declaration declares.
 fn outputs_of(program: &Program, declaration: usize) -> Option<usize> {
-    match &program.decls.get(declaration)?.1 {
+    match declared(program, declaration)? {
         Decl::BoxD(_, _, outputs, _, _, _) => Some(outputs.len()),
         _ => None,
+    }
+}
+
+// The declaration of that number.
+fn declared(program: &Program, number: usize) -> Option<&Decl> {
+    let declarations = slices::declarations(program);
+    if number < declarations.len() {
+        Some(&declarations[number].1)
+    } else {
+        None
     }
 }
 
@@ -131,14 +142,19 @@ fn tell_depth(site: &Site, program: &Program, to: &Span, reason: &mut Reason)
     ensures head { reason.new.head ≡ reason.old.head }
     ensures note { Grows reason.old.note reason.new.note }
 {
-    let Some(decl) = program.decls.get(to.declaration) else {
-        return;
-    };
-    if let Decl::Wire(_, _, Some(depth), _) = &decl.1 {
-        if *depth == 0 || *depth > u64::from(MAX_WIRE_DEPTH) {
+    if let Some(depth) = depth_of(program, to.declaration) {
+        if depth == 0 || depth > u64::from(MAX_WIRE_DEPTH) {
             reason.here = Some(site.place(to.after.saturating_add(1)));
             put_range(b"  a depth is 1 to ", u64::from(MAX_WIRE_DEPTH), reason);
         }
+    }
+}
+
+// The depth that the declaration gives a wire.
+fn depth_of(program: &Program, declaration: usize) -> Option<u64> {
+    match declared(program, declaration)? {
+        Decl::Wire(_, _, depth, _) => *depth,
+        _ => None,
     }
 }
 
@@ -226,20 +242,20 @@ fn wanted_parts(site: &Site, program: &Program, span: &Span) -> Option<usize> {
         let name = site.name(span.first);
         return declared_parts(program, name).or(if is_given(name) { Some(0) } else { None });
     }
-    let Some(decl) = program.decls.get(span.declaration) else {
-        return None;
-    };
-    match (&decl.1, span.sort) {
-        (Decl::BoxD(_, inputs, _, _, _, _), Sort::Rule) => Some(inputs.len()),
-        (Decl::Fun(_, types, _), Sort::Equation) => Some(types.len().saturating_sub(1)),
+    match declared(program, span.declaration)? {
+        Decl::BoxD(_, inputs, _, _, _, _) if span.sort == Sort::Rule => Some(inputs.len()),
+        Decl::Fun(_, types, _) if span.sort == Sort::Equation => {
+            Some(types.len().saturating_sub(1))
+        }
         _ => None,
     }
 }
 
 // How many arguments the function, constructor or exception of that name takes.
 fn declared_parts(program: &Program, name: &[u8]) -> Option<usize> {
-    for decl in program.decls.as_slice() {
-        let parts = parts_of(&decl.1, name);
+    let declarations = slices::declarations(program);
+    for i in 0..declarations.len() {
+        let parts = parts_of(&declarations[i].1, name);
         if parts.is_some() {
             return parts;
         }

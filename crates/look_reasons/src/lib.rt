@@ -22,6 +22,7 @@ mod reason;
 mod resolved;
 mod sentences;
 mod site;
+mod slices;
 mod types;
 mod unknown;
 mod words;

@@ -12,6 +12,7 @@ use Rattle.run_log.specs.declared.half.Half.{Half}
 use Rattle.run_log.specs.declared.half.Half.TheVariants.{Mid, End}
 use Rattle.run_log.specs.declared.net.Net.{Net}
 use Rattle.run_log.specs.declared.log_run.LogRun.{LogRun}
+use Rattle.run_log.specs.Halves.{half_behind, superstep_behind}
 use Rattle.run_log.specs.Logs.{block}
 use Rattle.run_log.specs.Nets.{engine_in, half_in, net_or_none}
 
@@ -51,11 +52,16 @@ abbrev pub forgotten : Core → State → State
 forgotten core state =
     record state { taken = numbered (length state.taken) (λ node. remembered (slice_get core.nodes node) (part_of state node).taken) }
 
+-- The state after the half behind one of these: output streams forget what they took and all nodes make their execute steps, or all make their super steps.
+abbrev pub state_behind : Core → State → Half → State
+state_behind core state End = mid core (forgotten core state)
+state_behind core state Mid = up core state
+
 -- after the half that follows one of these
 abbrev pub after_half : Core → ℕ → State → Half → Moment
-after_half core superstep state End = record { half = Mid; superstep = superstep + 1; state = mid core (forgotten core state) }
-after_half core superstep state Mid = record { half = End; superstep = superstep; state = up core state }
+after_half core superstep state half =
+    record { half = half_behind half; superstep = superstep_behind superstep half; state = state_behind core state half }
 
--- The next half: output streams forget what they took and all nodes make their execute steps, or all make their super steps.
+-- the next half
 abbrev pub next_half : Core → Moment → Moment
 next_half core moment = after_half core moment.superstep moment.state moment.half

@@ -23,7 +23,7 @@ ghost use Rattle.run_log.specs.Nets.{engine_in, net_or_none};
 
 use crate::comparing::compare_block;
 use crate::fault::LogFault;
-use crate::forgetting::execute;
+use crate::half::superstep_behind;
 use crate::net::Net;
 use crate::writing::write_block;
 use box_code::BoxProgram;
@@ -136,12 +136,11 @@ impl LogRun {
         ensures queues { (n : ℕ) → queue_at (engine_of self.new) n ≡ queue_at (engine_of self.old) n }
     {
         match self.net.take() {
-            Some(Net::Whole(engine)) => {
-                self.superstep += 1;
-                self.net = Some(Net::Midst(execute(engine)));
-            }
-            Some(Net::Midst(halfway)) => self.net = Some(Net::Whole(halfway.super_step())),
             None => unreachable!(),
+            Some(net) => {
+                self.superstep = superstep_behind(self.superstep, net.half());
+                let _ = self.net.insert(net.next());
+            }
         }
     }
 

@@ -13,30 +13,31 @@ fn int8() -> CType {
 }
 
 // The operation on the variable `n` and a number.
-fn of_n(alloc: Global, operator: COp, number: u64) -> Result<CExp, AllocError> {
-    let n = CExp::Name(Text::from_bytes(alloc, b"n")?);
-    let number = CExp::Signed(Width::W8, false, number);
-    Ok(CExp::Binary(operator, Box::new(alloc, n)?, Box::new(alloc, number)?))
+fn of_n(alloc: Global, operator: COp, number: u64) -> Result<Box<CExp>, AllocError> {
+    let n = Box::new(alloc, CExp::Name(Text::from_bytes(alloc, b"n")?))?;
+    let number = Box::new(alloc, CExp::Signed(Width::W8, false, number))?;
+    Box::new(alloc, CExp::Binary(operator, n, number))
 }
 
-fn is_even(alloc: Global) -> Result<CExp, AllocError> {
-    let rest = Box::new(alloc, of_n(alloc, COp::Remainder, 2)?)?;
+fn is_even(alloc: Global) -> Result<Box<CExp>, AllocError> {
+    let rest = of_n(alloc, COp::Remainder, 2)?;
     let zero = Box::new(alloc, CExp::Signed(Width::W8, false, 0))?;
-    Ok(CExp::Binary(COp::Equal, rest, zero))
+    Box::new(alloc, CExp::Binary(COp::Equal, rest, zero))
 }
 
-fn halved(alloc: Global) -> Result<CExp, AllocError> {
-    let half = Box::new(alloc, of_n(alloc, COp::Divide, 2)?)?;
-    Ok(CExp::Cast(int8(), half))
+fn halved(alloc: Global) -> Result<Box<CExp>, AllocError> {
+    let half = of_n(alloc, COp::Divide, 2)?;
+    Box::new(alloc, CExp::Cast(int8(), half))
 }
 
-fn giving(alloc: Global, value: CExp) -> Result<List<CStm>, AllocError> {
+fn giving(alloc: Global, value: Box<CExp>) -> Result<List<CStm>, AllocError> {
     List::of_one(alloc, CStm::Return(Some(value)))
 }
 
 fn body(alloc: Global) -> Result<CStm, AllocError> {
     let half = giving(alloc, halved(alloc)?)?;
-    let none = giving(alloc, CExp::Signed(Width::W8, true, 1))?;
+    let minus_one = Box::new(alloc, CExp::Signed(Width::W8, true, 1))?;
+    let none = giving(alloc, minus_one)?;
     Ok(CStm::If(is_even(alloc)?, half, List::new(alloc), none))
 }
 

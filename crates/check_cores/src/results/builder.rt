@@ -4,21 +4,21 @@ ghost use Rattle.check_cores.specs.results.Stacks.{top_result};
 
 use crate::Stack;
 use crate::results::{forms, gather};
-use hume_base::{Shared, Ty};
+use hume_base::{Box, Shared, Ty};
 use hume_model::PatC;
 use std::alloc::{AllocError, Global};
 use std::marker::Model;
 use typed_core::{TypedExpr, TypedResult};
 
 /// An alternative: its pattern and its result, each with whether a literal in it is out of range.
-pub(crate) type ResultArm = ((PatC, bool), (TypedResult, bool));
+pub(crate) type ResultArm = ((PatC, bool), (Box<TypedResult>, bool));
 
 /// Cores of results, of outputs and of alternatives that wait to become parts of larger ones. What finds too few of them is
 /// answered with want of memory.
 #[derive(Drop)]
 pub struct ResultBuilder {
-    results: Stack<(TypedResult, bool)>,
-    outputs: Stack<(Option<TypedExpr>, bool)>,
+    results: Stack<(Box<TypedResult>, bool)>,
+    outputs: Stack<(Option<Box<TypedExpr>>, bool)>,
     arms: Stack<ResultArm>,
 }
 
@@ -58,7 +58,7 @@ impl ResultBuilder {
     }
 
     /// An output of the core.
-    pub fn value(&mut self, core: (TypedExpr, bool)) -> Result<(), AllocError>
+    pub fn value(&mut self, core: (Box<TypedExpr>, bool)) -> Result<(), AllocError>
         ensures { OnOk result (self.new ≡ (self.old.0, value_out core ∷ self.old.1, self.old.2)) }
     {
         let (core, too_wide) = core;
@@ -70,8 +70,12 @@ impl ResultBuilder {
         ensures { OnOk result (self.new ≡ (outs_core (reverse (take count self.old.1)) ∷ self.old.0, drop count self.old.1, self.old.2)) }
     {
         let (outputs, too_wide) = gather::outputs(alloc, &mut self.outputs, count)?;
-        self.results.push((TypedResult::Outs(outputs), too_wide))?;
-        Ok(())
+        forms::put(
+            alloc,
+            &mut self.results,
+            TypedResult::Outs(outputs),
+            too_wide,
+        )
     }
 
     /// A `let` of the core, which has the type, and the last result.
@@ -79,7 +83,7 @@ impl ResultBuilder {
         &mut self,
         alloc: Global,
         of: Shared<Ty>,
-        part: (TypedExpr, bool),
+        part: (Box<TypedExpr>, bool),
     ) -> Result<(), AllocError>
         ensures { OnOk result (self.new ≡ (let_result_core of part (top_result self.old.0) ∷ drop 1 self.old.0, self.old.1, self.old.2)) }
     {
@@ -87,7 +91,11 @@ impl ResultBuilder {
     }
 
     /// An `if` of the core and the last two results.
-    pub fn branches(&mut self, alloc: Global, test: (TypedExpr, bool)) -> Result<(), AllocError>
+    pub fn branches(
+        &mut self,
+        alloc: Global,
+        test: (Box<TypedExpr>, bool),
+    ) -> Result<(), AllocError>
         ensures { OnOk result (self.new ≡ (
           if_result_core test (top_result (drop 1 self.old.0)) (top_result self.old.0)
               ∷ drop 2 self.old.0,
@@ -102,27 +110,30 @@ impl ResultBuilder {
     pub fn raise(&mut self, exn: u32) -> Result<(), AllocError>
         ensures { OnOk result (self.new ≡ (raise_result_core exn ∷ self.old.0, self.old.1, self.old.2)) }
     {
-        self.results.push((TypedResult::Raise(exn, None), false))?;
-        Ok(())
+        let alloc = self.results.alloc();
+        forms::put(
+            alloc,
+            &mut self.results,
+            TypedResult::Raise(exn, None),
+            false,
+        )
     }
 
     /// An exception that carries the core.
-    pub fn raise_with(&mut self, exn: u32, part: (TypedExpr, bool)) -> Result<(), AllocError>
+    pub fn raise_with(&mut self, exn: u32, part: (Box<TypedExpr>, bool)) -> Result<(), AllocError>
         ensures { OnOk result (self.new ≡ (raise_with_result_core exn part ∷ self.old.0, self.old.1, self.old.2)) }
     {
         let (part, too_wide) = part;
-        self.results
-            .push((TypedResult::Raise(exn, Some(part)), too_wide))?;
-        Ok(())
+        let alloc = self.results.alloc();
+        let raise = TypedResult::Raise(exn, Some(part.into_inner()));
+        forms::put(alloc, &mut self.results, raise, too_wide)
     }
 
     /// An alternative of the pattern and the last result.
     pub fn arm(&mut self, pattern: (PatC, bool)) -> Result<(), AllocError>
         ensures { OnOk result (self.new ≡ (drop 1 self.old.0, self.old.1, (pattern, top_result self.old.0) ∷ self.old.2)) }
     {
-        let Some(body) = self.results.pop() else {
-            return Err(AllocError);
-        };
+        let body = forms::last(&mut self.results)?;
         self.arms.push((pattern, body))
     }
 
@@ -131,25 +142,22 @@ impl ResultBuilder {
         &mut self,
         alloc: Global,
         of: Shared<Ty>,
-        part: (TypedExpr, bool),
+        part: (Box<TypedExpr>, bool),
         count: usize,
     ) -> Result<(), AllocError>
         ensures { OnOk result (self.new ≡ (case_result_core of part (reverse (take count self.old.2)) ∷ self.old.0, self.old.1, drop count self.old.2)) }
     {
         let (part, too_wide) = part;
         let (arms, some_too_wide) = gather::arms(alloc, &mut self.arms, count)?;
-        self.results.push((TypedResult::Case(of, part, arms), too_wide || some_too_wide))?;
-        Ok(())
+        let case = TypedResult::Case(of, part.into_inner(), arms);
+        forms::put(alloc, &mut self.results, case, too_wide || some_too_wide)
     }
 
     /// Takes the last result out.
-    pub fn take_result(&mut self) -> Result<(TypedResult, bool), AllocError>
+    pub fn take_result(&mut self) -> Result<(Box<TypedResult>, bool), AllocError>
         ensures taken { IfOk result (λ taken. taken ≡ top_result self.old.0) }
         ensures left { OnOk result (self.new ≡ (drop 1 self.old.0, self.old.1, self.old.2)) }
     {
-        match self.results.pop() {
-            None => Err(AllocError),
-            Some(taken) => Ok(taken),
-        }
+        forms::last(&mut self.results)
     }
 }

@@ -5,7 +5,7 @@ ghost use Rattle.check_typing.specs.Results.{result_arm_cores};
 
 use crate::Stack;
 use crate::results::builder::ResultArm;
-use hume_base::List;
+use hume_base::{Box, List};
 use hume_model::PatC;
 use std::alloc::{AllocError, Global};
 use typed_core::{TypedExpr, TypedResult};
@@ -13,7 +13,7 @@ use typed_core::{TypedExpr, TypedResult};
 /// The last outputs as one list, and whether a literal in one of them is out of range.
 pub(crate) fn outputs(
     alloc: Global,
-    stack: &mut Stack<(Option<TypedExpr>, bool)>,
+    stack: &mut Stack<(Option<Box<TypedExpr>>, bool)>,
     count: usize,
 ) -> Result<(List<Option<TypedExpr>>, bool), AllocError>
     ensures gathered { IfOk result (λ all. all ≡ (
@@ -29,17 +29,26 @@ pub(crate) fn outputs(
 
 fn apart(
     alloc: Global,
-    items: Vec<(Option<TypedExpr>, bool)>,
+    items: Vec<(Option<Box<TypedExpr>>, bool)>,
 ) -> Result<(List<Option<TypedExpr>>, bool), AllocError>
     ensures { IfOk result (λ all. all ≡ (map (λ out. out.0) items.items, list_any (λ out. out.1) items.items)) }
 {
     let mut outputs = List::new(alloc);
     let mut some_too_wide = false;
     for (output, too_wide) in items {
-        outputs.push(output)?;
+        outputs.push(unboxed(output))?;
         some_too_wide = some_too_wide || too_wide;
     }
     Ok((outputs, some_too_wide))
+}
+
+fn unboxed(output: Option<Box<TypedExpr>>) -> Option<TypedExpr>
+    ensures { result ≡ output }
+{
+    match output {
+        None => None,
+        Some(output) => Some(output.into_inner()),
+    }
 }
 
 /// The last alternatives as one list, and whether a literal in one of them is out of range.
@@ -68,7 +77,7 @@ fn arms_apart(
     let mut arms = List::new(alloc);
     let mut some_too_wide = false;
     for ((pattern, pattern_wide), (body, body_wide)) in items {
-        arms.push((pattern, body))?;
+        arms.push((pattern, body.into_inner()))?;
         some_too_wide = some_too_wide || (pattern_wide || body_wide);
     }
     Ok((arms, some_too_wide))

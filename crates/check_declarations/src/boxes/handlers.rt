@@ -51,6 +51,7 @@ fn handler_core<'a>(
     let (exn, bound) = check_handler(alloc, at, handler)?;
     at.plain.environment.leave(count);
     let (result, too_wide) = at.take_result()?;
+    let result = result.into_inner();
     Ok((TypedHandler { exn, bound, result }, too_wide))
 }
 

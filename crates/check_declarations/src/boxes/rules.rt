@@ -49,6 +49,7 @@ fn rule_core<'a>(
     let (pats, some_too_wide) = check_rule(alloc, at, pats, e)?;
     at.plain.environment.leave(count);
     let (result, too_wide) = at.take_result()?;
+    let result = result.into_inner();
     Ok((TypedRule { pats, result }, some_too_wide || too_wide))
 }
 

@@ -48,6 +48,7 @@ fn equation_core<'a>(
     at.environment.leave(count);
     let (body, body_too_wide) = at.builder.take_core()?;
     let (pats, pats_too_wide) = at.builder.take_patterns(alloc, patterns.len())?;
+    let body = body.into_inner();
     Ok((TypedEquation { pats, body }, pats_too_wide || body_too_wide))
 }
 

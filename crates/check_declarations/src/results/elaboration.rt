@@ -6,6 +6,7 @@ ghost use Rattle.check_tasks.specs.results.ResultTasks.{last_outputs};
 use check_cores::results::ResultBuilder;
 use check_expressions::Elaboration;
 use check_scopes::types::Shape;
+use hume_base::Box;
 use std::alloc::{AllocError, Global};
 use std::marker::Model;
 use typed_core::TypedResult;
@@ -51,7 +52,7 @@ impl<'a> ResultElaboration<'a> {
     }
 
     /// Takes the last result out.
-    pub(crate) fn take_result(&mut self) -> Result<(TypedResult, bool), AllocError>
+    pub(crate) fn take_result(&mut self) -> Result<(Box<TypedResult>, bool), AllocError>
         ensures taken { IfOk result (λ taken. taken ≡ top_result self.old.1) }
         ensures left { OnOk result (self.new ≡ (self.old.0, drop 1 self.old.1, self.old.2, self.old.3)) }
     {

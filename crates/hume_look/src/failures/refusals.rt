@@ -4,12 +4,13 @@ ghost use Rattle.hume_model.specs.WellFormed.{HasSoundFrame};
 ghost use Rattle.hume_front.specs.Accepted.{IsSound};
 
 use crate::failures::programs::{programs_of, text_of_source};
+use crate::sources::refusal_of;
 use crate::why::put_why;
 use box_calculus::{MAX_SCRIPT_BYTES, ScriptError, run_script};
 use calculus_laws::CalcError;
 use hume_base::{Refusal, Rule};
 use hume_exceptions::raises;
-use hume_front::{FrontError, Sound, accept, check_source};
+use hume_front::{FrontError, Sound, check_source};
 use hume_model::Core;
 use look_sources::Page;
 use look_told::{Call, Disk, Kind, put_head, put_unfit_port, sentence_of_line, text_of_file};
@@ -57,7 +58,7 @@ fn put_reason_of_look<D: Disk>(
         return Ok(());
     }
     if let Some(text) = text_of_source(disk, alloc, source)? {
-        if let Err(FrontError::Refused(refusal)) = accept(alloc, text.as_slice()) {
+        if let Ok(Some(refusal)) = refusal_of(alloc, text.as_slice()) {
             put_first_of_why(alloc, source, text.as_slice(), refusal, page)?;
         }
     }
@@ -92,10 +93,9 @@ fn put_of_source<D: Disk>(
     let Some(text) = text_of_source(disk, alloc, source)? else {
         return Ok(false);
     };
-    match accept(alloc, text.as_slice()) {
-        Ok(_) => Ok(false),
-        Err(FrontError::NoMemory) => Err(AllocError),
-        Err(FrontError::Refused(refusal)) => {
+    match refusal_of(alloc, text.as_slice())? {
+        None => Ok(false),
+        Some(refusal) => {
             put_line(source, refusal, page);
             if on_terminal {
                 put_first_of_why(alloc, source, text.as_slice(), refusal, page)?;

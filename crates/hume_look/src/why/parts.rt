@@ -1,5 +1,6 @@
 //! Which parts break rules on names, counts and types: of the first declaration that does, and of each later one that does so by
 //! itself.
+use crate::sources::refusal_of;
 use crate::why::blank::blank;
 use crate::why::fitting::tell_types;
 use crate::why::marks::{has_fresh_names, marked};
@@ -8,7 +9,6 @@ use crate::why::trying::Trying;
 use crate::why::wrong::wrong_parts;
 use hume_ast::Program;
 use hume_base::{Refusal, Rule};
-use hume_front::{FrontError, accept};
 use look_reasons::{
     Reason, Resolved, Site, tell_counts, tell_miscounted, tell_repeated, tell_unknown,
 };
@@ -84,10 +84,9 @@ fn next_refusal(
     text: &[u8],
     before: Refusal,
 ) -> Result<Option<Refusal>, AllocError> {
-    match accept(alloc, text) {
-        Ok(_) => Ok(None),
-        Err(FrontError::NoMemory) => Err(AllocError),
-        Err(FrontError::Refused(refusal)) => {
+    match refusal_of(alloc, text)? {
+        None => Ok(None),
+        Some(refusal) => {
             let goes_on = refusal.rule.phase() == before.rule.phase() && refusal.line > before.line;
             Ok(if goes_on { Some(refusal) } else { None })
         }

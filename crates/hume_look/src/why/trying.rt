@@ -1,7 +1,7 @@
 //! A source of which parts are put away, checked again.
+use crate::sources::refusal_of;
 use crate::why::marks::{Mark, all_kept, marked};
 use hume_base::Refusal;
-use hume_front::{FrontError, accept};
 use look_reasons::Site;
 use std::alloc::{AllocError, Global};
 
@@ -42,10 +42,9 @@ impl Trying {
             return Ok(false);
         }
         self.left = self.left.saturating_sub(text.len());
-        match accept(alloc, text) {
-            Ok(_) => Ok(true),
-            Err(FrontError::NoMemory) => Err(AllocError),
-            Err(FrontError::Refused(refusal)) => Ok(comes_after(refusal, site.refusal)),
+        match refusal_of(alloc, text)? {
+            None => Ok(true),
+            Some(refusal) => Ok(comes_after(refusal, site.refusal)),
         }
     }
 

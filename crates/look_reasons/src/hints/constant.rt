@@ -5,6 +5,7 @@ ghost use Rattle.look_sources.specs.Pages.{Grows};
 
 use crate::hints::parts::Parts;
 use crate::hints::verdicts::{Verdicts, gather, gather_of_result};
+use crate::slices;
 use hume_model::{BoxC, Core, FunC, NodeC};
 use look_sources::{Page, Sort, Span};
 use std::alloc::{AllocError, Global};
@@ -21,8 +22,19 @@ pub(crate) fn put_constant(
     for function in core.funs.as_slice() {
         put_of_function(alloc, parts, function, page)?;
     }
-    for node in core.nodes.as_slice() {
-        let NodeC::Rules(b) = node else {
+    put_of_boxes(alloc, parts, slices::nodes(core), page)
+}
+
+fn put_of_boxes(
+    alloc: Global,
+    parts: &Parts,
+    nodes: &[NodeC],
+    page: &mut Page,
+) -> Result<(), AllocError>
+    ensures { Grows page.old page.new }
+{
+    for n in 0..nodes.len() {
+        let NodeC::Rules(b) = &nodes[n] else {
             continue;
         };
         put_of_box(alloc, parts, b, page)?;
@@ -54,9 +66,7 @@ fn put_of_box(alloc: Global, parts: &Parts, b: &BoxC, page: &mut Page) -> Result
     ensures { Grows page.old page.new }
 {
     let mut verdicts = Verdicts::make(alloc);
-    for rule in b.rules.as_slice() {
-        gather_of_result(&mut verdicts, &rule.result);
-    }
+    gather_of_rules(&mut verdicts, b);
     gather_of_handlers(&mut verdicts, b);
     let answers = verdicts.finish()?;
     let Some(name) = parts.node(b.name.bytes()) else {
@@ -66,9 +76,17 @@ fn put_of_box(alloc: Global, parts: &Parts, b: &BoxC, page: &mut Page) -> Result
     Ok(())
 }
 
+fn gather_of_rules(verdicts: &mut Verdicts, b: &BoxC) {
+    let rules = slices::rules(b);
+    for i in 0..rules.len() {
+        gather_of_result(verdicts, &rules[i].result);
+    }
+}
+
 fn gather_of_handlers(verdicts: &mut Verdicts, b: &BoxC) {
-    for handler in b.handlers.as_slice() {
-        gather_of_result(verdicts, &handler.result);
+    let handlers = slices::handlers(b);
+    for i in 0..handlers.len() {
+        gather_of_result(verdicts, &handlers[i].result);
     }
 }
 

@@ -6,7 +6,8 @@ ghost use Rattle.look_sources.specs.Pages.{Grows};
 use crate::hints::outputs::ends_with;
 use crate::hints::parts::Parts;
 use crate::hints::waiting::needs;
-use hume_model::{BoxC, Core, NodeC, Res, WireC};
+use crate::slices;
+use hume_model::{BoxC, Core, NodeC, Res, RuleC, WireC};
 use look_sources::{Page, Sort};
 
 /// Puts a warning on each rule and handler that puts nothing on an output of the box that alone feeds an input of it which every rule
@@ -14,8 +15,9 @@ use look_sources::{Page, Sort};
 pub(crate) fn put_lost(parts: &Parts, core: &Core, page: &mut Page)
     ensures { Grows page.old page.new }
 {
-    for n in 0..core.nodes.len() {
-        let NodeC::Rules(b) = &core.nodes[n] else {
+    let nodes = slices::nodes(core);
+    for n in 0..nodes.len() {
+        let NodeC::Rules(b) = &nodes[n] else {
             continue;
         };
         put_lost_of(parts, core, n, b, page);
@@ -25,12 +27,13 @@ pub(crate) fn put_lost(parts: &Parts, core: &Core, page: &mut Page)
 fn put_lost_of(parts: &Parts, core: &Core, node: usize, b: &BoxC, page: &mut Page)
     ensures { Grows page.old page.new }
 {
-    for wire in core.wires.as_slice() {
-        if !keeps_state(wire, node) || !all_need(b, wire.to_port as usize) {
+    let wires = slices::wires(core);
+    for w in 0..wires.len() {
+        if !keeps_state(&wires[w], node) || !all_need(b, wires[w].to_port as usize) {
             continue;
         }
-        put_of_rules(parts, b, wire, page);
-        put_of_handlers(parts, b, wire, page);
+        put_of_rules(parts, b, &wires[w], page);
+        put_of_handlers(parts, b, &wires[w], page);
     }
 }
 
@@ -40,20 +43,28 @@ fn keeps_state(wire: &WireC, node: usize) -> bool {
 }
 
 fn all_need(b: &BoxC, input: usize) -> bool {
-    for rule in b.rules.as_slice() {
-        match rule.pats.get(input) {
-            Some(pattern) if needs(pattern) => {}
-            _ => return false,
+    let rules = slices::rules(b);
+    for i in 0..rules.len() {
+        if !does_need(&rules[i], input) {
+            return false;
         }
     }
     true
 }
 
+fn does_need(rule: &RuleC, input: usize) -> bool {
+    match rule.pats.get(input) {
+        None => false,
+        Some(pattern) => needs(pattern),
+    }
+}
+
 fn put_of_rules(parts: &Parts, b: &BoxC, wire: &WireC, page: &mut Page)
     ensures { Grows page.old page.new }
 {
-    for i in 0..b.rules.len() {
-        if !loses(&b.rules[i].result, wire) {
+    let rules = slices::rules(b);
+    for i in 0..rules.len() {
+        if !loses(&rules[i].result, wire) {
             continue;
         }
         put_of_part(parts, b, Sort::Rule, i, wire, page);
@@ -63,8 +74,9 @@ fn put_of_rules(parts: &Parts, b: &BoxC, wire: &WireC, page: &mut Page)
 fn put_of_handlers(parts: &Parts, b: &BoxC, wire: &WireC, page: &mut Page)
     ensures { Grows page.old page.new }
 {
-    for i in 0..b.handlers.len() {
-        if !loses(&b.handlers[i].result, wire) {
+    let handlers = slices::handlers(b);
+    for i in 0..handlers.len() {
+        if !loses(&handlers[i].result, wire) {
             continue;
         }
         put_of_part(parts, b, Sort::Handler, i, wire, page);

@@ -4,6 +4,8 @@
 ghost use Rattle.look_sources.specs.Pages.{Grows};
 
 use crate::hints::parts::Parts;
+use crate::slices;
+use hume_base::List;
 use hume_model::{BoxC, Core, Expr, NodeC, PatC, Res};
 use look_sources::{Page, Sort};
 
@@ -11,8 +13,9 @@ use look_sources::{Page, Sort};
 pub(crate) fn put_outputs(parts: &Parts, core: &Core, page: &mut Page)
     ensures { Grows page.old page.new }
 {
-    for node in core.nodes.as_slice() {
-        let NodeC::Rules(b) = node else {
+    let nodes = slices::nodes(core);
+    for n in 0..nodes.len() {
+        let NodeC::Rules(b) = &nodes[n] else {
             continue;
         };
         if !is_one_written(b) {
@@ -43,13 +46,23 @@ fn put_outputs_of(parts: &Parts, b: &BoxC, page: &mut Page)
 }
 
 fn is_written(b: &BoxC, output: usize) -> bool {
-    for rule in b.rules.as_slice() {
-        if ends_with(&rule.result, output, true) {
+    is_written_by_rules(b, output) || is_written_by_handlers(b, output)
+}
+
+fn is_written_by_rules(b: &BoxC, output: usize) -> bool {
+    let rules = slices::rules(b);
+    for i in 0..rules.len() {
+        if ends_with(&rules[i].result, output, true) {
             return true;
         }
     }
-    for handler in b.handlers.as_slice() {
-        if ends_with(&handler.result, output, true) {
+    false
+}
+
+fn is_written_by_handlers(b: &BoxC, output: usize) -> bool {
+    let handlers = slices::handlers(b);
+    for i in 0..handlers.len() {
+        if ends_with(&handlers[i].result, output, true) {
             return true;
         }
     }
@@ -60,20 +73,21 @@ fn is_written(b: &BoxC, output: usize) -> bool {
 #[cycle(ends_with)]
 pub(super) fn ends_with(res: &Res, output: usize, is_wanted: bool) -> bool {
     match res {
-        Res::Outs(outs) => gives(outs.as_slice(), output) == is_wanted,
+        Res::Outs(outs) => gives(slices::outputs(outs), output) == is_wanted,
         Res::If(_, when_true, when_false) => {
-            let first = ends_with(when_true, output, is_wanted);
-            let second = ends_with(when_false, output, is_wanted);
-            first || second
+            let first = ends_with(slices::result_part(when_true), output, is_wanted);
+            let second = ends_with(slices::result_part(when_false), output, is_wanted);
+            first | second
         }
-        Res::Case(_, _, arms) => arms_end_with(arms.as_slice(), output, is_wanted),
-        Res::Let(_, body) => ends_with(body, output, is_wanted),
+        Res::Case(_, _, arms) => arms_end_with(arms, output, is_wanted),
+        Res::Let(_, body) => ends_with(slices::result_part(body), output, is_wanted),
         Res::Raise(_, _) => false,
     }
 }
 
 #[cycle(ends_with)]
-fn arms_end_with(arms: &[(PatC, Res)], output: usize, is_wanted: bool) -> bool {
+fn arms_end_with(arms: &List<(PatC, Res)>, output: usize, is_wanted: bool) -> bool {
+    let arms = slices::result_arms(arms);
     for i in 0..arms.len() {
         if ends_with(&arms[i].1, output, is_wanted) {
             return true;
@@ -83,9 +97,12 @@ fn arms_end_with(arms: &[(PatC, Res)], output: usize, is_wanted: bool) -> bool {
 }
 
 fn gives(outs: &[Option<Expr>], output: usize) -> bool {
-    match outs.get(output) {
-        Some(Some(_)) => true,
-        _ => false,
+    if output >= outs.len() {
+        return false;
+    }
+    match &outs[output] {
+        Some(_) => true,
+        None => false,
     }
 }
 

@@ -1,6 +1,7 @@
 //! What the comparisons of an expression or a result give by the types of their operands alone.
 use crate::ranges::spare_bits;
-use hume_base::{Ty, int_of_word};
+use crate::slices;
+use hume_base::{Box, List, Ty, int_of_word};
 use hume_model::{Expr, Op, PatC, Res};
 use std::alloc::{AllocError, Global};
 
@@ -39,34 +40,35 @@ fn is_comparison(op: Op) -> bool {
 #[cycle(gather_of_result)]
 pub(super) fn gather_of_result(verdicts: &mut Verdicts, res: &Res) {
     match res {
-        Res::Outs(outs) => gather_outputs(verdicts, outs.as_slice()),
+        Res::Outs(outs) => gather_outputs(verdicts, slices::outputs(outs)),
         Res::If(test, when_true, when_false) => {
             gather(verdicts, test);
-            gather_of_result(verdicts, when_true);
-            gather_of_result(verdicts, when_false);
+            gather_of_result(verdicts, slices::result_part(when_true));
+            gather_of_result(verdicts, slices::result_part(when_false));
         }
         Res::Case(subject, _, arms) => {
             gather(verdicts, subject);
-            gather_results(verdicts, arms.as_slice());
+            gather_results(verdicts, arms);
         }
         Res::Let(value, body) => {
             gather(verdicts, value);
-            gather_of_result(verdicts, body);
+            gather_of_result(verdicts, slices::result_part(body));
         }
         Res::Raise(_, value) => gather_one(verdicts, value),
     }
 }
 
 #[cycle(gather_of_result)]
-fn gather_results(verdicts: &mut Verdicts, arms: &[(PatC, Res)]) {
+fn gather_results(verdicts: &mut Verdicts, arms: &List<(PatC, Res)>) {
+    let arms = slices::result_arms(arms);
     for i in 0..arms.len() {
         gather_of_result(verdicts, &arms[i].1);
     }
 }
 
 fn gather_outputs(verdicts: &mut Verdicts, outs: &[Option<Expr>]) {
-    for out in outs {
-        gather_one(verdicts, out);
+    for i in 0..outs.len() {
+        gather_one(verdicts, &outs[i]);
     }
 }
 
@@ -82,51 +84,46 @@ pub(super) fn gather(verdicts: &mut Verdicts, exp: &Expr) {
     match exp {
         Expr::Word(_) | Expr::Var(_) => {}
         Expr::Con(_, parts) | Expr::Tuple(parts) | Expr::Vect(parts) | Expr::Call(_, parts) => {
-            gather_all(verdicts, parts.as_slice());
+            gather_all(verdicts, parts);
         }
         Expr::Prim(op, ty, parts) => {
-            gather_all(verdicts, parts.as_slice());
-            verdicts.note(*op, ty, parts.as_slice());
+            gather_all(verdicts, parts);
+            verdicts.note(*op, ty, slices::parts(parts));
         }
-        Expr::Index(_, vector, place) => {
-            gather(verdicts, vector);
-            gather(verdicts, place);
+        Expr::Index(_, first, second) | Expr::Let(first, second) => {
+            gather(verdicts, slices::part(first));
+            gather(verdicts, slices::part(second));
         }
-        Expr::Update(_, vector, place, item) => {
-            gather(verdicts, vector);
-            gather(verdicts, place);
-            gather(verdicts, item);
-        }
-        Expr::If(test, when_true, when_false) => {
-            gather(verdicts, test);
-            gather(verdicts, when_true);
-            gather(verdicts, when_false);
+        Expr::Update(_, first, second, third) | Expr::If(first, second, third) => {
+            gather_three(verdicts, first, second, third);
         }
         Expr::Case(subject, _, arms) => {
-            gather(verdicts, subject);
-            gather_arms(verdicts, arms.as_slice());
+            gather(verdicts, slices::part(subject));
+            gather_arms(verdicts, arms);
         }
-        Expr::Let(value, body) => {
-            gather(verdicts, value);
-            gather(verdicts, body);
-        }
-        Expr::Raise(_, value) => {
-            if let Some(value) = value {
-                gather(verdicts, value);
-            }
-        }
+        Expr::Raise(_, None) => {}
+        Expr::Raise(_, Some(value)) => gather(verdicts, slices::part(value)),
     }
 }
 
 #[cycle(gather)]
-fn gather_all(verdicts: &mut Verdicts, parts: &[Expr]) {
+fn gather_three(verdicts: &mut Verdicts, first: &Box<Expr>, second: &Box<Expr>, third: &Box<Expr>) {
+    gather(verdicts, slices::part(first));
+    gather(verdicts, slices::part(second));
+    gather(verdicts, slices::part(third));
+}
+
+#[cycle(gather)]
+fn gather_all(verdicts: &mut Verdicts, parts: &List<Expr>) {
+    let parts = slices::parts(parts);
     for i in 0..parts.len() {
         gather(verdicts, &parts[i]);
     }
 }
 
 #[cycle(gather)]
-fn gather_arms(verdicts: &mut Verdicts, arms: &[(PatC, Expr)]) {
+fn gather_arms(verdicts: &mut Verdicts, arms: &List<(PatC, Expr)>) {
+    let arms = slices::arms(arms);
     for i in 0..arms.len() {
         gather(verdicts, &arms[i].1);
     }

@@ -2,8 +2,9 @@
 ghost use Rattle.look_sources.specs.Pages.{Grows};
 
 use crate::hints::parts::Parts;
+use crate::slices;
 use hume_base::limits::MAX_INPUTS;
-use hume_model::{BoxC, Core, InPat, NodeC, RuleC};
+use hume_model::{BoxC, Core, InPat, NodeC, RuleC, WireC};
 use look_sources::Page;
 use std::alloc::{AllocError, Global};
 
@@ -17,23 +18,36 @@ pub(crate) fn put_waiting(
 ) -> Result<(), AllocError>
     ensures { Grows page.old page.new }
 {
-    let mut fed = falses(alloc, core.nodes.len().saturating_mul(MAX_INPUTS))?;
-    let mut alive = falses(alloc, core.nodes.len())?;
-    for _ in 0..core.nodes.len() {
-        feed(core, alive.as_slice(), fed.as_mut_slice());
-        revive(core, fed.as_slice(), alive.as_mut_slice());
+    let nodes = slices::nodes(core);
+    let mut fed = falses(alloc, nodes.len().saturating_mul(MAX_INPUTS))?;
+    let mut alive = falses(alloc, nodes.len())?;
+    feed_all(core, alive.as_mut_slice(), fed.as_mut_slice());
+    put_all_dead(parts, nodes, alive.as_slice(), fed.as_slice(), page);
+    Ok(())
+}
+
+// Marks the inputs to which a value may come, and the nodes that may fire.
+fn feed_all(core: &Core, alive: &mut [bool], fed: &mut [bool]) {
+    for _ in 0..slices::nodes(core).len() {
+        feed(core, alive, fed);
+        revive(core, fed, alive);
     }
-    feed(core, alive.as_slice(), fed.as_mut_slice());
-    for n in 0..core.nodes.len() {
-        let NodeC::Rules(b) = &core.nodes[n] else {
+    feed(core, alive, fed);
+}
+
+#[tactic(auto, using(look_sources::proofs::Growing::growing))]
+fn put_all_dead(parts: &Parts, nodes: &[NodeC], alive: &[bool], fed: &[bool], page: &mut Page)
+    ensures { Grows page.old page.new }
+{
+    for n in 0..nodes.len() {
+        let NodeC::Rules(b) = &nodes[n] else {
             continue;
         };
-        if is(alive.as_slice(), n) {
+        if is(alive, n) {
             continue;
         }
-        put_dead(parts, fed.as_slice(), n, b, page);
+        put_dead(parts, fed, n, b, page);
     }
-    Ok(())
 }
 
 fn falses(alloc: Global, count: usize) -> Result<Vec<bool>, AllocError> {
@@ -64,17 +78,23 @@ fn place(node: usize, input: usize) -> usize {
 
 // Marks the inputs to which a value may come.
 fn feed(core: &Core, alive: &[bool], fed: &mut [bool]) {
-    for wire in core.wires.as_slice() {
-        if wire.initial.is_some() || is(alive, wire.from as usize) {
-            set(fed, place(wire.to as usize, wire.to_port as usize));
-        }
+    let wires = slices::wires(core);
+    for w in 0..wires.len() {
+        feed_by(&wires[w], alive, fed);
+    }
+}
+
+fn feed_by(wire: &WireC, alive: &[bool], fed: &mut [bool]) {
+    if wire.initial.is_some() || is(alive, wire.from as usize) {
+        set(fed, place(wire.to as usize, wire.to_port as usize));
     }
 }
 
 // Marks the nodes that may fire.
 fn revive(core: &Core, fed: &[bool], alive: &mut [bool]) {
-    for n in 0..core.nodes.len() {
-        if may_fire(&core.nodes[n], fed, n) {
+    let nodes = slices::nodes(core);
+    for n in 0..nodes.len() {
+        if may_fire(&nodes[n], fed, n) {
             set(alive, n);
         }
     }
@@ -82,16 +102,18 @@ fn revive(core: &Core, fed: &[bool], alive: &mut [bool]) {
 
 fn may_fire(node: &NodeC, fed: &[bool], n: usize) -> bool {
     match node {
-        NodeC::Rules(b) => {
-            for rule in b.rules.as_slice() {
-                if unfed(rule, fed, n).is_none() {
-                    return true;
-                }
-            }
-            false
-        }
+        NodeC::Rules(b) => may_rule_fire(slices::rules(b), fed, n),
         _ => true,
     }
+}
+
+fn may_rule_fire(rules: &[RuleC], fed: &[bool], n: usize) -> bool {
+    for i in 0..rules.len() {
+        if unfed(&rules[i], fed, n).is_none() {
+            return true;
+        }
+    }
+    false
 }
 
 // The first input for which the rule waits in vain.
@@ -117,21 +139,26 @@ pub(super) fn needs(pattern: &InPat) -> bool {
 fn put_dead(parts: &Parts, fed: &[bool], n: usize, b: &BoxC, page: &mut Page)
     ensures { Grows page.old page.new }
 {
-    let Some(node) = parts.node(b.name.bytes()) else {
-        return;
-    };
-    for rule in b.rules.as_slice() {
-        if let Some(input) = unfed(rule, fed, n) {
+    if let (Some(node), Some(name)) = (parts.node(b.name.bytes()), first_unfed(b, fed, n)) {
+        parts.put_hint(
+            node.first,
+            b"the box can never fire: nothing ever comes to its input `",
+            name,
+            b"`, whose wire has no initial value",
+            page,
+        );
+    }
+}
+
+// The name of the first input for which a rule waits in vain.
+fn first_unfed<'a>(b: &'a BoxC, fed: &[bool], n: usize) -> Option<&'a [u8]> {
+    let rules = slices::rules(b);
+    for i in 0..rules.len() {
+        if let Some(input) = unfed(&rules[i], fed, n) {
             if let Some(port) = b.ins.get(input) {
-                parts.put_hint(
-                    node.first,
-                    b"the box can never fire: nothing ever comes to its input `",
-                    port.name.bytes(),
-                    b"`, whose wire has no initial value",
-                    page,
-                );
-                return;
+                return Some(port.name.bytes());
             }
         }
     }
+    None
 }

@@ -3,8 +3,8 @@ use denote.Param.Weighed.{most}
 use Rattle.c_tree.specs.declared.tree.CExp.{size-CExp}
 use Rattle.c_forms.proofs.copies.+copy_exp.Given as goal
 
-abbrev pub decreases-copy_exp : goal.decreases-copy_exp
-decreases-copy_exp l = 4 * size-CExp l.exp.now
+abbrev pub decreases-copy_form : goal.decreases-copy_form
+decreases-copy_form l = 4 * size-CExp l.exp.now
 
 abbrev pub decreases-copy_member : goal.decreases-copy_member
 decreases-copy_member l = 4 * size-CExp l.object.now + 2
@@ -24,8 +24,8 @@ decreases-copy_binary l = 4 * max (size-CExp l.left.now) (size-CExp l.right.now)
 abbrev pub decreases-copy_choice : goal.decreases-copy_choice
 decreases-copy_choice l = 4 * max (size-CExp l.test.now) (max (size-CExp l.first.now) (size-CExp l.second.now)) + 2
 
-abbrev pub decreases-copy_part : goal.decreases-copy_part
-decreases-copy_part l = 4 * size-CExp l.part.now + 1
+abbrev pub decreases-copy_exp : goal.decreases-copy_exp
+decreases-copy_exp l = 4 * size-CExp l.exp.now + 1
 
 abbrev pub decreases-copy_parts : goal.decreases-copy_parts
 decreases-copy_parts l = 4 * most size-CExp l.parts.now + 1

@@ -18,7 +18,7 @@ pub statement_frame-returns-in-If : goal.statement_frame-returns-in-If
 statement_frame-returns-in-If t c =
     c.if_frame.ensures
     ∙ if_of_parts c.args.types.now c.args.functions.now c.in-If.test c.in-If.body c.in-If.others c.in-If.otherwise
-    c.as_slice-in-If.result.now c.as_slice-in-If-2.result.now c.as_slice-in-If-3.result.now
+    c.deref-in-If.result.now c.as_slice-in-If.result.now c.as_slice-in-If-2.result.now c.as_slice-in-If-3.result.now c.deref-in-If.ensures
     c.as_slice-in-If.ensures c.as_slice-in-If-2.ensures c.as_slice-in-If-3.ensures
     ∙ ap (statement_frame c.args.types.now c.args.functions.now) (sym c.in-If.is)
 
@@ -26,5 +26,6 @@ pub statement_frame-returns-in-Switch : goal.statement_frame-returns-in-Switch
 statement_frame-returns-in-Switch t c =
     c.switch_frame.ensures
     ∙ switch_of_parts c.args.types.now c.args.functions.now c.in-Switch.subject c.in-Switch.cases c.in-Switch.otherwise
-    c.as_slice-in-Switch.result.now c.as_slice-in-Switch-2.result.now c.as_slice-in-Switch.ensures c.as_slice-in-Switch-2.ensures
+    c.deref-in-Switch.result.now c.as_slice-in-Switch.result.now c.as_slice-in-Switch-2.result.now
+    c.deref-in-Switch.ensures c.as_slice-in-Switch.ensures c.as_slice-in-Switch-2.ensures
     ∙ ap (statement_frame c.args.types.now c.args.functions.now) (sym c.in-Switch.is)

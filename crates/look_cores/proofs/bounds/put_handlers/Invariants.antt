@@ -1,5 +1,5 @@
 use Rattle.look_sources.specs.Pages.{Grows}
 use Rattle.look_cores.proofs.bounds.put_handlers.Given as goal
 
-abbrev pub invariant-loop-handler : goal.invariant-loop-handler
-invariant-loop-handler l = Grows l.fn.page l.page
+abbrev pub invariant-loop-h : goal.invariant-loop-h
+invariant-loop-h l = Grows l.fn.page l.page

@@ -8,6 +8,9 @@ use Rattle.look_cores.proofs.expression_bounds.+expression.Given as goal
 abbrev pub decreases-arms_bound : goal.decreases-arms_bound
 decreases-arms_bound l = 3 * arms_size l.arms.now + 1
 
+abbrev pub decreases-call_with_arguments : goal.decreases-call_with_arguments
+decreases-call_with_arguments l = 3 * most size-Expr l.parts.now + 2
+
 abbrev pub decreases-expression_bound : goal.decreases-expression_bound
 decreases-expression_bound l = 3 * size-Expr l.e.now
 

@@ -32,4 +32,4 @@ returns-clause-ok c =
     equation_found c.args.at.now c.args.patterns.now c.args.body.now c.check_equation.new.at count refl c.in_ok-check_equation.ensures.ok
     ∙ ap (λ (s : State). Some (last_equation count s)) (sym c.at-2.view_is)
     ∙ (λ i. Some (record { pats = (sym pats i).0; body = (sym body i).0 }, (sym pats i).1 || (sym body i).1))
-    ∙ (λ i. Some (record { pats = c.in_ok-pats.pats; body = c.in_ok-body.body }, too_wide i))
+    ∙ (λ i. Some (record { pats = c.in_ok-pats.pats; body = sym c.into_inner-body.ensures i }, too_wide i))

@@ -3,6 +3,3 @@ use Rattle.look_reasons.proofs.hints.constant.put_constant.Given as goal
 
 abbrev pub invariant-loop-function : goal.invariant-loop-function
 invariant-loop-function l = Grows l.fn.page l.page
-
-abbrev pub invariant-loop-node : goal.invariant-loop-node
-invariant-loop-node l = Grows l.fn.page l.page

@@ -1,5 +1,5 @@
 use Rattle.look_sources.specs.Pages.{Grows}
 use Rattle.look_reasons.proofs.hints.outputs.put_outputs.Given as goal
 
-abbrev pub invariant-loop-node : goal.invariant-loop-node
-invariant-loop-node l = Grows l.fn.page l.page
+abbrev pub invariant-loop-n : goal.invariant-loop-n
+invariant-loop-n l = Grows l.fn.page l.page
