@@ -1,16 +1,21 @@
 //! Conversions between numbers.
-ghost use Rattle.std.specs.Prelude.{◌≡◌, ◌==◌, IfOk};
+ghost use Rattle.std.specs.Prelude.{◌≡◌, ◌==◌, [], ◌∷◌};
+ghost use Rattle.c_tree.specs.declared.tree.CType.TheVariants as type;
+ghost use Rattle.c_tree.specs.declared.tree.CExp.TheVariants as exp;
 ghost use Rattle.c_tree.specs.Words.{bits};
-ghost use Rattle.c_arithmetic.specs.Widths.{is_within, numbers_of};
+ghost use Rattle.c_forms.specs.Gives.{Gives};
+ghost use Rattle.c_arithmetic.specs.declared.functions.Helper.TheVariants as helper;
+ghost use Rattle.c_arithmetic.specs.Widths.{is_within, numbers_of, work};
+ghost use Rattle.c_arithmetic.specs.Bodies.{helper_name};
 ghost use Rattle.c_arithmetic.specs.Operations.{conversion, converted, same_c_type, same_sign};
 
 use crate::functions::{Helper, Numbers, helper_name};
-use c_forms::{called, cast};
+use c_forms::{called, cast, of_one};
 use c_names::Names;
 use c_tree::{CExp, CType, Width};
 use c_types::width_of;
-use hume_base::{Box, List, Ty};
-use std::alloc::{AllocError, Global};
+use hume_base::{Box, Ty};
+use std::alloc::Global;
 
 /// A number of the first type as one of the second.
 pub fn conversion(
@@ -18,13 +23,13 @@ pub fn conversion(
     names: &Names,
     from: &Ty,
     to: &Ty,
-    part: Box<CExp>,
-) -> Result<Box<CExp>, AllocError>
-    ensures { IfOk result (λ it. it ≡ conversion names.now from.now to.now part) }
+    part: Option<Box<CExp>>,
+) -> Option<Box<CExp>>
+    ensures { (p : CExp) → Gives part p → Gives result (conversion names.now from.now to.now p) }
 {
     match (numbers_of(from), numbers_of(to)) {
         (Some(from), Some(to)) => converted(alloc, names, from, to, part),
-        _ => Ok(part),
+        _ => part,
     }
 }
 
@@ -33,19 +38,31 @@ fn converted(
     names: &Names,
     from: Numbers,
     to: Numbers,
-    part: Box<CExp>,
-) -> Result<Box<CExp>, AllocError>
-    ensures { IfOk result (λ it. it ≡ converted names.now from to part) }
+    part: Option<Box<CExp>>,
+) -> Option<Box<CExp>>
+    ensures { (p : CExp) → Gives part p → Gives result (converted names.now from to p) }
 {
-    if is_within(from, to) {
-        if same_c_type(from, to) {
-            return Ok(part);
-        }
-        return cast(alloc, to.c_type(), part);
+    if !is_within(from, to) {
+        return brought_to(alloc, names, to, part);
     }
-    let plain = cast(alloc, CType::Unsigned(to.work()), part)?;
-    let name = helper_name(alloc, names, Helper::To, to)?;
-    called(alloc, name, List::of_one(alloc, plain.into_inner())?)
+    if same_c_type(from, to) {
+        return part;
+    }
+    cast(alloc, to.c_type(), part)
+}
+
+// A function brings a number to the bits of the type.
+fn brought_to(
+    alloc: Global,
+    names: &Names,
+    to: Numbers,
+    part: Option<Box<CExp>>,
+) -> Option<Box<CExp>>
+    ensures { (p : CExp) → Gives part p → Gives result (exp.Call (helper_name names.now helper.To to) (exp.Cast (type.Unsigned (work to)) p ∷ [])) }
+{
+    let plain = cast(alloc, CType::Unsigned(to.work()), part);
+    let name = helper_name(alloc, names, Helper::To, to);
+    called(alloc, name, of_one(alloc, plain))
 }
 
 pub(crate) fn numbers_of(ty: &Ty) -> Option<Numbers>

@@ -1,18 +1,19 @@
 //! The functions of arithmetic, by width.
-ghost use Rattle.std.specs.Prelude.{◌≡◌, ◌≤◌, ◌++◌, map, IfOk, OnOk};
+ghost use Rattle.std.specs.Prelude.{◌≡◌, ◌≤◌, ◌++◌, map, OnSome};
 ghost use Rattle.std.specs.List.{flat_map, range_with_len};
+ghost use Rattle.c_forms.specs.Gives.{Gives};
 ghost use Rattle.c_arithmetic.specs.Widths.{c_type, work};
 ghost use Rattle.c_arithmetic.specs.Bodies.{helper_name, sign_word, word_of};
-ghost use Rattle.c_arithmetic.specs.Helpers.{function_item, head, helper_function, helpers, helpers_at, helpers_for, helpers_of, parameter, parameters};
+ghost use Rattle.c_arithmetic.specs.Helpers.{function_item, head, helpers, helpers_at, helpers_for, helpers_of, parameter, parameters};
 ghost use Rattle.c_arithmetic.specs.Helpers.{result as result_type, two_parameters};
 
 use crate::bodies::body;
-use c_forms::{numbered, text};
+use c_forms::{function, numbered, of_one, of_two, parameter, push, text};
 use c_names::Names;
-use c_tree::{CFunction, CHead, CItem, CParameter, CType, Linkage, Passing, Width};
+use c_tree::{CHead, CItem, CParameter, CType, Linkage, Passing, Width};
 use c_types::width_of;
-use hume_base::{List, Text};
-use std::alloc::{AllocError, Global};
+use hume_base::{Box, List, Text};
+use std::alloc::Global;
 
 /// What a function of arithmetic does.
 #[derive(Clone, Copy)]
@@ -120,43 +121,38 @@ pub(crate) fn helper_name(
     names: &Names,
     helper: Helper,
     numbers: Numbers,
-) -> Result<Text, AllocError>
-    ensures { IfOk result (λ it. it ≡ helper_name names.now helper numbers) }
+) -> Option<Text>
+    ensures { Gives result (helper_name names.now helper numbers) }
 {
-    let width = numbered(alloc, sign_of(numbers), u64::from(numbers.bits))?;
-    names.inner(alloc, word_of(helper), width.bytes())
+    let width = numbered(alloc, sign_of(numbers), u64::from(numbers.bits)).ok()?;
+    names.inner(alloc, word_of(helper), width.bytes()).ok()
 }
 
 /// The functions of all widths, each behind those that it calls.
 #[tactic(auto, unfolding(crate::specs::Helpers::helpers))]
-pub fn helpers(alloc: Global, names: &Names) -> Result<List<CItem>, AllocError>
-    ensures { IfOk result (λ it. it ≡ helpers names.now) }
+pub fn helpers(alloc: Global, names: &Names) -> Option<List<CItem>>
+    ensures { Gives result (helpers names.now) }
 {
     helpers_up_to(alloc, names, 64)
 }
 
 // The functions of the widths from 1 on.
 #[tactic(auto, using(crate::proofs::Ranges::flat_more))]
-fn helpers_up_to(alloc: Global, names: &Names, most: u8) -> Result<List<CItem>, AllocError>
+fn helpers_up_to(alloc: Global, names: &Names, most: u8) -> Option<List<CItem>>
     requires { most ≤ 64 }
-    ensures { IfOk result (λ it. it ≡ flat_map (helpers_at names.now) (range_with_len 1 most)) }
+    ensures { Gives result (flat_map (helpers_at names.now) (range_with_len 1 most)) }
 {
     let mut items = List::new(alloc);
     for below in 0..most {
         put_width(alloc, &mut items, names, below + 1)?;
     }
-    Ok(items)
+    Some(items)
 }
 
 #[tactic(auto, unfolding(crate::specs::Helpers::helpers_at))]
-fn put_width(
-    alloc: Global,
-    items: &mut List<CItem>,
-    names: &Names,
-    bits: u8,
-) -> Result<(), AllocError>
+fn put_width(alloc: Global, items: &mut List<CItem>, names: &Names, bits: u8) -> Option<()>
     requires { (1 ≤ bits) × (bits ≤ 64) }
-    ensures { OnOk result (items.new ≡ items.old ++ helpers_at names.now bits) }
+    ensures { OnSome result (items.new ≡ items.old ++ helpers_at names.now bits) }
 {
     let unsigned = Numbers {
         signed: false,
@@ -172,9 +168,9 @@ fn put_helpers(
     items: &mut List<CItem>,
     names: &Names,
     numbers: Numbers,
-) -> Result<(), AllocError>
+) -> Option<()>
     requires { (1 ≤ numbers.bits) × (numbers.bits ≤ 64) }
-    ensures { OnOk result (items.new ≡ items.old ++ helpers_for names.now numbers) }
+    ensures { OnSome result (items.new ≡ items.old ++ helpers_for names.now numbers) }
 {
     put_each(alloc, items, names, numbers, helpers_of(numbers))
 }
@@ -185,41 +181,45 @@ fn put_each(
     names: &Names,
     numbers: Numbers,
     helpers: &[Helper],
-) -> Result<(), AllocError>
+) -> Option<()>
     requires { (1 ≤ numbers.bits) × (numbers.bits ≤ 64) }
-    ensures { OnOk result (items.new ≡ items.old ++ map (function_item names.now numbers) helpers.now) }
+    ensures { OnSome result (items.new ≡ items.old ++ map (function_item names.now numbers) helpers.now) }
 {
     for helper in helpers {
-        items.push(CItem::Function(helper_function(alloc, names, *helper, numbers)?))?;
+        push(items, function_item(alloc, names, *helper, numbers))?;
     }
-    Ok(())
+    Some(())
 }
 
-fn helper_function(
+fn function_item(
     alloc: Global,
     names: &Names,
     helper: Helper,
     numbers: Numbers,
-) -> Result<CFunction, AllocError>
+) -> Option<Box<CItem>>
     requires { (1 ≤ numbers.bits) × (numbers.bits ≤ 64) }
-    ensures { IfOk result (λ it. it ≡ helper_function names.now helper numbers) }
+    ensures { Gives result (function_item names.now numbers helper) }
 {
-    Ok(CFunction {
-        comment: None,
-        head: head(alloc, names, helper, numbers)?,
-        body: body(alloc, names, helper, numbers)?,
-    })
+    let head = head(alloc, names, helper, numbers);
+    function(alloc, head, body(alloc, names, helper, numbers))
 }
 
-fn head(alloc: Global, names: &Names, helper: Helper, numbers: Numbers) -> Result<CHead, AllocError>
-    ensures { IfOk result (λ it. it ≡ head names.now helper numbers) }
+fn head(alloc: Global, names: &Names, helper: Helper, numbers: Numbers) -> Option<Box<CHead>>
+    ensures { Gives result (head names.now helper numbers) }
 {
-    Ok(CHead {
-        linkage: Linkage::StaticInline,
-        result: Some(result_of(helper, numbers)),
-        name: helper_name(alloc, names, helper, numbers)?,
-        parameters: parameters(alloc, helper, numbers)?,
-    })
+    let name = helper_name(alloc, names, helper, numbers);
+    match (name, parameters(alloc, helper, numbers)) {
+        (Some(name), Some(parameters)) => {
+            let head = CHead {
+                linkage: Linkage::StaticInline,
+                result: Some(result_of(helper, numbers)),
+                name,
+                parameters,
+            };
+            Box::new(alloc, head).ok()
+        }
+        _ => None,
+    }
 }
 
 fn result_of(helper: Helper, numbers: Numbers) -> CType
@@ -231,34 +231,25 @@ fn result_of(helper: Helper, numbers: Numbers) -> CType
     }
 }
 
-fn parameters(
-    alloc: Global,
-    helper: Helper,
-    numbers: Numbers,
-) -> Result<List<CParameter>, AllocError>
-    ensures { IfOk result (λ it. it ≡ parameters helper numbers) }
+fn parameters(alloc: Global, helper: Helper, numbers: Numbers) -> Option<List<CParameter>>
+    ensures { Gives result (parameters helper numbers) }
 {
     match helper {
-        Helper::To => List::of_one(alloc, number(alloc, b"u", CType::Unsigned(numbers.work()))?),
-        Helper::Neg => List::of_one(alloc, number(alloc, b"a", numbers.c_type())?),
+        Helper::To => of_one(alloc, number(alloc, b"u", CType::Unsigned(numbers.work()))),
+        Helper::Neg => of_one(alloc, number(alloc, b"a", numbers.c_type())),
         _ => two_parameters(alloc, numbers),
     }
 }
 
-fn two_parameters(alloc: Global, numbers: Numbers) -> Result<List<CParameter>, AllocError>
-    ensures { IfOk result (λ it. it ≡ two_parameters numbers) }
+fn two_parameters(alloc: Global, numbers: Numbers) -> Option<List<CParameter>>
+    ensures { Gives result (two_parameters numbers) }
 {
-    let mut two = List::of_one(alloc, number(alloc, b"a", numbers.c_type())?)?;
-    two.push(number(alloc, b"b", numbers.c_type())?)?;
-    Ok(two)
+    let first = number(alloc, b"a", numbers.c_type());
+    of_two(alloc, first, number(alloc, b"b", numbers.c_type()))
 }
 
-fn number(alloc: Global, name: &[u8], ty: CType) -> Result<CParameter, AllocError>
-    ensures { IfOk result (λ it. it ≡ parameter name.now ty) }
+fn number(alloc: Global, name: &[u8], ty: CType) -> Option<Box<CParameter>>
+    ensures { Gives result (parameter name.now ty) }
 {
-    Ok(CParameter {
-        ty,
-        passing: Passing::Value,
-        name: text(alloc, name)?,
-    })
+    parameter(alloc, ty, Passing::Value, text(alloc, name).ok())
 }

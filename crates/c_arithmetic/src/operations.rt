@@ -1,19 +1,20 @@
 //! Operations on operands.
-ghost use Rattle.std.specs.Prelude.{◌≡◌, ◌≤◌, true, IfOk};
+ghost use Rattle.std.specs.Prelude.{◌≡◌, ◌≤◌, true};
 ghost use Rattle.c_tree.specs.declared.tree.CExp.{out-CExp};
+ghost use Rattle.c_forms.specs.Gives.{Gives};
 ghost use Rattle.c_arithmetic.specs.Widths.{greatest};
-ghost use Rattle.c_arithmetic.specs.Operations.{compared, divide, dividing, equality, helped, inequality, is_c_width, is_computed, is_constant, is_end};
+ghost use Rattle.c_arithmetic.specs.Operations.{arguments, compared, divide, dividing, equality, helped, inequality, is_c_width, is_computed, is_constant, is_end};
 ghost use Rattle.c_arithmetic.specs.Operations.{is_extreme, is_foregone, is_narrow, is_number, is_plain, is_widened, is_zero, may_be_minus_one};
 ghost use Rattle.c_arithmetic.specs.Operations.{operation_of, operation_of_one, operation_of_two, quotient};
 
 use crate::conversions::numbers_of;
 use crate::functions::{Helper, helper_name};
-use c_forms::{binary, called, cast, is_same, not, truth};
+use c_forms::{binary, called, cast, is_same, not, of_one, of_two, truth};
 use c_names::Names;
 use c_tree::{CExp, COp, Width};
 use hume_base::{Box, List, Ty};
 use hume_model::Op;
-use std::alloc::{AllocError, Global};
+use std::alloc::Global;
 
 /// An operation on two operands of the type, other than a division; of one operand both are given.
 pub fn operation(
@@ -22,8 +23,8 @@ pub fn operation(
     op: Op,
     of: &Ty,
     operands: (Box<CExp>, Option<Box<CExp>>),
-) -> Result<Box<CExp>, AllocError>
-    ensures { IfOk result (λ it. it ≡ operation_of names.now op of.now operands.0 operands.1) }
+) -> Option<Box<CExp>>
+    ensures { Gives result (operation_of names.now op of.now operands.0 operands.1) }
 {
     match operands {
         (part, None) => on_one(alloc, names, op, of, part),
@@ -31,19 +32,13 @@ pub fn operation(
     }
 }
 
-fn on_one(
-    alloc: Global,
-    names: &Names,
-    op: Op,
-    of: &Ty,
-    part: Box<CExp>,
-) -> Result<Box<CExp>, AllocError>
-    ensures { IfOk result (λ it. it ≡ operation_of_one names.now op of.now part) }
+fn on_one(alloc: Global, names: &Names, op: Op, of: &Ty, part: Box<CExp>) -> Option<Box<CExp>>
+    ensures { Gives result (operation_of_one names.now op of.now part) }
 {
     match op {
-        Op::Not => not(alloc, part),
+        Op::Not => not(alloc, Some(part)),
         Op::Neg => helped(alloc, names, Helper::Neg, of, part, None),
-        _ => Ok(part),
+        _ => Some(part),
     }
 }
 
@@ -54,11 +49,11 @@ fn on_two(
     of: &Ty,
     left: Box<CExp>,
     right: Box<CExp>,
-) -> Result<Box<CExp>, AllocError>
-    ensures { IfOk result (λ it. it ≡ operation_of_two names.now op of.now left right) }
+) -> Option<Box<CExp>>
+    ensures { Gives result (operation_of_two names.now op of.now left right) }
 {
     match op {
-        Op::Not => not(alloc, left),
+        Op::Not => not(alloc, Some(left)),
         Op::Neg => helped(alloc, names, Helper::Neg, of, left, None),
         Op::Add => helped(alloc, names, Helper::Add, of, left, Some(right)),
         Op::Sub => helped(alloc, names, Helper::Sub, of, left, Some(right)),
@@ -69,7 +64,7 @@ fn on_two(
         Op::Le => compared(alloc, names, of, COp::LessEqual, left, right),
         Op::Gt => compared(alloc, names, of, COp::Greater, left, right),
         Op::Ge => compared(alloc, names, of, COp::GreaterEqual, left, right),
-        _ => Ok(left),
+        _ => Some(left),
     }
 }
 
@@ -82,21 +77,18 @@ pub fn quotient(
     left: Box<CExp>,
     right: Box<CExp>,
     literal: Option<u64>,
-) -> Result<Box<CExp>, AllocError>
-    ensures { IfOk result (λ it. it ≡ quotient names.now op of.now left right literal) }
+) -> Option<Box<CExp>>
+    ensures { Gives result (quotient names.now op of.now left right literal) }
 {
     match numbers_of(of) {
         Some(numbers) if numbers.signed && may_be_minus_one(literal) => {
             helped(alloc, names, dividing(op), of, left, Some(right))
         }
         Some(numbers) => {
-            cast(
-                alloc,
-                numbers.c_type(),
-                binary(alloc, divide(op), left, right)?,
-            )
+            let quotient = binary(alloc, divide(op), Some(left), Some(right));
+            cast(alloc, numbers.c_type(), quotient)
         }
-        None => Ok(left),
+        None => Some(left),
     }
 }
 
@@ -135,17 +127,25 @@ fn helped(
     of: &Ty,
     left: Box<CExp>,
     right: Option<Box<CExp>>,
-) -> Result<Box<CExp>, AllocError>
-    ensures { IfOk result (λ it. it ≡ helped names.now which of.now left right) }
+) -> Option<Box<CExp>>
+    ensures { Gives result (helped names.now which of.now left right) }
 {
-    let Some(numbers) = numbers_of(of) else {
-        return Ok(left);
-    };
-    let mut arguments = List::of_one(alloc, left.into_inner())?;
-    if let Some(right) = right {
-        arguments.push(right.into_inner())?;
+    match numbers_of(of) {
+        None => Some(left),
+        Some(numbers) => {
+            let name = helper_name(alloc, names, which, numbers);
+            called(alloc, name, arguments(alloc, left, right))
+        }
     }
-    called(alloc, helper_name(alloc, names, which, numbers)?, arguments)
+}
+
+fn arguments(alloc: Global, left: Box<CExp>, right: Option<Box<CExp>>) -> Option<List<CExp>>
+    ensures { Gives result (arguments left right) }
+{
+    match right {
+        None => of_one(alloc, Some(left)),
+        Some(right) => of_two(alloc, Some(left), Some(right)),
+    }
 }
 
 // Whether two operands are the same. A function compares where compilers warn of the comparison.
@@ -155,11 +155,11 @@ fn equality(
     of: &Ty,
     left: Box<CExp>,
     right: Box<CExp>,
-) -> Result<Box<CExp>, AllocError>
-    ensures { IfOk result (λ it. it ≡ equality names.now of.now left right) }
+) -> Option<Box<CExp>>
+    ensures { Gives result (equality names.now of.now left right) }
 {
     if !is_foregone(of, &left, &right) {
-        return binary(alloc, COp::Equal, left, right);
+        return binary(alloc, COp::Equal, Some(left), Some(right));
     }
     match numbers_of(of) {
         Some(_) => helped(alloc, names, Helper::Equal, of, left, Some(right)),
@@ -173,13 +173,13 @@ fn inequality(
     of: &Ty,
     left: Box<CExp>,
     right: Box<CExp>,
-) -> Result<Box<CExp>, AllocError>
-    ensures { IfOk result (λ it. it ≡ inequality names.now of.now left right) }
+) -> Option<Box<CExp>>
+    ensures { Gives result (inequality names.now of.now left right) }
 {
     if is_foregone(of, &left, &right) {
-        return not(alloc, equality(alloc, names, of, left, right)?);
+        return not(alloc, equality(alloc, names, of, left, right));
     }
-    binary(alloc, COp::NotEqual, left, right)
+    binary(alloc, COp::NotEqual, Some(left), Some(right))
 }
 
 // Whether compilers may warn that the comparison always comes to the same.
@@ -240,11 +240,11 @@ fn compared(
     operator: COp,
     left: Box<CExp>,
     right: Box<CExp>,
-) -> Result<Box<CExp>, AllocError>
-    ensures { IfOk result (λ it. it ≡ compared names.now of.now operator left right) }
+) -> Option<Box<CExp>>
+    ensures { Gives result (compared names.now of.now operator left right) }
 {
     if is_plain(of, &left, &right) {
-        return binary(alloc, operator, left, right);
+        return binary(alloc, operator, Some(left), Some(right));
     }
     match operator {
         COp::Less => helped(alloc, names, Helper::Less, of, left, Some(right)),

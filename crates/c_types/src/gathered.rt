@@ -2,6 +2,7 @@
 ghost use Rattle.std.specs.Prelude.{◌≡◌, ◌↔◌, IsTrue, IfOk, OnOk, codes};
 ghost use Rattle.std.specs.List.{flat_map, list_any};
 ghost use Rattle.hume_base.specs.declared.types.Ty.{out-Ty};
+ghost use Rattle.c_forms.specs.Gives.{Gives};
 ghost use Rattle.c_types.specs.Shapes.{seen, form_of};
 ghost use Rattle.c_types.specs.inner.SameTypes.{is_same};
 ghost use Rattle.c_types.specs.Gathered.{gathered, gathered_of, with_added, c_type, numbered_type, tag, added, made_of, with_each, with_type};
@@ -10,7 +11,7 @@ ghost use Rattle.c_types.specs.Declarations.{items};
 
 use crate::declarations::items_of;
 use crate::shapes::{Shape, scalar_width, shape_of};
-use c_forms::{numbered, unsigned};
+use c_forms::{named, numbered, unsigned};
 use c_names::Names;
 use c_tree::{CExp, CItem, CType, Width};
 use hume_base::{Box, List, Shared, SumDef, Ty, Types, copy_ty, same_ty};
@@ -103,13 +104,12 @@ impl<'a> CTypes<'a> {
     }
 
     /// A constructor's constant: by its name, or by its number where an `int` of 16 bits doesn't hold that.
-    pub fn tag(&self, alloc: Global, sum: &SumDef, place: u32) -> Result<Box<CExp>, AllocError>
-        ensures { IfOk result (λ made. made ≡ tag (gathered self.now).names sum.now place) }
+    pub fn tag(&self, alloc: Global, sum: &SumDef, place: u32) -> Option<Box<CExp>>
+        ensures { Gives result (tag (gathered self.now).names sum.now place) }
     {
         match sum.cons.get(place as usize) {
             Some(con) if place < 32_768 => {
-                let name = self.names.constructor(alloc, con.name.bytes())?;
-                Box::new(alloc, CExp::Name(name))
+                named(alloc, self.names.constructor(alloc, con.name.bytes()).ok())
             }
             _ => unsigned(alloc, Width::W16, u64::from(place)),
         }

@@ -1,5 +1,6 @@
 //! Which forms the types of C have.
-ghost use Rattle.std.specs.Prelude.{◌≡◌, ◌≤◌, ◌^◌, IfOk};
+ghost use Rattle.std.specs.Prelude.{◌≡◌, ◌≤◌, ◌^◌};
+ghost use Rattle.c_forms.specs.Gives.{Gives};
 ghost use Rattle.c_types.specs.Shapes.{seen, form_of, form_of_data, some_have_fields as some_told, is_scalar as scalar_told};
 ghost use Rattle.c_types.specs.Widths.{width_of as width_told};
 ghost use Rattle.c_types.specs.Shapes.{tag_width as tag_told, scalar_type, signed_literal as signed_told, literal as literal_told};
@@ -7,7 +8,7 @@ ghost use Rattle.c_types.specs.Shapes.{tag_width as tag_told, scalar_type, signe
 use c_forms::{signed, truth, unsigned};
 use c_tree::{CExp, CType, Width};
 use hume_base::{Box, ConDef, SumDef, Ty, Types};
-use std::alloc::{AllocError, Global};
+use std::alloc::Global;
 
 /// The form of a type of C.
 #[derive(Clone, Copy)]
@@ -117,8 +118,8 @@ pub fn scalar_width(ty: &Ty) -> CType
 }
 
 /// The word of a scalar type as a constant.
-pub fn literal(alloc: Global, ty: &Ty, word: u64) -> Result<Box<CExp>, AllocError>
-    ensures { IfOk result (λ e. e ≡ literal_told ty.now word) }
+pub fn literal(alloc: Global, ty: &Ty, word: u64) -> Option<Box<CExp>>
+    ensures { Gives result (literal_told ty.now word) }
 {
     match ty {
         Ty::Int(bits) => signed_literal(alloc, *bits, word),
@@ -131,8 +132,8 @@ pub fn literal(alloc: Global, ty: &Ty, word: u64) -> Result<Box<CExp>, AllocErro
     }
 }
 
-fn signed_literal(alloc: Global, bits: u8, word: u64) -> Result<Box<CExp>, AllocError>
-    ensures { IfOk result (λ e. e ≡ signed_told bits word) }
+fn signed_literal(alloc: Global, bits: u8, word: u64) -> Option<Box<CExp>>
+    ensures { Gives result (signed_told bits word) }
 {
     if word < 1 << 63 {
         return signed(alloc, width_of(bits), false, word);

@@ -43,8 +43,8 @@ impl<'a> Environment<'a> {
     pub fn new(alloc: Global, signatures: &'a Signatures) -> Result<Environment<'a>, AllocError>
         ensures { IfOk result (λ e. e ≡ ([], [], signatures.now)) }
     {
-        let names = SignatureTable::make(alloc, signatures)?;
         let context = signed_context(alloc, signatures)?;
+        let names = SignatureTable::make(alloc, signatures)?;
         Ok(Environment { names, context })
     }
 
@@ -60,16 +60,14 @@ impl<'a> Environment<'a> {
         requires { IsWithin 0 node }
         ensures { OnOk result (self.new ≡ with_type (ty_of [] node) self.old) }
     {
-        self.context.push(node)?;
-        Ok(())
+        self.context.push(node)
     }
 
     /// Puts a type that is a tree on the stack. It takes time for each of its nodes.
     pub fn push_tree(&mut self, alloc: Global, ty: &Ty) -> Result<(), AllocError>
         ensures { OnOk result (self.new ≡ with_type ty.now self.old) }
     {
-        self.context.push_tree(alloc, ty)?;
-        Ok(())
+        self.context.push_tree(alloc, ty)
     }
 
     /// Takes the last type off the stack.
@@ -83,56 +81,49 @@ impl<'a> Environment<'a> {
     pub fn pop_below(&mut self) -> Result<(), AllocError>
         ensures { OnOk result (self.new ≡ (self.old.0, top self.old.1 ∷ below (below self.old.1), self.old.2)) }
     {
-        self.context.pop_below()?;
-        Ok(())
+        self.context.pop_below()
     }
 
     /// Puts the last type of the stack on it once more.
     pub fn repeat(&mut self) -> Result<(), AllocError>
         ensures { OnOk result (self.new ≡ with_type (top self.old.1) self.old) }
     {
-        self.context.repeat()?;
-        Ok(())
+        self.context.repeat()
     }
 
     /// Puts the last but one type of the stack on it once more.
     pub fn repeat_below(&mut self) -> Result<(), AllocError>
         ensures { OnOk result (self.new ≡ with_type (top (below self.old.1)) self.old) }
     {
-        self.context.repeat_below()?;
-        Ok(())
+        self.context.repeat_below()
     }
 
     /// What is seen of the last type of the stack.
     pub fn shape(&self) -> Result<Shape, AllocError>
         ensures { IfOk result (λ shape. shape ≡ shape_seen (out-Ty (top self.now.1))) }
     {
-        let shape = self.context.shape()?;
-        Ok(shape)
+        self.context.shape()
     }
 
     /// Whether the last two types of the stack are one.
     pub fn are_same(&self) -> Result<bool, AllocError>
         ensures { IfOk result (λ same. IsTrue same ↔ (top self.now.1 ≡ top (below self.now.1))) }
     {
-        let same = self.context.are_same()?;
-        Ok(same)
+        self.context.are_same()
     }
 
     /// The last type of the stack, one of numbers, `char` or `bool`, as a tree. Any other is answered with want of memory.
     pub fn scalar(&self) -> Result<Ty, AllocError>
         ensures { IfOk result (λ ty. ty ≡ top self.now.1) }
     {
-        let ty = self.context.scalar()?;
-        Ok(ty)
+        self.context.scalar()
     }
 
     /// The last but one type of the stack, one of numbers, `char` or `bool`, as a tree. Any other is answered with want of memory.
     pub fn scalar_below(&self) -> Result<Ty, AllocError>
         ensures { IfOk result (λ ty. ty ≡ top (below self.now.1)) }
     {
-        let ty = self.context.scalar_below()?;
-        Ok(ty)
+        self.context.scalar_below()
     }
 
     /// The last type of the stack as a tree, which shares its parts.
@@ -140,8 +131,7 @@ impl<'a> Environment<'a> {
         ensures is { IfOk result (λ tree. tree ≡ top self.old.1) }
         ensures keeps { OnOk result (self.new ≡ self.old) }
     {
-        let tree = self.context.tree(alloc)?;
-        Ok(tree)
+        self.context.tree(alloc)
     }
 
     /// The last but one type of the stack as a tree, which shares its parts.
@@ -149,8 +139,7 @@ impl<'a> Environment<'a> {
         ensures is { IfOk result (λ tree. tree ≡ top (below self.old.1)) }
         ensures keeps { OnOk result (self.new ≡ self.old) }
     {
-        let tree = self.context.tree_below(alloc)?;
-        Ok(tree)
+        self.context.tree_below(alloc)
     }
 
     /// The type of the last variable as a tree, which shares its parts.
@@ -158,48 +147,42 @@ impl<'a> Environment<'a> {
         ensures is { IfOk result (λ tree. tree ≡ last_type self.old.0) }
         ensures keeps { OnOk result (self.new ≡ self.old) }
     {
-        let tree = self.context.variable_tree(alloc)?;
-        Ok(tree)
+        self.context.variable_tree(alloc)
     }
 
     /// Puts a part of the last type of the stack, a tuple, on the stack.
     pub fn push_part(&mut self, at: usize) -> Result<(), AllocError>
         ensures { OnOk result (self.new ≡ with_type (part_at at (out-Ty (top self.old.1))) self.old) }
     {
-        self.context.push_part(at)?;
-        Ok(())
+        self.context.push_part(at)
     }
 
     /// Puts the type of the elements of the last type of the stack, a vector, on the stack.
     pub fn push_item(&mut self) -> Result<(), AllocError>
         ensures { OnOk result (self.new ≡ with_type (item_of (out-Ty (top self.old.1))) self.old) }
     {
-        self.context.push_item()?;
-        Ok(())
+        self.context.push_item()
     }
 
     /// Makes one tuple of the last types of the stack.
     pub fn tuple(&mut self, count: usize) -> Result<(), AllocError>
         ensures { OnOk result (self.new ≡ (self.old.0, TupleTy (reverse (take count self.old.1)) ∷ drop count self.old.1, self.old.2)) }
     {
-        self.context.tuple(count)?;
-        Ok(())
+        self.context.tuple(count)
     }
 
     /// Makes a vector of so many of the last type of the stack.
     pub fn vector(&mut self, count: u32) -> Result<(), AllocError>
         ensures { OnOk result (self.new ≡ (self.old.0, VectorTy count (top self.old.1) ∷ below self.old.1, self.old.2)) }
     {
-        self.context.vector(count)?;
-        Ok(())
+        self.context.vector(count)
     }
 
     /// Moves the last type of the stack to a new variable.
     pub fn enter(&mut self, name: &'a [u8]) -> Result<(), AllocError>
         ensures { OnOk result (self.new ≡ (self.old.0 ++ (name.now, top self.old.1) ∷ [], below self.old.1, self.old.2)) }
     {
-        self.context.enter(name)?;
-        Ok(())
+        self.context.enter(name)
     }
 
     /// Leaves all but the first variables.
@@ -213,7 +196,6 @@ impl<'a> Environment<'a> {
     pub fn find(&mut self, name: &[u8]) -> Result<Option<u32>, AllocError>
         ensures { IfOk result (λ number. (number, self.new) ≡ with_variable (variable_named name.now self.old.0) self.old) }
     {
-        let number = self.context.find(name)?;
-        Ok(number)
+        self.context.find(name)
     }
 }

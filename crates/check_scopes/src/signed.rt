@@ -19,10 +19,21 @@ pub(crate) fn signed_context<'a>(
     ensures { IfOk result (λ context. context ≡ ([], [], kept_types signatures.now)) }
 {
     let mut context = Context::new(alloc);
-    keep_functions(alloc, &mut context, signatures.funs.as_slice())?;
-    keep_exceptions(alloc, &mut context, signatures.exns.as_slice())?;
-    keep_data_types(alloc, &mut context, signatures.types.sums.as_slice())?;
+    keep_signatures(alloc, &mut context, signatures)?;
     Ok(context)
+}
+
+#[tactic(auto, using(crate::proofs::Keeping::keeping_steps))]
+fn keep_signatures(
+    alloc: Global,
+    context: &mut Context,
+    signatures: &Signatures,
+) -> Result<(), AllocError>
+    ensures { OnOk result (context.new ≡ (context.old.0, context.old.1, context.old.2 ++ kept_types signatures.now)) }
+{
+    keep_functions(alloc, context, signatures.funs.as_slice())?;
+    keep_exceptions(alloc, context, signatures.exns.as_slice())?;
+    keep_data_types(alloc, context, signatures.types.sums.as_slice())
 }
 
 #[tactic(auto, using(crate::proofs::Keeping::keeping_steps))]

@@ -75,11 +75,10 @@ impl<'a> Environment<'a> {
         ensures pushed { IfOk result (λ is_type. is_type ≡ true → with_written (IntType bits) self.old ≡ Some self.new) }
         ensures none { IfOk result (λ is_type. is_type ≡ false → with_written (IntType bits) self.old ≡ None) }
     {
-        let Some(width) = width(bits) else {
-            return Ok(false);
-        };
-        self.push(Node::Int(width))?;
-        Ok(true)
+        match width(bits) {
+            None => Ok(false),
+            Some(width) => self.push_leaf(Node::Int(width)),
+        }
     }
 
     #[tactic(auto, using(crate::proofs::PushedTypes::written_steps))]
@@ -87,11 +86,10 @@ impl<'a> Environment<'a> {
         ensures pushed { IfOk result (λ is_type. is_type ≡ true → with_written (NatType bits) self.old ≡ Some self.new) }
         ensures none { IfOk result (λ is_type. is_type ≡ false → with_written (NatType bits) self.old ≡ None) }
     {
-        let Some(width) = width(bits) else {
-            return Ok(false);
-        };
-        self.push(Node::Nat(width))?;
-        Ok(true)
+        match width(bits) {
+            None => Ok(false),
+            Some(width) => self.push_leaf(Node::Nat(width)),
+        }
     }
 
     #[tactic(auto, using(crate::proofs::PushedTypes::written_steps))]
@@ -99,11 +97,10 @@ impl<'a> Environment<'a> {
         ensures pushed { IfOk result (λ is_type. is_type ≡ true → with_written (NamedType name.now) self.old ≡ Some self.new) }
         ensures none { IfOk result (λ is_type. is_type ≡ false → with_written (NamedType name.now) self.old ≡ None) }
     {
-        let Some(number) = self.names.data_type(name.bytes()) else {
-            return Ok(false);
-        };
-        self.push(Node::Named(number))?;
-        Ok(true)
+        match self.names.data_type(name.bytes()) {
+            None => Ok(false),
+            Some(number) => self.push_leaf(Node::Named(number)),
+        }
     }
 
     fn push_leaf(&mut self, node: Node) -> Result<bool, AllocError>

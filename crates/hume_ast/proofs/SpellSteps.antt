@@ -15,7 +15,21 @@ use Rattle.hume_ast.specs.declared.tree.Exp.{Exp, Case, size-Exp, fold-roll-Exp,
 use Rattle.hume_ast.specs.declared.tree.Exp.TheOpen.{Exp-F}
 use Rattle.hume_ast.specs.declared.tree.Exp.TheVariants.{rolls-Case}
 use Rattle.hume_ast.specs.Spelling.{separated, preceded, beside, spell_alternative, spell_exp, spelled_exp, spelled_handler, spelled_handlers}
+use Rattle.hume_ast.specs.declared.spell_tokens.Tokens.{Tokens}
+use Rattle.hume_ast.specs.inner.Tokens.{Adds}
 use Rattle.hume_ast.specs.inner.Parts.{between, spelled_alternative}
+
+-- tokens behind those that were put before
+adds_more : (first second third : Tokens) (kinds more : List Kind) → Adds first second kinds → Adds second third more → Adds first third (kinds ++ more)
+adds_more first second third kinds more sooner later h =
+    let (then, is_behind) = later h in
+    let (whole, is_before) = sooner then in
+    (whole, is_behind ∙ ap (λ front. front ++ more) is_before ∙ append_assoc first.kinds kinds more)
+
+adds_same : (first second : Tokens) (kinds same : List Kind) → kinds ≡ same → Adds first second kinds → Adds first second same
+adds_same first second kinds same is adds h =
+    let (whole, are) = adds h in
+    (whole, are ∙ ap (λ ks. first.kinds ++ ks) is)
 
 module _ {A : Type 0} (sign : Symbol) (spell : A → List Kind) where
   abbrev after : List A → List Kind
@@ -41,13 +55,12 @@ module _ {A : Type 0} (sign : Symbol) (spell : A → List Kind) where
   next_part xs at x h e = let one : at + 1 ≡ suc at = omega arith in ap (λ n. separated sign (map spell (take n xs))) one ∙ next_separated xs at x (slice_get_read xs (length xs) at x refl h e)
 
   -- a turn of a loop over parts
-  pub next_turn : (old before signed after : List Kind) (xs : List A) (at : ℕ) (x : A) → before ≡ old ++ separated sign (map spell (take at xs))
-      → signed ≡ before ++ between sign at → after ≡ signed ++ spell x → at < length xs → x ≡ get_or xs at x
-      → after ≡ old ++ separated sign (map spell (take (at + 1) xs))
-  next_turn old before signed after xs at x b s a h e =
-      let so_far = separated sign (map spell (take at xs)) in
-      a ∙ ap (λ ks. ks ++ spell x) (s ∙ ap (λ ks. ks ++ between sign at) b) ∙ append_assoc (old ++ so_far) (between sign at) (spell x)
-      ∙ append_assoc old so_far (between sign at ++ spell x) ∙ ap (λ ks. old ++ ks) (sym (next_part xs at x h e))
+  pub next_turn : (first before signed after : Tokens) (xs : List A) (at : ℕ) (x : A) → Adds first before (separated sign (map spell (take at xs)))
+      → Adds before signed (between sign at) → Adds signed after (spell x) → at < length xs → x ≡ get_or xs at x
+      → Adds first after (separated sign (map spell (take (at + 1) xs)))
+  next_turn first before signed after xs at x b s a h e =
+      adds_same first after _ _ (sym (next_part xs at x h e))
+      (adds_more first before after _ _ b (adds_more before signed after (between sign at) (spell x) s a))
 
 module _ {A : Type 0} (spell : A → List Kind) where
   next_beside : (xs : List A) (at : ℕ) (x : A) → slice_get xs at ≡ Some x → beside (map spell (take (suc at) xs)) ≡ beside (map spell (take at xs)) ++ spell x
@@ -57,12 +70,12 @@ module _ {A : Type 0} (spell : A → List Kind) where
       ap (λ ks. spell y ++ ks) (next_beside xs at x e) ∙ sym (append_assoc (spell y) (beside (map spell (take at xs))) (spell x))
 
   -- a turn of a loop over parts side by side
-  pub next_turn_beside : (old before after : List Kind) (xs : List A) (at : ℕ) (x : A) → before ≡ old ++ beside (map spell (take at xs))
-      → after ≡ before ++ spell x → at < length xs → x ≡ get_or xs at x → after ≡ old ++ beside (map spell (take (at + 1) xs))
-  next_turn_beside old before after xs at x b a h e =
+  pub next_turn_beside : (first before after : Tokens) (xs : List A) (at : ℕ) (x : A) → Adds first before (beside (map spell (take at xs)))
+      → Adds before after (spell x) → at < length xs → x ≡ get_or xs at x → Adds first after (beside (map spell (take (at + 1) xs)))
+  next_turn_beside first before after xs at x b a h e =
       let one : at + 1 ≡ suc at = omega arith in
-      a ∙ ap (λ ks. ks ++ spell x) b ∙ append_assoc old (beside (map spell (take at xs))) (spell x)
-      ∙ ap (λ ks. old ++ ks) (sym (next_beside xs at x (slice_get_read xs (length xs) at x refl h e)) ∙ ap (λ n. beside (map spell (take n xs))) (sym one))
+      adds_same first after _ _ (sym (next_beside xs at x (slice_get_read xs (length xs) at x refl h e)) ∙ ap (λ n. beside (map spell (take n xs))) (sym one))
+      (adds_more first before after (beside (map spell (take at xs))) (spell x) b a)
 
 -- how deep alternatives are, as the prover counts
 abbrev pub alternatives_size : List (Pat × Exp) → ℕ

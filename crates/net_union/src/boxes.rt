@@ -2,6 +2,7 @@
 ghost use Rattle.std.specs.Prelude.{◌≡◌, map, IfOk};
 ghost use Rattle.union_laws.specs.Moving.{moved_box, moved_handler, moved_node, moved_port, moved_rule};
 
+use crate::gathering::pushed;
 use crate::numbers::raised_exn;
 use crate::patterns::copy_positions;
 use crate::results::move_result;
@@ -18,11 +19,11 @@ pub(crate) fn move_nodes(
 ) -> Result<List<NodeC>, AllocError>
     ensures { IfOk result (λ higher. higher ≡ map (moved_node moves) nodes.now) }
 {
-    let mut higher = List::new(alloc);
+    let mut higher = Ok(List::new(alloc));
     for node in nodes {
-        higher.push(move_node(alloc, moves, node)?)?;
+        higher = pushed(higher, move_node(alloc, moves, node));
     }
-    Ok(higher)
+    higher
 }
 
 fn move_node(alloc: Global, moves: Moves, node: &NodeC) -> Result<NodeC, AllocError>
@@ -53,11 +54,11 @@ fn move_box(alloc: Global, moves: Moves, b: &BoxC) -> Result<BoxC, AllocError>
 fn move_ports(alloc: Global, moves: Moves, ports: &[PortC]) -> Result<List<PortC>, AllocError>
     ensures { IfOk result (λ higher. higher ≡ map (moved_port moves) ports.now) }
 {
-    let mut higher = List::new(alloc);
+    let mut higher = Ok(List::new(alloc));
     for port in ports {
-        higher.push(move_port(alloc, moves, port)?)?;
+        higher = pushed(higher, move_port(alloc, moves, port));
     }
-    Ok(higher)
+    higher
 }
 
 fn move_port(alloc: Global, moves: Moves, port: &PortC) -> Result<PortC, AllocError>
@@ -72,26 +73,30 @@ fn move_port(alloc: Global, moves: Moves, port: &PortC) -> Result<PortC, AllocEr
 fn move_rules(alloc: Global, moves: Moves, rules: &[RuleC]) -> Result<List<RuleC>, AllocError>
     ensures { IfOk result (λ higher. higher ≡ map (moved_rule moves) rules.now) }
 {
-    let mut higher = List::new(alloc);
+    let mut higher = Ok(List::new(alloc));
     for rule in rules {
-        let pats = copy_positions(alloc, rule.pats.as_slice())?;
-        let given = move_result(alloc, moves, &rule.result)?;
-        higher.push(RuleC {
-            pats,
-            result: given,
-        })?;
+        higher = pushed(higher, move_rule(alloc, moves, rule));
     }
-    Ok(higher)
+    higher
+}
+
+fn move_rule(alloc: Global, moves: Moves, rule: &RuleC) -> Result<RuleC, AllocError>
+    ensures { IfOk result (λ higher. higher ≡ moved_rule moves rule.now) }
+{
+    Ok(RuleC {
+        pats: copy_positions(alloc, rule.pats.as_slice())?,
+        result: move_result(alloc, moves, &rule.result)?,
+    })
 }
 
 fn move_handlers(alloc: Global, moves: Moves, handlers: &[HandC]) -> Result<List<HandC>, AllocError>
     ensures { IfOk result (λ higher. higher ≡ map (moved_handler moves) handlers.now) }
 {
-    let mut higher = List::new(alloc);
+    let mut higher = Ok(List::new(alloc));
     for handler in handlers {
-        higher.push(move_handler(alloc, moves, handler)?)?;
+        higher = pushed(higher, move_handler(alloc, moves, handler));
     }
-    Ok(higher)
+    higher
 }
 
 fn move_handler(alloc: Global, moves: Moves, handler: &HandC) -> Result<HandC, AllocError>

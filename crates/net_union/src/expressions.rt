@@ -6,6 +6,7 @@ ghost use Rattle.hume_model.specs.declared.core_tree.Expr.{Expr as Tree};
 ghost use Rattle.hume_model.specs.declared.core_tree.Expr.TheVariants as expr;
 ghost use Rattle.union_laws.specs.Moving.{moved, moved_forms, moved_type};
 
+use crate::gathering::{both, pushed};
 use crate::numbers::{raised, raised_exn};
 use crate::patterns::copy_pattern;
 use crate::types::{move_forms, move_type};
@@ -57,8 +58,8 @@ fn move_prim(
 ) -> Result<Expr, AllocError>
     ensures { IfOk result (λ higher. higher ≡ expr.Prim op (moved_type moves ty.now) (map (moved moves) parts.now)) }
 {
-    let ty = move_type(alloc, moves, ty)?;
-    Ok(Expr::Prim(op, ty, move_parts(alloc, moves, parts)?))
+    let parts = move_parts(alloc, moves, parts)?;
+    Ok(Expr::Prim(op, move_type(alloc, moves, ty)?, parts))
 }
 
 #[cycle(move_expression)]
@@ -150,11 +151,11 @@ fn move_part(alloc: Global, moves: Moves, part: &Box<Expr>) -> Result<Box<Expr>,
 fn move_parts(alloc: Global, moves: Moves, parts: &List<Expr>) -> Result<List<Expr>, AllocError>
     ensures { IfOk result (λ higher. higher ≡ map (moved moves) parts.now) }
 {
-    let mut higher = List::new(alloc);
+    let mut higher = Ok(List::new(alloc));
     for part in parts.as_slice() {
-        higher.push(move_expression(alloc, moves, part)?)?;
+        higher = pushed(higher, move_expression(alloc, moves, part));
     }
-    Ok(higher)
+    higher
 }
 
 #[cycle(move_expression)]
@@ -166,13 +167,13 @@ fn move_arms(
 ) -> Result<List<(PatC, Expr)>, AllocError>
     ensures { IfOk result (λ higher. higher ≡ map (λ (arm : Pattern × Tree). (arm.0, moved moves arm.1)) arms.now) }
 {
-    let mut higher = List::new(alloc);
+    let mut higher = Ok(List::new(alloc));
     for arm in arms {
-        let pattern = copy_pattern(alloc, &arm.0)?;
-        let body = move_expression(alloc, moves, &arm.1)?;
-        higher.push((pattern, body))?;
+        let pattern = copy_pattern(alloc, &arm.0);
+        let body = move_expression(alloc, moves, &arm.1);
+        higher = pushed(higher, both(pattern, body));
     }
-    Ok(higher)
+    higher
 }
 
 /// An expression, if there is one.

@@ -13,6 +13,7 @@
 mod boxes;
 mod expressions;
 mod functions;
+mod gathering;
 mod joining;
 mod numbers;
 mod owners;

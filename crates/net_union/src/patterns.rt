@@ -1,6 +1,7 @@
 //! Copies of patterns: nothing in them moves.
 ghost use Rattle.std.specs.Prelude.{◌≡◌, IfOk};
 
+use crate::gathering::pushed;
 use hume_base::List;
 use hume_model::{InPat, PatC};
 use std::alloc::{AllocError, Global};
@@ -8,11 +9,11 @@ use std::alloc::{AllocError, Global};
 pub(crate) fn copy_positions(alloc: Global, positions: &[InPat]) -> Result<List<InPat>, AllocError>
     ensures { IfOk result (λ copies. copies ≡ positions.now) }
 {
-    let mut copies = List::new(alloc);
+    let mut copies = Ok(List::new(alloc));
     for position in positions {
-        copies.push(copy_position(alloc, position)?)?;
+        copies = pushed(copies, copy_position(alloc, position));
     }
-    Ok(copies)
+    copies
 }
 
 fn copy_position(alloc: Global, position: &InPat) -> Result<InPat, AllocError>
@@ -43,9 +44,9 @@ pub(crate) fn copy_pattern(alloc: Global, pattern: &PatC) -> Result<PatC, AllocE
 pub(crate) fn copy_patterns(alloc: Global, patterns: &[PatC]) -> Result<List<PatC>, AllocError>
     ensures { IfOk result (λ copies. copies ≡ patterns.now) }
 {
-    let mut copies = List::new(alloc);
+    let mut copies = Ok(List::new(alloc));
     for pattern in patterns {
-        copies.push(copy_pattern(alloc, pattern)?)?;
+        copies = pushed(copies, copy_pattern(alloc, pattern));
     }
-    Ok(copies)
+    copies
 }

@@ -7,6 +7,7 @@ ghost use Rattle.hume_model.specs.declared.core_tree.Res.TheVariants as res;
 ghost use Rattle.union_laws.specs.Moving.{moved, moved_forms, moved_result};
 
 use crate::expressions::{move_expression, move_maybe};
+use crate::gathering::{both, pushed};
 use crate::numbers::raised_exn;
 use crate::patterns::copy_pattern;
 use crate::types::move_forms;
@@ -44,9 +45,9 @@ fn move_if(
 ) -> Result<Res, AllocError>
     ensures { IfOk result (λ higher. higher ≡ res.If (moved moves test.now) (moved_result moves when_true.now) (moved_result moves when_false.now)) }
 {
-    let test = move_expression(alloc, moves, test)?;
     let when_true = move_part(alloc, moves, when_true)?;
     let when_false = move_part(alloc, moves, when_false)?;
+    let test = move_expression(alloc, moves, test)?;
     Ok(Res::If(test, when_true, when_false))
 }
 
@@ -61,9 +62,9 @@ fn move_case(
     ensures { IfOk result (λ higher. higher ≡ res.Case (moved moves part.now) (moved_forms moves forms)
         (map (λ (arm : Pattern × Tree). (arm.0, moved_result moves arm.1)) arms.now)) }
 {
-    let part = move_expression(alloc, moves, part)?;
     let forms = move_forms(moves, forms)?;
     let arms = move_arms(alloc, moves, arms.as_slice())?;
+    let part = move_expression(alloc, moves, part)?;
     Ok(Res::Case(part, forms, arms))
 }
 
@@ -71,8 +72,8 @@ fn move_case(
 fn move_let(alloc: Global, moves: Moves, part: &Expr, body: &Box<Res>) -> Result<Res, AllocError>
     ensures { IfOk result (λ higher. higher ≡ res.Let (moved moves part.now) (moved_result moves body.now)) }
 {
-    let part = move_expression(alloc, moves, part)?;
-    Ok(Res::Let(part, move_part(alloc, moves, body)?))
+    let body = move_part(alloc, moves, body)?;
+    Ok(Res::Let(move_expression(alloc, moves, part)?, body))
 }
 
 #[cycle(move_result)]
@@ -91,13 +92,13 @@ fn move_arms(
 ) -> Result<List<(PatC, Res)>, AllocError>
     ensures { IfOk result (λ higher. higher ≡ map (λ (arm : Pattern × Tree). (arm.0, moved_result moves arm.1)) arms.now) }
 {
-    let mut higher = List::new(alloc);
+    let mut higher = Ok(List::new(alloc));
     for arm in arms {
-        let pattern = copy_pattern(alloc, &arm.0)?;
-        let body = move_result(alloc, moves, &arm.1)?;
-        higher.push((pattern, body))?;
+        let pattern = copy_pattern(alloc, &arm.0);
+        let body = move_result(alloc, moves, &arm.1);
+        higher = pushed(higher, both(pattern, body));
     }
-    Ok(higher)
+    higher
 }
 
 fn move_outs(
@@ -107,9 +108,9 @@ fn move_outs(
 ) -> Result<List<Option<Expr>>, AllocError>
     ensures { IfOk result (λ higher. higher ≡ map (option_map (moved moves)) outs.now) }
 {
-    let mut higher = List::new(alloc);
+    let mut higher = Ok(List::new(alloc));
     for out in outs {
-        higher.push(move_maybe(alloc, moves, out)?)?;
+        higher = pushed(higher, move_maybe(alloc, moves, out));
     }
-    Ok(higher)
+    higher
 }

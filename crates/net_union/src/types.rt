@@ -3,6 +3,7 @@ ghost use Rattle.std.specs.Prelude.{◌≡◌, map, IfOk};
 ghost use Rattle.std.specs.Option.{option_map};
 ghost use Rattle.union_laws.specs.Moving.{moved_con, moved_data, moved_exception, moved_forms, moved_type};
 
+use crate::gathering::pushed;
 use crate::numbers::raised;
 use hume_base::{ConDef, List, Shared, SumDef, Ty};
 use hume_model::{ExnDef, Forms};
@@ -20,10 +21,7 @@ pub(crate) fn move_type(alloc: Global, moves: Moves, ty: &Ty) -> Result<Ty, Allo
         Ty::Int(bits) => Ok(Ty::Int(*bits)),
         Ty::Nat(bits) => Ok(Ty::Nat(*bits)),
         Ty::Tuple(parts) => Ok(Ty::Tuple(move_parts(alloc, moves, parts.as_slice())?)),
-        Ty::Vector(count, item) => Ok(Ty::Vector(
-            *count,
-            Shared::new(alloc, move_type(alloc, moves, item)?)?,
-        )),
+        Ty::Vector(count, item) => Ok(Ty::Vector(*count, move_shared(alloc, moves, item)?)),
         Ty::Named(number) => Ok(Ty::Named(raised(*number, moves.types)?)),
     }
 }
@@ -37,23 +35,29 @@ fn move_parts(
 ) -> Result<List<Shared<Ty>>, AllocError>
     ensures { IfOk result (λ higher. higher ≡ map (moved_type moves) tys.now) }
 {
-    let mut higher = List::new(alloc);
+    let mut higher = Ok(List::new(alloc));
     for ty in tys {
-        let part = move_type(alloc, moves, ty)?;
-        higher.push(Shared::new(alloc, part)?)?;
+        higher = pushed(higher, move_shared(alloc, moves, ty));
     }
-    Ok(higher)
+    higher
+}
+
+#[cycle(move_type)]
+fn move_shared(alloc: Global, moves: Moves, ty: &Shared<Ty>) -> Result<Shared<Ty>, AllocError>
+    ensures { IfOk result (λ higher. higher ≡ moved_type moves ty.now) }
+{
+    Shared::new(alloc, move_type(alloc, moves, ty)?)
 }
 
 #[tactic(auto, using(crate::proofs::Moves::move_steps))]
 pub(crate) fn move_types(alloc: Global, moves: Moves, tys: &[Ty]) -> Result<List<Ty>, AllocError>
     ensures { IfOk result (λ higher. higher ≡ map (moved_type moves) tys.now) }
 {
-    let mut higher = List::new(alloc);
+    let mut higher = Ok(List::new(alloc));
     for ty in tys {
-        higher.push(move_type(alloc, moves, ty)?)?;
+        higher = pushed(higher, move_type(alloc, moves, ty));
     }
-    Ok(higher)
+    higher
 }
 
 /// The forms of values with the number of their data type moved up.
@@ -74,11 +78,11 @@ pub(crate) fn move_sums(
 ) -> Result<List<SumDef>, AllocError>
     ensures { IfOk result (λ higher. higher ≡ map (moved_data moves) sums.now) }
 {
-    let mut higher = List::new(alloc);
+    let mut higher = Ok(List::new(alloc));
     for sum in sums {
-        higher.push(move_sum(alloc, moves, sum)?)?;
+        higher = pushed(higher, move_sum(alloc, moves, sum));
     }
-    Ok(higher)
+    higher
 }
 
 fn move_sum(alloc: Global, moves: Moves, sum: &SumDef) -> Result<SumDef, AllocError>
@@ -94,11 +98,11 @@ fn move_sum(alloc: Global, moves: Moves, sum: &SumDef) -> Result<SumDef, AllocEr
 fn move_cons(alloc: Global, moves: Moves, cons: &[ConDef]) -> Result<List<ConDef>, AllocError>
     ensures { IfOk result (λ higher. higher ≡ map (moved_con moves) cons.now) }
 {
-    let mut higher = List::new(alloc);
+    let mut higher = Ok(List::new(alloc));
     for con in cons {
-        higher.push(move_con(alloc, moves, con)?)?;
+        higher = pushed(higher, move_con(alloc, moves, con));
     }
-    Ok(higher)
+    higher
 }
 
 fn move_con(alloc: Global, moves: Moves, con: &ConDef) -> Result<ConDef, AllocError>
@@ -117,11 +121,11 @@ pub(crate) fn move_exceptions(
 ) -> Result<List<ExnDef>, AllocError>
     ensures { IfOk result (λ higher. higher ≡ map (moved_exception moves) exns.now) }
 {
-    let mut higher = List::new(alloc);
+    let mut higher = Ok(List::new(alloc));
     for exn in exns {
-        higher.push(move_exception(alloc, moves, exn)?)?;
+        higher = pushed(higher, move_exception(alloc, moves, exn));
     }
-    Ok(higher)
+    higher
 }
 
 fn move_exception(alloc: Global, moves: Moves, exn: &ExnDef) -> Result<ExnDef, AllocError>

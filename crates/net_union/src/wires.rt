@@ -2,6 +2,7 @@
 ghost use Rattle.std.specs.Prelude.{◌≡◌, map, IfOk};
 ghost use Rattle.union_laws.specs.Moving.{moved_wire};
 
+use crate::gathering::{both, pushed};
 use crate::numbers::raised;
 use crate::types::move_type;
 use hume_base::{List, Value, copy_value};
@@ -16,16 +17,20 @@ pub(crate) fn move_wires(
 ) -> Result<List<WireC>, AllocError>
     ensures { IfOk result (λ higher. higher ≡ map (moved_wire moves) wires.now) }
 {
-    let mut higher = List::new(alloc);
+    let mut higher = Ok(List::new(alloc));
     for wire in wires {
-        higher.push(move_wire(alloc, moves, wire)?)?;
+        higher = pushed(higher, move_wire(alloc, moves, wire));
     }
-    Ok(higher)
+    higher
 }
 
 fn move_wire(alloc: Global, moves: Moves, wire: &WireC) -> Result<WireC, AllocError>
     ensures { IfOk result (λ higher. higher ≡ moved_wire moves wire.now) }
 {
+    let (ty, initial) = both(
+        move_type(alloc, moves, &wire.ty),
+        copy_initial(alloc, &wire.initial),
+    )?;
     Ok(WireC {
         line: wire.line,
         declaration: wire.declaration,
@@ -33,9 +38,9 @@ fn move_wire(alloc: Global, moves: Moves, wire: &WireC) -> Result<WireC, AllocEr
         from_port: wire.from_port,
         to: raised(wire.to, moves.nodes)?,
         to_port: wire.to_port,
-        ty: move_type(alloc, moves, &wire.ty)?,
+        ty,
         depth: wire.depth,
-        initial: copy_initial(alloc, &wire.initial)?,
+        initial,
     })
 }
 

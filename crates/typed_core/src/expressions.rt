@@ -1,6 +1,5 @@
 //! Erasing an expression.
-ghost use Rattle.std.specs.Prelude.{◌≡◌, [], ◌∷◌, map, IfOk};
-ghost use Rattle.std.specs.Option.{option_map};
+ghost use Rattle.std.specs.Prelude.{◌≡◌, [], ◌∷◌, ◌++◌, map, IfOk, OnOk};
 ghost use Rattle.hume_model.specs.declared.core_tree.Expr.TheVariants as expr;
 ghost use Rattle.hume_model.specs.declared.core_tree.Op.TheVariants.{Convert};
 ghost use Rattle.hume_model.specs.declared.core_tree.PatC.{PatC as Pattern};
@@ -16,19 +15,28 @@ use hume_model::{Expr, Op, PatC, forms_of};
 use std::alloc::{AllocError, Global};
 
 /// The core's expression.
-#[cycle(erase_expression)]
-#[tactic(auto, using(crate::proofs::Erased::erase_steps))]
 pub fn erase_expression(alloc: Global, e: &TypedExpr) -> Result<Expr, AllocError>
     ensures { IfOk result (λ core. core ≡ erased e.now) }
 {
+    Ok(erase_boxed(alloc, e)?.into_inner())
+}
+
+/// The core's expression behind a box.
+#[cycle(erase_boxed)]
+#[tactic(auto, using(crate::proofs::Erased::erase_steps))]
+pub(crate) fn erase_boxed(alloc: Global, e: &TypedExpr) -> Result<Box<Expr>, AllocError>
+    ensures { IfOk result (λ core. core ≡ erased e.now) }
+{
     match e {
-        TypedExpr::Word(word) => Ok(Expr::Word(*word)),
-        TypedExpr::Var(number) => Ok(Expr::Var(*number)),
-        TypedExpr::Con(place, parts) => Ok(Expr::Con(*place, erase_parts(alloc, parts)?)),
-        TypedExpr::Tuple(parts) => Ok(Expr::Tuple(erase_parts(alloc, parts)?)),
-        TypedExpr::Vect(parts) => Ok(Expr::Vect(erase_parts(alloc, parts)?)),
-        TypedExpr::Prim(op, of, parts) => erase_prim(alloc, *op, of, parts),
-        TypedExpr::Convert(_, to, part) => erase_conversion(alloc, to, part),
+        TypedExpr::Word(word) => Box::new(alloc, Expr::Word(*word)),
+        TypedExpr::Var(number) => Box::new(alloc, Expr::Var(*number)),
+        TypedExpr::Con(place, parts) => {
+            Box::new(alloc, Expr::Con(*place, erase_parts(alloc, parts)?))
+        }
+        TypedExpr::Tuple(parts) => Box::new(alloc, Expr::Tuple(erase_parts(alloc, parts)?)),
+        TypedExpr::Vect(parts) => Box::new(alloc, Expr::Vect(erase_parts(alloc, parts)?)),
+        TypedExpr::Prim(op, of, parts) => operation(alloc, *op, of, erase_parts(alloc, parts)?),
+        TypedExpr::Convert(_, to, part) => conversion(alloc, to, erase_boxed(alloc, part.get())?),
         TypedExpr::Index(of, _, vector, place) => erase_index(alloc, of, vector, place),
         TypedExpr::Update(of, _, vector, place, item) => {
             erase_update(alloc, of, vector, place, item)
@@ -39,144 +47,136 @@ pub fn erase_expression(alloc: Global, e: &TypedExpr) -> Result<Expr, AllocError
         TypedExpr::Case(of, part, arms) => erase_case(alloc, of, part, arms),
         TypedExpr::Let(_, part, body) => erase_let(alloc, part, body),
         TypedExpr::Call(function, parts) => {
-            Ok(Expr::Call(*function, erase_parts(alloc, parts)?))
+            Box::new(alloc, Expr::Call(*function, erase_parts(alloc, parts)?))
         }
-        TypedExpr::Raise(exn, None) => Ok(Expr::Raise(*exn, None)),
+        TypedExpr::Raise(exn, None) => Box::new(alloc, Expr::Raise(*exn, None)),
         TypedExpr::Raise(exn, Some(part)) => {
-            Ok(Expr::Raise(*exn, Some(erase_part(alloc, part)?)))
+            let part = erase_boxed(alloc, part.get())?;
+            Box::new(alloc, Expr::Raise(*exn, Some(part)))
         }
     }
 }
 
-#[cycle(erase_expression)]
-fn erase_prim(alloc: Global, op: Op, of: &Ty, parts: &List<TypedExpr>) -> Result<Expr, AllocError>
-    ensures { IfOk result (λ core. core ≡ expr.Prim op of.now (map erased parts.now)) }
+fn operation(alloc: Global, op: Op, of: &Ty, parts: List<Expr>) -> Result<Box<Expr>, AllocError>
+    ensures { IfOk result (λ core. core ≡ expr.Prim op of.now parts) }
 {
-    let parts = erase_parts(alloc, parts)?;
-    Ok(Expr::Prim(op, copy_ty(alloc, of)?, parts))
+    Box::new(alloc, Expr::Prim(op, copy_ty(alloc, of)?, parts))
 }
 
-#[cycle(erase_expression)]
-fn erase_conversion(alloc: Global, to: &Ty, part: &Box<TypedExpr>) -> Result<Expr, AllocError>
-    ensures { IfOk result (λ core. core ≡ expr.Prim Convert to.now (erased part.now ∷ [])) }
+fn conversion(alloc: Global, to: &Ty, part: Box<Expr>) -> Result<Box<Expr>, AllocError>
+    ensures { IfOk result (λ core. core ≡ expr.Prim Convert to.now (part ∷ [])) }
 {
-    let part = erase_expression(alloc, part.get())?;
-    let parts = List::of_one(alloc, part)?;
-    Ok(Expr::Prim(Op::Convert, copy_ty(alloc, to)?, parts))
+    let parts = List::of_one(alloc, part.into_inner())?;
+    operation(alloc, Op::Convert, to, parts)
 }
 
-#[cycle(erase_expression)]
+#[cycle(erase_boxed)]
 fn erase_index(
     alloc: Global,
     of: &Ty,
     vector: &Box<TypedExpr>,
     place: &Box<TypedExpr>,
-) -> Result<Expr, AllocError>
+) -> Result<Box<Expr>, AllocError>
     ensures { IfOk result (λ core. core ≡ expr.Index (count_told of.now) (erased vector.now) (erased place.now)) }
 {
-    let vector = erase_part(alloc, vector)?;
-    let place = erase_part(alloc, place)?;
-    Ok(Expr::Index(count_of(of), vector, place))
+    let vector = erase_boxed(alloc, vector.get())?;
+    let place = erase_boxed(alloc, place.get())?;
+    Box::new(alloc, Expr::Index(count_of(of), vector, place))
 }
 
-#[cycle(erase_expression)]
+#[cycle(erase_boxed)]
 fn erase_update(
     alloc: Global,
     of: &Ty,
     vector: &Box<TypedExpr>,
     place: &Box<TypedExpr>,
     item: &Box<TypedExpr>,
-) -> Result<Expr, AllocError>
+) -> Result<Box<Expr>, AllocError>
     ensures { IfOk result (λ core. core
         ≡ expr.Update (count_told of.now) (erased vector.now) (erased place.now) (erased item.now)) }
 {
-    let vector = erase_part(alloc, vector)?;
-    let place = erase_part(alloc, place)?;
-    let item = erase_part(alloc, item)?;
-    Ok(Expr::Update(count_of(of), vector, place, item))
+    let vector = erase_boxed(alloc, vector.get())?;
+    let place = erase_boxed(alloc, place.get())?;
+    let item = erase_boxed(alloc, item.get())?;
+    Box::new(alloc, Expr::Update(count_of(of), vector, place, item))
 }
 
-#[cycle(erase_expression)]
+#[cycle(erase_boxed)]
 fn erase_if(
     alloc: Global,
     test: &Box<TypedExpr>,
     when_true: &Box<TypedExpr>,
     when_false: &Box<TypedExpr>,
-) -> Result<Expr, AllocError>
+) -> Result<Box<Expr>, AllocError>
     ensures { IfOk result (λ core. core ≡ expr.If (erased test.now) (erased when_true.now) (erased when_false.now)) }
 {
-    let test = erase_part(alloc, test)?;
-    let when_true = erase_part(alloc, when_true)?;
-    let when_false = erase_part(alloc, when_false)?;
-    Ok(Expr::If(test, when_true, when_false))
+    let test = erase_boxed(alloc, test.get())?;
+    let when_true = erase_boxed(alloc, when_true.get())?;
+    let when_false = erase_boxed(alloc, when_false.get())?;
+    Box::new(alloc, Expr::If(test, when_true, when_false))
 }
 
-#[cycle(erase_expression)]
+#[cycle(erase_boxed)]
 fn erase_case(
     alloc: Global,
     of: &Ty,
     part: &Box<TypedExpr>,
     arms: &List<(PatC, TypedExpr)>,
-) -> Result<Expr, AllocError>
+) -> Result<Box<Expr>, AllocError>
     ensures { IfOk result (λ core. core ≡ expr.Case (erased part.now) (forms_told of.now)
         (map (λ (arm : Pattern × Tree). (arm.0, erased arm.1)) arms.now)) }
 {
-    let part = erase_part(alloc, part)?;
+    let part = erase_boxed(alloc, part.get())?;
     let arms = erase_arms(alloc, arms.as_slice())?;
-    Ok(Expr::Case(part, forms_of(of), arms))
+    Box::new(alloc, Expr::Case(part, forms_of(of), arms))
 }
 
-#[cycle(erase_expression)]
+#[cycle(erase_boxed)]
 fn erase_let(
     alloc: Global,
     part: &Box<TypedExpr>,
     body: &Box<TypedExpr>,
-) -> Result<Expr, AllocError>
+) -> Result<Box<Expr>, AllocError>
     ensures { IfOk result (λ core. core ≡ expr.Let (erased part.now) (erased body.now)) }
 {
-    let part = erase_part(alloc, part)?;
-    Ok(Expr::Let(part, erase_part(alloc, body)?))
+    let part = erase_boxed(alloc, part.get())?;
+    let body = erase_boxed(alloc, body.get())?;
+    Box::new(alloc, Expr::Let(part, body))
 }
 
-#[cycle(erase_expression)]
-fn erase_part(alloc: Global, part: &Box<TypedExpr>) -> Result<Box<Expr>, AllocError>
-    ensures { IfOk result (λ core. core ≡ erased part.now) }
-{
-    Box::new(alloc, erase_expression(alloc, part.get())?)
-}
-
-#[cycle(erase_expression)]
+#[cycle(erase_boxed)]
 #[tactic(auto, using(crate::proofs::Erased::erase_steps))]
 fn erase_parts(alloc: Global, parts: &List<TypedExpr>) -> Result<List<Expr>, AllocError>
     ensures { IfOk result (λ core. core ≡ map erased parts.now) }
 {
     let mut core = List::new(alloc);
     for part in parts.as_slice() {
-        core.push(erase_expression(alloc, part)?)?;
+        let part = erase_boxed(alloc, part)?;
+        core.push(part.into_inner())?;
     }
     Ok(core)
 }
 
-#[cycle(erase_expression)]
+#[cycle(erase_boxed)]
 #[tactic(auto, using(crate::proofs::Erased::erase_steps))]
 fn erase_arms(alloc: Global, arms: &[(PatC, TypedExpr)]) -> Result<List<(PatC, Expr)>, AllocError>
     ensures { IfOk result (λ core. core ≡ map (λ (arm : Pattern × Tree). (arm.0, erased arm.1)) arms.now) }
 {
     let mut core = List::new(alloc);
     for arm in arms {
-        let pattern = copy_pattern(alloc, &arm.0)?;
-        let body = erase_expression(alloc, &arm.1)?;
-        core.push((pattern, body))?;
+        let body = erase_boxed(alloc, &arm.1)?;
+        put_arm(alloc, &mut core, &arm.0, body)?;
     }
     Ok(core)
 }
 
-/// An expression, if there is one.
-pub(crate) fn erase_maybe(alloc: Global, e: &Option<TypedExpr>) -> Result<Option<Expr>, AllocError>
-    ensures { IfOk result (λ core. core ≡ option_map erased e.now) }
+fn put_arm(
+    alloc: Global,
+    arms: &mut List<(PatC, Expr)>,
+    pattern: &PatC,
+    body: Box<Expr>,
+) -> Result<(), AllocError>
+    ensures { OnOk result (arms.new ≡ arms.old ++ (pattern.now, body) ∷ []) }
 {
-    match e {
-        None => Ok(None),
-        Some(e) => Ok(Some(erase_expression(alloc, e)?)),
-    }
+    arms.push((copy_pattern(alloc, pattern)?, body.into_inner()))
 }

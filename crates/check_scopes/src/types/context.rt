@@ -87,8 +87,7 @@ impl<'a> Context<'a> {
             return Err(AllocError);
         };
         let _number = self.held.pop();
-        self.held.push(last)?;
-        Ok(())
+        self.held.push(last)
     }
 
     /// Puts the last type of the stack on it once more.
@@ -99,8 +98,7 @@ impl<'a> Context<'a> {
         let Some(number) = self.held.last() else {
             return Err(AllocError);
         };
-        self.held.push(number)?;
-        Ok(())
+        self.held.push(number)
     }
 
     /// Puts the last but one type of the stack on it once more.
@@ -111,8 +109,7 @@ impl<'a> Context<'a> {
         let Some(number) = self.held.before_last() else {
             return Err(AllocError);
         };
-        self.held.push(number)?;
-        Ok(())
+        self.held.push(number)
     }
 
     /// What is seen of the last type of the stack.
@@ -146,8 +143,7 @@ impl<'a> Context<'a> {
         let Some(number) = self.held.last() else {
             return Err(AllocError);
         };
-        let ty = scalar(&self.types, number)?;
-        Ok(ty)
+        scalar(&self.types, number)
     }
 
     /// The last but one type of the stack, one of numbers, `char` or `bool`, as a tree. Any other is answered with want of memory.
@@ -157,8 +153,7 @@ impl<'a> Context<'a> {
         let Some(number) = self.held.before_last() else {
             return Err(AllocError);
         };
-        let ty = scalar(&self.types, number)?;
-        Ok(ty)
+        scalar(&self.types, number)
     }
 
     /// The last type of the stack as a tree, which shares its parts.
@@ -169,8 +164,7 @@ impl<'a> Context<'a> {
         let Some(number) = self.held.last() else {
             return Err(AllocError);
         };
-        let tree = self.types.tree(alloc, number)?;
-        Ok(tree)
+        self.types.tree(alloc, number)
     }
 
     /// The last but one type of the stack as a tree, which shares its parts.
@@ -181,8 +175,7 @@ impl<'a> Context<'a> {
         let Some(number) = self.held.before_last() else {
             return Err(AllocError);
         };
-        let tree = self.types.tree(alloc, number)?;
-        Ok(tree)
+        self.types.tree(alloc, number)
     }
 
     /// The type of the last variable as a tree, which shares its parts.

@@ -44,16 +44,21 @@ fn tree_of(alloc: Global, trees: &[Shared<Ty>], node: &Node) -> Result<Shared<Ty
     ensures is { IfOk result (λ tree. tree ≡ ty_of trees.now node.now) }
     ensures within { OnOk result (IsWithin (length trees.now) node.now) }
 {
-    let ty = match node {
-        Node::Bool => Ty::Bool,
-        Node::Char => Ty::Char,
-        Node::Int(bits) => Ty::Int(*bits),
-        Node::Nat(bits) => Ty::Nat(*bits),
-        Node::Tuple(parts) => Ty::Tuple(parts_of(alloc, trees, parts.as_slice())?),
-        Node::Vector(count, item) => Ty::Vector(*count, part_of(trees, *item)?),
-        Node::Named(number) => Ty::Named(*number),
-    };
-    Shared::new(alloc, ty)
+    match node {
+        Node::Bool => Shared::new(alloc, Ty::Bool),
+        Node::Char => Shared::new(alloc, Ty::Char),
+        Node::Int(bits) => Shared::new(alloc, Ty::Int(*bits)),
+        Node::Nat(bits) => Shared::new(alloc, Ty::Nat(*bits)),
+        Node::Tuple(parts) => {
+            let parts = parts_of(alloc, trees, parts.as_slice())?;
+            Shared::new(alloc, Ty::Tuple(parts))
+        }
+        Node::Vector(count, item) => {
+            let item = part_of(trees, *item)?;
+            Shared::new(alloc, Ty::Vector(*count, item))
+        }
+        Node::Named(number) => Shared::new(alloc, Ty::Named(*number)),
+    }
 }
 
 fn parts_of(

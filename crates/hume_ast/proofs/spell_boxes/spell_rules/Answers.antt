@@ -6,4 +6,4 @@ use Rattle.hume_ast.proofs.spell_boxes.spell_rules.Goals as goal
 pub loop-at-preserved : goal.loop-at-preserved
 loop-at-preserved c =
     next_turn Bar spelled_rule _ _ _ _ c.args.rules.now c.loop-at.at c.index-rules-at.result c.loop-at.invariant
-    c.in_ok-sign_between.ensures c.in_ok-spell_rule.ensures c.loop-at-test.true c.index-rules-at.is
+    c.sign_between.ensures c.spell_rule.ensures c.loop-at-test.true c.index-rules-at.is

@@ -6,4 +6,4 @@ use Rattle.hume_ast.proofs.spell_declarations.spell_constructors.Goals as goal
 pub loop-at-preserved : goal.loop-at-preserved
 loop-at-preserved c =
     next_turn Bar spelled_constructor _ _ _ _ c.args.constructors.now c.loop-at.at c.index-constructors-at.result c.loop-at.invariant
-    c.in_ok-sign_between.ensures c.in_ok-spell_constructor.ensures c.loop-at-test.true c.index-constructors-at.is
+    c.sign_between.ensures c.spell_constructor.ensures c.loop-at-test.true c.index-constructors-at.is

@@ -1,6 +1,7 @@
-use Rattle.std.proofs.Common.{◌≡◌, ◌++◌, map, take}
+use Rattle.std.proofs.Common.{map, take}
 use Rattle.hume_ast.specs.Spelling.{spelled_equation, beside}
+use Rattle.hume_ast.specs.inner.Tokens.{Adds}
 use Rattle.hume_ast.proofs.spell_declarations.spell_equations.Given as goal
 
 abbrev pub invariant-loop-at : goal.invariant-loop-at
-invariant-loop-at l = l.out ≡ l.fn.out ++ beside (map spelled_equation (take l.at l.equations))
+invariant-loop-at l = Adds l.fn.out l.out (beside (map spelled_equation (take l.at l.equations)))

@@ -1,10 +1,11 @@
-use Rattle.std.proofs.Common.{◌≡◌, ◌+◌, ◌*◌, max, ◌++◌, map, take}
+use Rattle.std.proofs.Common.{◌+◌, ◌*◌, max, map, take}
 use denote.Param.Weighed.{most}
 use Rattle.hume_base.specs.declared.symbol.Symbol.TheVariants.{Comma, Bar}
 use Rattle.hume_ast.specs.declared.tree.Exp.{size-Exp}
 use Rattle.hume_ast.specs.Spelling.{spelled_exp, separated, beside}
 use Rattle.hume_ast.specs.inner.Parts.{spelled_alternative}
 use Rattle.hume_ast.proofs.SpellSteps.{alternatives_size}
+use Rattle.hume_ast.specs.inner.Tokens.{Adds}
 use Rattle.hume_ast.proofs.spell_expressions.+spell_expressions.Given as goal
 
 abbrev pub decreases-spell_exp : goal.decreases-spell_exp
@@ -53,10 +54,16 @@ abbrev pub decreases-spell_exps_beside : goal.decreases-spell_exps_beside
 decreases-spell_exps_beside l = 4 * most size-Exp l.exps.now + 1
 
 abbrev pub invariant-spell_exps-loop-at : goal.invariant-spell_exps-loop-at
-invariant-spell_exps-loop-at l = l.out ≡ l.fn.out ++ separated Comma (map spelled_exp (take l.at l.exps))
+invariant-spell_exps-loop-at l = Adds l.fn.out l.out (separated Comma (map spelled_exp (take l.at l.exps)))
 
 abbrev pub invariant-spell_exps_beside-loop-at : goal.invariant-spell_exps_beside-loop-at
-invariant-spell_exps_beside-loop-at l = l.out ≡ l.fn.out ++ beside (map spelled_exp (take l.at l.exps))
+invariant-spell_exps_beside-loop-at l = Adds l.fn.out l.out (beside (map spelled_exp (take l.at l.exps)))
 
 abbrev pub invariant-spell_alternatives-loop-at : goal.invariant-spell_alternatives-loop-at
-invariant-spell_alternatives-loop-at l = l.out ≡ l.fn.out ++ separated Bar (map spelled_alternative (take l.at l.alternatives))
+invariant-spell_alternatives-loop-at l = Adds l.fn.out l.out (separated Bar (map spelled_alternative (take l.at l.alternatives)))
+
+abbrev pub decreases-spell_application : goal.decreases-spell_application
+decreases-spell_application l = 4 * most size-Exp l.arguments.now + 2
+
+abbrev pub decreases-spell_construction : goal.decreases-spell_construction
+decreases-spell_construction l = 4 * most size-Exp l.arguments.now + 2

@@ -5,4 +5,4 @@ use Rattle.hume_ast.proofs.spell_types.+spell_types.Goals as goal
 pub spell_types-loop-at-preserved : goal.spell_types-loop-at-preserved
 spell_types-loop-at-preserved t c =
     next_turn c.args.symbol spelled_ty _ _ _ _ c.args.types.now c.loop-at.at c.index-types-at.result c.loop-at.invariant
-    c.in_ok-sign_between.ensures c.in_ok-spell_type.ensures c.loop-at-test.true c.index-types-at.is
+    c.sign_between.ensures c.spell_type.ensures c.loop-at-test.true c.index-types-at.is

@@ -4,6 +4,7 @@ use Rattle.hume_model.specs.declared.core_tree.Expr.{Expr, size-Expr}
 use Rattle.hume_model.specs.declared.core_tree.PatC.{PatC}
 use Rattle.hume_model.proofs.Ranks.{arms_size}
 use Rattle.union_laws.specs.Moving.{moved}
+use Rattle.std.specs.Prelude.{IfOk}
 use Rattle.net_union.proofs.expressions.+move_expression.Given as goal
 
 abbrev pub decreases-move_expression : goal.decreases-move_expression
@@ -37,7 +38,7 @@ abbrev pub decreases-move_arms : goal.decreases-move_arms
 decreases-move_arms l = 4 * arms_size l.arms.now + 1
 
 abbrev pub invariant-move_parts-loop-part : goal.invariant-move_parts-loop-part
-invariant-move_parts-loop-part l = l.higher ≡ map (moved l.fn.moves) (take l.part-index l.parts)
+invariant-move_parts-loop-part l = IfOk l.higher (λ made. made ≡ map (moved l.fn.moves) (take l.part-index l.parts))
 
 abbrev pub invariant-move_arms-loop-arm : goal.invariant-move_arms-loop-arm
-invariant-move_arms-loop-arm l = l.higher ≡ map (λ (arm : PatC × Expr). (arm.0, moved l.fn.moves arm.1)) (take l.arm-index l.arms)
+invariant-move_arms-loop-arm l = IfOk l.higher (λ made. made ≡ map (λ (arm : PatC × Expr). (arm.0, moved l.fn.moves arm.1)) (take l.arm-index l.arms))

@@ -3,6 +3,7 @@ use denote.Param.Weighed.{most}
 use Rattle.hume_model.specs.declared.core_tree.PatC.{PatC}
 use Rattle.hume_model.specs.declared.core_tree.Res.{Res, size-Res}
 use Rattle.union_laws.specs.Moving.{moved_result}
+use Rattle.std.specs.Prelude.{IfOk}
 use Rattle.net_union.proofs.results.+move_result.Given as goal
 
 abbrev pub decreases-move_result : goal.decreases-move_result
@@ -24,4 +25,4 @@ abbrev pub decreases-move_arms : goal.decreases-move_arms
 decreases-move_arms l = 4 * most (λ arm. max 0 (max (size-Res arm.1) 0)) l.arms.now + 1
 
 abbrev pub invariant-move_arms-loop-arm : goal.invariant-move_arms-loop-arm
-invariant-move_arms-loop-arm l = l.higher ≡ map (λ (arm : PatC × Res). (arm.0, moved_result l.fn.moves arm.1)) (take l.arm-index l.arms)
+invariant-move_arms-loop-arm l = IfOk l.higher (λ made. made ≡ map (λ (arm : PatC × Res). (arm.0, moved_result l.fn.moves arm.1)) (take l.arm-index l.arms))

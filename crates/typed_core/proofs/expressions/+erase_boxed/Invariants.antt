@@ -3,16 +3,10 @@ use denote.Param.Weighed.{most}
 use Rattle.hume_model.specs.declared.core_tree.PatC.{PatC}
 use Rattle.typed_core.specs.declared.typed_tree.TypedExpr.{TypedExpr, size-TypedExpr}
 use Rattle.typed_core.specs.Erasing.{erased}
-use Rattle.typed_core.proofs.expressions.+erase_expression.Given as goal
+use Rattle.typed_core.proofs.expressions.+erase_boxed.Given as goal
 
-abbrev pub decreases-erase_expression : goal.decreases-erase_expression
-decreases-erase_expression l = 4 * size-TypedExpr l.e.now
-
-abbrev pub decreases-erase_prim : goal.decreases-erase_prim
-decreases-erase_prim l = 4 * most size-TypedExpr l.parts.now + 2
-
-abbrev pub decreases-erase_conversion : goal.decreases-erase_conversion
-decreases-erase_conversion l = 4 * size-TypedExpr l.part.now + 2
+abbrev pub decreases-erase_boxed : goal.decreases-erase_boxed
+decreases-erase_boxed l = 4 * size-TypedExpr l.e.now
 
 abbrev pub decreases-erase_index : goal.decreases-erase_index
 decreases-erase_index l = 4 * max (size-TypedExpr l.vector.now) (size-TypedExpr l.place.now) + 2
@@ -28,9 +22,6 @@ decreases-erase_case l = 4 * max (size-TypedExpr l.part.now) (most (λ arm. max 
 
 abbrev pub decreases-erase_let : goal.decreases-erase_let
 decreases-erase_let l = 4 * max (size-TypedExpr l.part.now) (size-TypedExpr l.body.now) + 2
-
-abbrev pub decreases-erase_part : goal.decreases-erase_part
-decreases-erase_part l = 4 * size-TypedExpr l.part.now + 1
 
 abbrev pub decreases-erase_parts : goal.decreases-erase_parts
 decreases-erase_parts l = 4 * most size-TypedExpr l.parts.now + 1
