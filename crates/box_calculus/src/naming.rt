@@ -1,9 +1,10 @@
 //! Outputs that become functions.
-ghost use Rattle.std.specs.Prelude.{◌≡◌, ◌⊎◌, ◌<◌, IfOk, IfErr, OnOk, IfSome, None, Some, [], ◌∷◌, is_some, length, map, replicate};
+ghost use Rattle.std.specs.Prelude.{◌≡◌, ◌⊎◌, ◌<◌, IfOk, IfErr, OnOk, IfSome, None, Some, [], ◌∷◌, is_some, length, map, replicate, slice_get, slice_set};
 ghost use Rattle.std.specs.List.{range_with_len};
 ghost use Rattle.hume_model.specs.declared.core_tree.Expr.TheVariants.{Call, Var as VarExpr};
 ghost use Rattle.hume_model.specs.declared.core_tree.PatC.TheVariants.{Var as VarPattern};
 ghost use Rattle.hume_model.specs.declared.core_tree.Res.{out-Res};
+ghost use Rattle.hume_model.specs.declared.core_tree.Res.TheVariants.{Outs as Outputs};
 ghost use Rattle.calculus_laws.specs.declared.step.CalcError.TheVariants.{NoMemory as OutOfMemory};
 ghost use Rattle.calculus_laws.specs.Naming.{body_of, calling_box, may_be_named, named_function, only_output, output_at, output_refusal, variables};
 
@@ -34,28 +35,39 @@ pub(crate) fn name_output(
 {
     let params = check_name(alloc, types, funs, b, rule, name.bytes())?;
     let count = params.len() as u32;
-    let call = call_on_variables(alloc, funs.len() as u32, count)?;
-    let result = Res::Outs(List::of_one(alloc, Some(call))?);
     let gives = first_type(alloc, b.outs.as_slice())?;
-    let equations = match exchange_result(alloc, b, rule, result) {
-        Some(body) => one_equation(alloc, count, body)?,
-        None => unreachable!(),
-    };
+    let name = name.copy()?;
+    let call = call_on_variables(alloc, funs.len() as u32, count)?;
+    let equations = named_equation(alloc, b, rule, count, call)?;
     Ok(FunC {
-        name: name.copy()?,
+        name,
         line: b.line,
         params,
-        gives,
+        gives: gives.into_inner(),
         equations,
     })
 }
 
-// The equation of a function of so many variables.
-fn one_equation(alloc: Global, count: u32, body: Expr) -> Result<List<EqC>, AllocError>
-    ensures { IfOk result (λ equations. equations ≡ record { pats = replicate count VarPattern; body = body } ∷ []) }
+// The equation of a function of `count` variables for the output of a rule, in whose place the call comes; none of a rule that has
+// not one output.
+fn named_equation(
+    alloc: Global,
+    b: &mut BoxC,
+    rule: u32,
+    count: u32,
+    call: List<Option<Expr>>,
+) -> Result<List<EqC>, AllocError>
+    requires { rule < length b.old.rules }
+    ensures equations { IfSome (slice_get b.old.rules rule) (λ old. IfSome (body_of (out-Res old.result)) (λ body.
+        IfOk result (λ equations. equations ≡ record { pats = replicate count VarPattern; body = body } ∷ []))) }
+    ensures exchanged { OnOk result (IfSome (slice_get b.old.rules rule) (λ old.
+        b.new ≡ record b.old { rules = slice_set b.old.rules rule (record old { result = Outputs call }) })) }
 {
     let pats = variable_patterns(alloc, count)?;
-    List::of_one(alloc, EqC { pats, body })
+    match exchange_result(alloc, b, rule, Res::Outs(call)) {
+        Some(body) => List::of_one(alloc, EqC { pats, body }),
+        None => Ok(List::new(alloc)),
+    }
 }
 
 // The types of the variables of a rule whose output may become a function of the name.
@@ -116,16 +128,27 @@ fn is_room_for(funs: &[FunC], name: &[u8], count: usize) -> bool
         && !is_taken(funs, name)
 }
 
-// A call of the function on its variables.
+// A call of the function on its variables, as the one output of a rule.
+fn call_on_variables(
+    alloc: Global,
+    function: u32,
+    count: u32,
+) -> Result<List<Option<Expr>>, AllocError>
+    ensures { IfOk result (λ outs. outs ≡ Some (Call function (map VarExpr (range_with_len 0 count))) ∷ []) }
+{
+    let parts = variables_to(alloc, count)?;
+    List::of_one(alloc, Some(Expr::Call(function, parts)))
+}
+
 #[tactic(auto, using(crate::proofs::Counted::variable_steps))]
-fn call_on_variables(alloc: Global, function: u32, count: u32) -> Result<Expr, AllocError>
-    ensures { IfOk result (λ call. call ≡ Call function (map VarExpr (range_with_len 0 count))) }
+fn variables_to(alloc: Global, count: u32) -> Result<List<Expr>, AllocError>
+    ensures { IfOk result (λ parts. parts ≡ map VarExpr (range_with_len 0 count)) }
 {
     let mut parts = List::new(alloc);
     for number in 0..count {
         parts.push(Expr::Var(number))?;
     }
-    Ok(Expr::Call(function, parts))
+    Ok(parts)
 }
 
 // So many patterns that are variables.

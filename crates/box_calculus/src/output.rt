@@ -4,7 +4,7 @@ ghost use Rattle.hume_model.specs.declared.core_tree.Res.{out-Res};
 ghost use Rattle.hume_model.specs.BoxTyping.{port_types};
 ghost use Rattle.calculus_laws.specs.Naming.{body_of, only_body};
 
-use hume_base::{List, Ty, copy_ty};
+use hume_base::{Box, List, Ty, copy_ty};
 use hume_model::{BoxC, Expr, PortC, Res};
 use std::alloc::{AllocError, Global};
 use std::mem;
@@ -28,7 +28,10 @@ fn take_body(given: Res) -> Option<Expr>
 {
     match given {
         Res::Outs(outs) => only_body(outs),
-        _ => None,
+        other => {
+            drop(other);
+            None
+        }
     }
 }
 
@@ -41,9 +44,9 @@ fn only_body(outs: List<Option<Expr>>) -> Option<Expr>
 }
 
 /// The type of the first output.
-pub(crate) fn first_type(alloc: Global, outs: &[PortC]) -> Result<Ty, AllocError>
+pub(crate) fn first_type(alloc: Global, outs: &[PortC]) -> Result<Box<Ty>, AllocError>
     requires { 0 < length outs.now }
     ensures { IfOk result (λ ty. slice_get (port_types outs.now) 0 ≡ Some ty) }
 {
-    copy_ty(alloc, &outs[0].ty)
+    Box::new(alloc, copy_ty(alloc, &outs[0].ty)?)
 }

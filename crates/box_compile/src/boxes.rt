@@ -1,12 +1,12 @@
 //! The code of rules and handlers, and the programs of boxes.
-ghost use Rattle.std.specs.Prelude.{◌≡◌, ◌<◌, ◌==◌, ℕ, map, Option, IfOk, OnOk, IsTrue, MatchOption, None, Some, find};
+ghost use Rattle.std.specs.Prelude.{◌≡◌, ◌<◌, ◌==◌, ℕ, [], map, Option, IfOk, OnOk, IsTrue, MatchOption, None, Some, find};
 ghost use Rattle.std.specs.Option.{unwrap_or};
 ghost use Rattle.hume_model.specs.declared.core_tree.HandC.{HandC as Handler};
 ghost use Rattle.hume_model.specs.BoxTyping.{port_types};
 ghost use Rattle.box_costs.specs.Bounds.{box_bound};
-ghost use Rattle.box_code.specs.Represents.{BoundResultStands, HandlerStands, RuleStands, handler_spots};
+ghost use Rattle.box_code.specs.Represents.{BoundResultStands, FunctionsStand, HandlerStands, RuleStands, handler_spots};
 ghost use Rattle.box_code.specs.RepresentsBox.{RepresentsBox, handler_of};
-ghost use Rattle.box_compile.specs.inner.Boxes.{HandlersFound, RulesFound, HandlerFound};
+ghost use Rattle.box_compile.specs.inner.Boxes.{BoxWritten, HandlersFound, RulesFound, HandlerFound};
 ghost use Rattle.box_compile.specs.inner.Emitted.{Emitted};
 ghost use Rattle.box_compile.specs.inner.Entries.{entry_in};
 
@@ -43,22 +43,58 @@ pub(crate) fn box_program(
     if !are_known(b.handlers.as_slice(), exceptions) {
         return Err(AllocError);
     }
-    let needed = needed_functions(alloc, core, b)?;
-    let mut writer = Writer::make(alloc, box_words(core, b, &needed))?;
-    let entries = emit_functions(alloc, &mut writer, core, &needed)?;
-    let rules = emit_rules(alloc, &mut writer, entries.as_slice(), b.rules.as_slice())?;
-    let found = emit_handlers(alloc, &mut writer, entries.as_slice(), b, exceptions)?;
-    let handlers = all_places(alloc, found.as_slice(), writer.len())?;
     let outs = types_of(alloc, b.outs.as_slice())?;
+    let mut functions = write_functions(alloc, core, b)?;
+    let entries = functions.entries.as_slice();
+    let begins = emit_box(alloc, &mut functions.writer, entries, b, exceptions)?;
     Ok(BoxProgram {
-        code: writer.into_code(),
-        rules,
-        handlers,
+        code: functions.writer.into_code(),
+        rules: begins.rules,
+        handlers: begins.handlers,
         heap,
         stack,
         work,
         outs,
     })
+}
+
+// A code that has the functions which a box needs, and where each of them begins.
+#[derive(Drop)]
+struct Functions {
+    writer: Writer,
+    entries: List<Option<u32>>,
+}
+
+fn write_functions(alloc: Global, core: &Core, b: &BoxC) -> Result<Functions, AllocError>
+    ensures { IfOk result (λ functions. Emitted [] functions.writer (λ code from to. FunctionsStand code (entry_in functions.entries) core.now)) }
+{
+    let needed = needed_functions(alloc, core, b)?;
+    let mut writer = Writer::make(alloc, box_words(core, b, &needed))?;
+    let entries = emit_functions(alloc, &mut writer, core, &needed)?;
+    Ok(Functions { writer, entries })
+}
+
+// Where the rules and the handlers of a box begin.
+#[derive(Drop)]
+struct Beginnings {
+    rules: List<u32>,
+    handlers: List<u32>,
+}
+
+// The code of the rules and handlers of a box, where there are so many exceptions.
+fn emit_box(
+    alloc: Global,
+    writer: &mut Writer,
+    entries: &[Option<u32>],
+    b: &BoxC,
+    exceptions: u32,
+) -> Result<Beginnings, AllocError>
+    ensures { IfOk result (λ begins. BoxWritten writer.old writer.new (entry_in entries.now) b.now begins.rules begins.handlers exceptions) }
+{
+    let rules = emit_rules(alloc, writer, entries, b.rules.as_slice())?;
+    let found = emit_handlers(alloc, writer, entries, b, exceptions)?;
+    let handlers = all_places(alloc, found.as_slice(), writer.len())?;
+    Ok(Beginnings { rules, handlers })
 }
 
 // Whether each handler is for one of so many exceptions.

@@ -17,7 +17,7 @@ use crate::sizes::{arm_words, arms_words, expression_words, pattern_words};
 use crate::writer::Writer;
 use box_code::Instr;
 use hume_base::{Box, List, Ty};
-use hume_model::{Expr, NO_CASE, Op, PatC};
+use hume_model::{Expr, Forms, NO_CASE, Op, PatC};
 use std::alloc::{AllocError, Global};
 
 /// The code of an expression whose variables have these places on a stack of so many words. `entries` has where functions begin.
@@ -79,12 +79,9 @@ pub(crate) fn emit_expression(
                 alloc, writer, entries, places, high, test, when_true, when_false,
             )
         }
-        Expr::Case(part, _, arms) => match emit_expression(
-            alloc, writer, entries, places, high, part,
-        ) {
-            Err(error) => Err(error),
-            Ok(()) => emit_arms(alloc, writer, entries, places, high, arms.as_slice()),
-        },
+        Expr::Case(part, forms, arms) => {
+            emit_case(alloc, writer, entries, places, high, part, *forms, arms)
+        }
         Expr::Let(part, body) => emit_binding(alloc, writer, entries, places, high, part, body),
         Expr::Call(number, parts) => {
             emit_call(
@@ -375,6 +372,26 @@ fn emit_raise(
             writer.emit(Instr::Raise { exn, carried: true })
         }
     }
+}
+
+// The part, and behind it the alternatives; what forms its values have doesn't matter.
+#[cycle(expression)]
+#[inline(never)]
+fn emit_case(
+    alloc: Global,
+    writer: &mut Writer,
+    entries: &[Option<u32>],
+    places: &List<u32>,
+    high: u32,
+    part: &Expr,
+    forms: Forms,
+    arms: &List<(PatC, Expr)>,
+) -> Result<(), AllocError>
+    ensures { OnOk result (Emitted writer.old writer.new
+        (λ code from to. Represents code (entry_in entries.now) places.now high from to (expr.Case part.now forms arms.now))) }
+{
+    emit_expression(alloc, writer, entries, places, high, part)?;
+    emit_arms(alloc, writer, entries, places, high, arms.as_slice())
 }
 
 // The alternatives for the word that stands above so many others.

@@ -1,20 +1,19 @@
 //! The code of functions.
-ghost use Rattle.std.specs.Prelude.{◌≡◌, ◌∷◌, [], length, IfOk, OnOk};
-ghost use Rattle.box_code.specs.Represents.{EquationsStand, FunctionsStand};
+ghost use Rattle.std.specs.Prelude.{◌≡◌, ◌+◌, ◌∷◌, [], length, IfOk, OnOk};
+ghost use Rattle.box_code.specs.Represents.{counted, EquationsStand, FunctionsStand, Represents};
 ghost use Rattle.box_compile.specs.inner.Emitted.{Emitted};
 ghost use Rattle.box_compile.specs.inner.Entries.{entry_in, EquationsBegin, FunctionStands};
 
 use crate::counts::{count, plus};
 use crate::expressions::emit_expression;
-use crate::finding::found_in_words;
 use crate::needed::Needed;
-use crate::pattern_code::{emit_fields, emit_tests};
+use crate::pattern_code::emit_patterns;
 use crate::places::counted_places;
 use crate::sizes::equation_words;
 use crate::writer::Writer;
 use box_code::Instr;
 use hume_base::List;
-use hume_model::{Core, EqC, FunC, NO_CASE};
+use hume_model::{Core, EqC, Expr, FunC, NO_CASE};
 use std::alloc::{AllocError, Global};
 
 /// The code of the functions that are needed, in the order of their numbers, and where each of them begins.
@@ -97,23 +96,29 @@ fn emit_equation(
         (λ code from to. EquationsBegin code (entry_in entries.now) arguments from to (equation.now ∷ []))) }
 {
     let top = plus(arguments, 2)?;
-    let found = found_in_words(alloc, equation.pats.as_slice())?;
-    let variables = count(found.spots.len())?;
     let other = plus(writer.len(), equation_words(equation))?;
-    emit_tests(writer, top, other, found.tests.as_slice())?;
-    emit_fields(writer, top, found.spots.as_slice())?;
-    let places = counted_places(alloc, top, variables)?;
-    emit_expression(
-        alloc,
-        writer,
-        entries,
-        &places,
-        plus(top, variables)?,
-        &equation.body,
-    )?;
+    let variables = emit_patterns(alloc, writer, top, other, equation.pats.as_slice())?;
+    emit_body(alloc, writer, entries, top, variables, &equation.body)?;
     writer.emit(Instr::Return {
         count: arguments,
         variables,
     })?;
     writer.reach(other)
+}
+
+// The code of an expression with so many variables, on a stack of so many words without them.
+fn emit_body(
+    alloc: Global,
+    writer: &mut Writer,
+    entries: &[Option<u32>],
+    top: u32,
+    variables: u32,
+    body: &Expr,
+) -> Result<(), AllocError>
+    ensures { OnOk result (Emitted writer.old writer.new
+        (λ code from to. Represents code (entry_in entries.now) (counted top variables) (top + variables) from to body.now)) }
+{
+    let places = counted_places(alloc, top, variables)?;
+    let high = plus(top, variables)?;
+    emit_expression(alloc, writer, entries, &places, high, body)
 }

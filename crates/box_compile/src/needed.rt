@@ -55,51 +55,50 @@ fn add_expression(needed: &mut Needed, e: &Expr) {
     match e {
         Expr::Word(_) => {}
         Expr::Var(_) => {}
-        Expr::Con(_, parts) => add_parts(needed, parts.as_slice()),
-        Expr::Tuple(parts) => add_parts(needed, parts.as_slice()),
-        Expr::Vect(parts) => add_parts(needed, parts.as_slice()),
-        Expr::Prim(_, _, parts) => add_parts(needed, parts.as_slice()),
-        Expr::Index(_, vector, place) => {
-            add_expression(needed, vector);
-            add_expression(needed, place);
-        }
-        Expr::Update(_, vector, place, item) => {
-            add_expression(needed, vector);
-            add_expression(needed, place);
-            add_expression(needed, item);
-        }
-        Expr::If(test, when_true, when_false) => {
-            add_expression(needed, test);
-            add_expression(needed, when_true);
-            add_expression(needed, when_false);
-        }
-        Expr::Case(part, _, arms) => {
-            add_expression(needed, part);
-            add_arms(needed, arms.as_slice());
-        }
-        Expr::Let(part, body) => {
-            add_expression(needed, part);
-            add_expression(needed, body);
-        }
-        Expr::Call(number, parts) => {
-            needed.add(*number);
-            add_parts(needed, parts.as_slice());
-        }
+        Expr::Con(_, parts) => add_parts(needed, parts),
+        Expr::Tuple(parts) => add_parts(needed, parts),
+        Expr::Vect(parts) => add_parts(needed, parts),
+        Expr::Prim(_, _, parts) => add_parts(needed, parts),
+        Expr::Index(_, vector, place) => add_two(needed, vector, place),
+        Expr::Update(_, vector, place, item) => add_three(needed, vector, place, item),
+        Expr::If(test, when_true, when_false) => add_three(needed, test, when_true, when_false),
+        Expr::Case(part, _, arms) => add_case(needed, part, arms),
+        Expr::Let(part, body) => add_two(needed, part, body),
+        Expr::Call(number, parts) => add_call(needed, *number, parts),
         Expr::Raise(_, part) => add_carried(needed, part),
     }
 }
 
 #[cycle(add_expression)]
-fn add_parts(needed: &mut Needed, parts: &[Expr]) {
-    for part in parts {
-        add_expression(needed, part);
+fn add_two(needed: &mut Needed, first: &Box<Expr>, second: &Box<Expr>) {
+    add_expression(needed, first);
+    add_expression(needed, second);
+}
+
+#[cycle(add_expression)]
+fn add_three(needed: &mut Needed, first: &Box<Expr>, second: &Box<Expr>, third: &Box<Expr>) {
+    add_expression(needed, first);
+    add_two(needed, second, third);
+}
+
+#[cycle(add_expression)]
+fn add_case(needed: &mut Needed, part: &Box<Expr>, arms: &List<(PatC, Expr)>) {
+    add_expression(needed, part);
+    for arm in arms.as_slice() {
+        add_expression(needed, &arm.1);
     }
 }
 
 #[cycle(add_expression)]
-fn add_arms(needed: &mut Needed, arms: &[(PatC, Expr)]) {
-    for arm in arms {
-        add_expression(needed, &arm.1);
+fn add_call(needed: &mut Needed, number: u32, parts: &List<Expr>) {
+    needed.add(number);
+    add_parts(needed, parts);
+}
+
+#[cycle(add_expression)]
+fn add_parts(needed: &mut Needed, parts: &List<Expr>) {
+    for part in parts.as_slice() {
+        add_expression(needed, part);
     }
 }
 
@@ -113,33 +112,37 @@ fn add_carried(needed: &mut Needed, part: &Option<Box<Expr>>) {
 #[cycle(add_result)]
 fn add_result(needed: &mut Needed, res: &Res) {
     match res {
-        Res::Outs(outs) => add_outs(needed, outs.as_slice()),
-        Res::If(test, when_true, when_false) => {
-            add_expression(needed, test);
-            add_result(needed, when_true);
-            add_result(needed, when_false);
-        }
-        Res::Case(part, _, arms) => {
-            add_expression(needed, part);
-            add_result_arms(needed, arms.as_slice());
-        }
-        Res::Let(part, body) => {
-            add_expression(needed, part);
-            add_result(needed, body);
-        }
+        Res::Outs(outs) => add_outs(needed, outs),
+        Res::If(test, when_true, when_false) => add_choice(needed, test, when_true, when_false),
+        Res::Case(part, _, arms) => add_result_case(needed, part, arms),
+        Res::Let(part, body) => add_binding(needed, part, body),
         Res::Raise(_, part) => add_given(needed, part),
     }
 }
 
 #[cycle(add_result)]
-fn add_result_arms(needed: &mut Needed, arms: &[(PatC, Res)]) {
-    for arm in arms {
+fn add_choice(needed: &mut Needed, test: &Expr, when_true: &Box<Res>, when_false: &Box<Res>) {
+    add_expression(needed, test);
+    add_result(needed, when_true);
+    add_result(needed, when_false);
+}
+
+#[cycle(add_result)]
+fn add_result_case(needed: &mut Needed, part: &Expr, arms: &List<(PatC, Res)>) {
+    add_expression(needed, part);
+    for arm in arms.as_slice() {
         add_result(needed, &arm.1);
     }
 }
 
-fn add_outs(needed: &mut Needed, outs: &[Option<Expr>]) {
-    for out in outs {
+#[cycle(add_result)]
+fn add_binding(needed: &mut Needed, part: &Expr, body: &Box<Res>) {
+    add_expression(needed, part);
+    add_result(needed, body);
+}
+
+fn add_outs(needed: &mut Needed, outs: &List<Option<Expr>>) {
+    for out in outs.as_slice() {
         add_given(needed, out);
     }
 }

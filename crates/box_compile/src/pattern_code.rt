@@ -1,15 +1,15 @@
 //! The code of patterns: their tests, and the words of their variables.
 ghost use Rattle.std.specs.Prelude.{◌≡◌, ◌+◌, ◌<◌, length, IfOk, OnOk, Some, ℕ};
-ghost use Rattle.box_code.specs.Paths.{Spot as AnySpot};
+ghost use Rattle.box_code.specs.Paths.{Spot as AnySpot, spots_from, tests_from};
 ghost use Rattle.box_code.specs.Represents.{depth_of, instr_of_test, FieldsStand, TestsStand};
 ghost use Rattle.box_code.specs.Words.{path_of, words_of};
 ghost use Rattle.box_compile.specs.inner.Emitted.{Emitted};
 ghost use Rattle.box_compile.specs.inner.Parts.{FieldStands, TestStands};
-ghost use Rattle.box_compile.specs.inner.Patterns.{PatternWritten};
+ghost use Rattle.box_compile.specs.inner.Patterns.{FoundWritten, PatternWritten};
 ghost use Rattle.box_compile.specs.inner.Tests.{test_of};
 
 use crate::counts::{count, plus};
-use crate::finding::found_at;
+use crate::finding::{Found, found_at, found_in_words};
 use crate::spots::{Spot, Test, Wanted};
 use crate::writer::Writer;
 use box_code::{Instr, Path};
@@ -30,19 +30,35 @@ pub(crate) fn emit_pattern(
     ensures { IfOk result (λ count. PatternWritten writer.old writer.new place high other pat.now count) }
 {
     let found = found_at(alloc, pat, place)?;
+    emit_found(writer, high, other, &found)
+}
+
+/// The tests of patterns whose values are the words from the bottom of the frame on, and then the words of their variables, on a stack of
+/// so many words. It gives how many variables there are.
+pub(crate) fn emit_patterns(
+    alloc: Global,
+    writer: &mut Writer,
+    high: u32,
+    other: u32,
+    pats: &[PatC],
+) -> Result<u32, AllocError>
+    ensures { IfOk result (λ count. FoundWritten writer.old writer.new high other (tests_from pats.now 0) (spots_from pats.now 0) count) }
+{
+    let found = found_in_words(alloc, pats)?;
+    emit_found(writer, high, other, &found)
+}
+
+fn emit_found(writer: &mut Writer, high: u32, other: u32, found: &Found) -> Result<u32, AllocError>
+    ensures { IfOk result (λ count. FoundWritten writer.old writer.new high other found.now.tests found.now.spots count) }
+{
     let count = count(found.spots.len())?;
     emit_tests(writer, high, other, found.tests.as_slice())?;
     emit_fields(writer, high, found.spots.as_slice())?;
     Ok(count)
 }
 
-/// Tests that jump to a place if they fail, on a stack of so many words.
-pub(crate) fn emit_tests(
-    writer: &mut Writer,
-    high: u32,
-    other: u32,
-    tests: &[Test],
-) -> Result<(), AllocError>
+// Tests that jump to a place if they fail, on a stack of so many words.
+fn emit_tests(writer: &mut Writer, high: u32, other: u32, tests: &[Test]) -> Result<(), AllocError>
     ensures { OnOk result (Emitted writer.old writer.new (λ code from to. TestsStand code high other from to tests.now)) }
 {
     for test in tests {

@@ -15,7 +15,7 @@ use crate::sizes::{pattern_words, result_words};
 use crate::writer::Writer;
 use box_code::Instr;
 use hume_base::List;
-use hume_model::{Expr, NO_CASE, PatC, Res};
+use hume_model::{Expr, Forms, NO_CASE, PatC, Res};
 use std::alloc::{AllocError, Global};
 
 /// The code of a result whose variables have these places on a stack of so many words.
@@ -38,12 +38,9 @@ pub(crate) fn emit_result(
                 alloc, writer, entries, places, high, test, when_true, when_false,
             )
         }
-        Res::Case(part, _, arms) => match emit_expression(
-            alloc, writer, entries, places, high, part,
-        ) {
-            Err(error) => Err(error),
-            Ok(()) => emit_arms(alloc, writer, entries, places, high, arms.as_slice()),
-        },
+        Res::Case(part, forms, arms) => {
+            emit_case(alloc, writer, entries, places, high, part, *forms, arms)
+        }
         Res::Let(part, body) => emit_binding(alloc, writer, entries, places, high, part, body),
         Res::Raise(exn, part) => emit_raise(alloc, writer, entries, places, high, *exn, part),
     }
@@ -197,6 +194,26 @@ fn emit_binding(
     emit_expression(alloc, writer, entries, places, high, part)?;
     let inner = with_places(alloc, places, high, 1)?;
     emit_result(alloc, writer, entries, &inner, plus(high, 1)?, body)
+}
+
+// The part, and behind it the alternatives; what forms its values have doesn't matter.
+#[cycle(result)]
+#[inline(never)]
+fn emit_case(
+    alloc: Global,
+    writer: &mut Writer,
+    entries: &[Option<u32>],
+    places: &List<u32>,
+    high: u32,
+    part: &Expr,
+    forms: Forms,
+    arms: &List<(PatC, Res)>,
+) -> Result<(), AllocError>
+    ensures { OnOk result (Emitted writer.old writer.new
+        (λ code from to. ResultStands code (entry_in entries.now) places.now high from to (res.Case part.now forms arms.now))) }
+{
+    emit_expression(alloc, writer, entries, places, high, part)?;
+    emit_arms(alloc, writer, entries, places, high, arms.as_slice())
 }
 
 // The alternatives for the word that stands above so many others.

@@ -1,6 +1,6 @@
 //! How many words the code of each form takes. The writers compare it with what they have written, so that no proof needs it.
 use crate::needed::Needed;
-use hume_base::Box;
+use hume_base::{Box, List};
 use hume_model::{BoxC, Core, EqC, Expr, InPat, PatC, Res, RuleC};
 
 /// The words of a pattern's tests and of its variables, where its value is so many fields away from the stack.
@@ -33,37 +33,36 @@ pub(crate) fn expression_words(e: &Expr) -> u32 {
     match e {
         Expr::Word(_) => 2,
         Expr::Var(_) => 1,
-        Expr::Con(_, parts) => parts_words(parts.as_slice()),
-        Expr::Tuple(parts) => parts_words(parts.as_slice()),
-        Expr::Vect(parts) => parts_words(parts.as_slice()),
-        Expr::Prim(_, _, parts) => parts_words(parts.as_slice()),
-        Expr::Index(_, vector, place) => {
-            let vector = expression_words(vector);
-            more(vector.saturating_add(expression_words(place)), 1)
-        }
-        Expr::Update(_, vector, place, item) => {
-            let vector = expression_words(vector);
-            let place = expression_words(place);
-            let item = expression_words(item);
-            more(vector.saturating_add(place.saturating_add(item)), 1)
-        }
-        Expr::If(test, when_true, when_false) => {
-            let test = expression_words(test);
-            let when_true = expression_words(when_true);
-            let when_false = expression_words(when_false);
-            more(test.saturating_add(when_true.saturating_add(when_false)), 2)
-        }
-        Expr::Case(part, _, arms) => {
-            let part = expression_words(part);
-            part.saturating_add(arms_words(arms.as_slice()))
-        }
-        Expr::Let(part, body) => {
-            let part = expression_words(part);
-            more(part.saturating_add(expression_words(body)), 1)
-        }
-        Expr::Call(_, parts) => parts_words(parts.as_slice()),
+        Expr::Con(_, parts) => parts_words(parts),
+        Expr::Tuple(parts) => parts_words(parts),
+        Expr::Vect(parts) => parts_words(parts),
+        Expr::Prim(_, _, parts) => parts_words(parts),
+        Expr::Index(_, vector, place) => more(two_words(vector, place), 1),
+        Expr::Update(_, vector, place, item) => more(three_words(vector, place, item), 1),
+        Expr::If(test, when_true, when_false) => more(three_words(test, when_true, when_false), 2),
+        Expr::Case(part, _, arms) => case_words(part, arms),
+        Expr::Let(part, body) => more(two_words(part, body), 1),
+        Expr::Call(_, parts) => parts_words(parts),
         Expr::Raise(_, part) => raise_words(part),
     }
+}
+
+#[cycle(expression_words)]
+fn two_words(first: &Box<Expr>, second: &Box<Expr>) -> u32 {
+    let words = expression_words(first);
+    words.saturating_add(expression_words(second))
+}
+
+#[cycle(expression_words)]
+fn three_words(first: &Box<Expr>, second: &Box<Expr>, third: &Box<Expr>) -> u32 {
+    let words = expression_words(first);
+    words.saturating_add(two_words(second, third))
+}
+
+#[cycle(expression_words)]
+fn case_words(part: &Box<Expr>, arms: &List<(PatC, Expr)>) -> u32 {
+    let words = expression_words(part);
+    words.saturating_add(arms_words(arms.as_slice()))
 }
 
 #[cycle(expression_words)]
@@ -76,9 +75,9 @@ fn raise_words(part: &Option<Box<Expr>>) -> u32 {
 
 // The words of parts, and of the instruction behind them.
 #[cycle(expression_words)]
-fn parts_words(parts: &[Expr]) -> u32 {
+fn parts_words(parts: &List<Expr>) -> u32 {
     let mut words: u32 = 1;
-    for part in parts {
+    for part in parts.as_slice() {
         words = words.saturating_add(expression_words(part));
     }
     words
@@ -116,23 +115,38 @@ pub(crate) fn equation_words(equation: &EqC) -> u32 {
 #[cycle(result_words)]
 pub(crate) fn result_words(res: &Res) -> u32 {
     match res {
-        Res::Outs(outs) => outs_words(outs.as_slice()),
-        Res::If(test, when_true, when_false) => {
-            let when_true = result_words(when_true);
-            let when_false = result_words(when_false);
-            more(
-                expression_words(test).saturating_add(when_true.saturating_add(when_false)),
-                1,
-            )
-        }
-        Res::Case(part, _, arms) => {
-            expression_words(part).saturating_add(result_arms_words(arms.as_slice()))
-        }
-        Res::Let(part, body) => expression_words(part).saturating_add(result_words(body)),
-        Res::Raise(_, part) => match part {
-            None => 3,
-            Some(part) => more(expression_words(part), 1),
-        },
+        Res::Outs(outs) => outs_words(outs),
+        Res::If(test, when_true, when_false) => choice_words(test, when_true, when_false),
+        Res::Case(part, _, arms) => result_case_words(part, arms),
+        Res::Let(part, body) => binding_words(part, body),
+        Res::Raise(_, part) => result_raise_words(part),
+    }
+}
+
+#[cycle(result_words)]
+fn choice_words(test: &Expr, when_true: &Box<Res>, when_false: &Box<Res>) -> u32 {
+    let when_true = result_words(when_true);
+    let when_false = result_words(when_false);
+    more(
+        expression_words(test).saturating_add(when_true.saturating_add(when_false)),
+        1,
+    )
+}
+
+#[cycle(result_words)]
+fn result_case_words(part: &Expr, arms: &List<(PatC, Res)>) -> u32 {
+    expression_words(part).saturating_add(result_arms_words(arms.as_slice()))
+}
+
+#[cycle(result_words)]
+fn binding_words(part: &Expr, body: &Box<Res>) -> u32 {
+    expression_words(part).saturating_add(result_words(body))
+}
+
+fn result_raise_words(part: &Option<Expr>) -> u32 {
+    match part {
+        None => 3,
+        Some(part) => more(expression_words(part), 1),
     }
 }
 
@@ -147,9 +161,9 @@ fn result_arms_words(arms: &[(PatC, Res)]) -> u32 {
 }
 
 // The words of the outputs that are there, and of the instruction behind them.
-fn outs_words(outs: &[Option<Expr>]) -> u32 {
+fn outs_words(outs: &List<Option<Expr>>) -> u32 {
     let mut words: u32 = 1;
-    for out in outs {
+    for out in outs.as_slice() {
         if let Some(e) = out {
             words = words.saturating_add(expression_words(e));
         }

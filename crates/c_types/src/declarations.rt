@@ -165,12 +165,24 @@ fn fields(alloc: Global, types: &CTypes, tys: &[Shared<Ty>]) -> Result<List<CMem
 fn tagged_members(alloc: Global, types: &CTypes, sum: &SumDef) -> Result<List<CMember>, AllocError>
     ensures { IfOk result (λ members. members ≡ tagged_members (gathered types.now) sum.now) }
 {
-    let tag = CMember::Plain(tag_type(sum), text(alloc, b"tag")?);
-    let parts = union_members(alloc, types, sum.cons.as_slice())?;
-    let parts = CMember::Union(parts, text(alloc, b"u")?);
-    let mut members = List::of_one(alloc, tag)?;
-    members.push(parts)?;
+    let mut members = List::of_one(alloc, tag_member(alloc, sum)?)?;
+    members.push(union_member(alloc, types, sum.cons.as_slice())?)?;
     Ok(members)
+}
+
+fn tag_member(alloc: Global, sum: &SumDef) -> Result<CMember, AllocError>
+    ensures { IfOk result (λ made. made ≡ member.Plain (tag_type sum.now) (codes "tag")) }
+{
+    let name = text(alloc, b"tag")?;
+    Ok(CMember::Plain(tag_type(sum), name))
+}
+
+fn union_member(alloc: Global, types: &CTypes, cons: &[ConDef]) -> Result<CMember, AllocError>
+    ensures { IfOk result (λ made. made
+        ≡ member.Union (flat_map (constructor_members (gathered types.now)) cons.now) (codes "u")) }
+{
+    let parts = union_members(alloc, types, cons)?;
+    Ok(CMember::Union(parts, text(alloc, b"u")?))
 }
 
 fn union_members(

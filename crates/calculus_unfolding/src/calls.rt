@@ -6,7 +6,7 @@ ghost use Rattle.calculus_laws.specs.Unfolding.{call_unfolded, equation_unfolded
 ghost use Rattle.calculus_unfolding.specs.inner.Changes.{alone};
 
 use crate::counts::{count, plus};
-use crate::renumbering::{Numbers, renumber, renumber_part};
+use crate::renumbering::{Numbers, renumber_part};
 use hume_base::{Box, List};
 use hume_model::{EqC, Expr, FunC, PatC};
 use std::alloc::{AllocError, Global};
@@ -19,7 +19,7 @@ pub fn unfold_call(
     function: u32,
     args: &[Expr],
     scope: u32,
-) -> Result<Option<Expr>, AllocError>
+) -> Result<Option<Box<Expr>>, AllocError>
     ensures { IfOk result (λ new. new ≡ call_unfolded (alone funs.now) function args.now scope) }
 {
     match funs.get(function as usize) {
@@ -33,7 +33,7 @@ fn unfold_only(
     equations: &[EqC],
     args: &[Expr],
     scope: u32,
-) -> Result<Option<Expr>, AllocError>
+) -> Result<Option<Box<Expr>>, AllocError>
     ensures { IfOk result (λ new. new ≡ only_equation equations.now args.now scope) }
 {
     let Some((equation, later)) = equations.split_first() else {
@@ -72,14 +72,14 @@ fn unfold_equation(
     equation: &EqC,
     args: &[Expr],
     scope: u32,
-) -> Result<Expr, AllocError>
+) -> Result<Box<Expr>, AllocError>
     ensures { IfOk result (λ new. new ≡ equation_unfolded equation.now args.now scope) }
 {
     let numbers = Numbers::Listed {
         first: pattern_numbers(alloc, scope, equation.pats.as_slice())?,
         later: plus(scope, count(equation.pats.len())?)?,
     };
-    let body = renumber(alloc, &numbers, &equation.body)?;
+    let body = renumber_part(alloc, &numbers, &equation.body)?;
     lets_around(alloc, scope, 0, args, body)
 }
 
@@ -108,8 +108,8 @@ fn lets_around(
     scope: u32,
     count: u32,
     args: &[Expr],
-    body: Expr,
-) -> Result<Expr, AllocError>
+    body: Box<Expr>,
+) -> Result<Box<Expr>, AllocError>
     ensures { IfOk result (λ new. new ≡ lets_around scope count args.now body) }
 {
     let Some((arg, later)) = args.split_first() else {
@@ -117,5 +117,5 @@ fn lets_around(
     };
     let value = renumber_part(alloc, &Numbers::Moved { scope, count }, arg)?;
     let rest = lets_around(alloc, scope, plus(count, 1)?, later, body)?;
-    Ok(Expr::Let(value, Box::new(alloc, rest)?))
+    Box::new(alloc, Expr::Let(value, rest))
 }

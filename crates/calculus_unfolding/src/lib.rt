@@ -12,6 +12,7 @@
 mod calls;
 mod counts;
 mod further;
+mod gathering;
 mod patterns;
 mod renumbering;
 mod unfolding;

@@ -1,6 +1,7 @@
 //! Copies of patterns.
 ghost use Rattle.std.specs.Prelude.{◌≡◌, IfOk};
 
+use crate::gathering::pushed;
 use hume_base::List;
 use hume_model::PatC;
 use std::alloc::{AllocError, Global};
@@ -22,9 +23,9 @@ pub fn copy_pattern(alloc: Global, pattern: &PatC) -> Result<PatC, AllocError>
 fn copy_patterns(alloc: Global, patterns: &[PatC]) -> Result<List<PatC>, AllocError>
     ensures { IfOk result (λ copies. copies ≡ patterns.now) }
 {
-    let mut copies = List::new(alloc);
+    let mut copies = Ok(List::new(alloc));
     for pattern in patterns {
-        copies.push(copy_pattern(alloc, pattern)?)?;
+        copies = pushed(copies, copy_pattern(alloc, pattern));
     }
-    Ok(copies)
+    copies
 }

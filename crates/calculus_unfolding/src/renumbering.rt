@@ -11,6 +11,7 @@ ghost use Rattle.calculus_laws.specs.Unfolding.{renumbered};
 ghost use Rattle.calculus_unfolding.specs.inner.Numbers.{new_number};
 
 use crate::counts::plus;
+use crate::gathering::{both, pushed};
 use crate::patterns::copy_pattern;
 use hume_base::{Box, List, Ty, copy_ty};
 use hume_model::{Expr, Forms, Op, PatC};
@@ -270,11 +271,11 @@ fn renumber_parts(
 ) -> Result<List<Expr>, AllocError>
     ensures { IfOk result (λ news. news ≡ map (renumbered (new_number numbers.now)) parts.now) }
 {
-    let mut news = List::new(alloc);
+    let mut news = Ok(List::new(alloc));
     for part in parts {
-        news.push(renumber(alloc, numbers, part)?)?;
+        news = pushed(news, renumber(alloc, numbers, part));
     }
-    Ok(news)
+    news
 }
 
 #[cycle(renumber)]
@@ -286,10 +287,11 @@ fn renumber_arms(
     ensures { IfOk result (λ news.
         news ≡ map (λ (arm : Pattern × Expression). (arm.0, renumbered (new_number numbers.now) arm.1)) arms.now) }
 {
-    let mut news = List::new(alloc);
+    let mut news = Ok(List::new(alloc));
     for arm in arms {
-        let pattern = copy_pattern(alloc, &arm.0)?;
-        news.push((pattern, renumber(alloc, numbers, &arm.1)?))?;
+        let pattern = copy_pattern(alloc, &arm.0);
+        let branch = renumber(alloc, numbers, &arm.1);
+        news = pushed(news, both(pattern, branch));
     }
-    Ok(news)
+    news
 }

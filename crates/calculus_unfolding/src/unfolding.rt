@@ -25,40 +25,15 @@ pub fn unfold(alloc: Global, funs: &[FunC], e: &mut Expr, scope: u32) -> Result<
         Expr::Tuple(parts) => unfold_parts(alloc, funs, parts, scope),
         Expr::Vect(parts) => unfold_parts(alloc, funs, parts, scope),
         Expr::Prim(_, _, parts) => unfold_parts(alloc, funs, parts, scope),
-        Expr::Index(_, vector, place) => {
-            unfold_two(alloc, funs, vector.as_mut(), place.as_mut(), scope, scope)
-        }
+        Expr::Index(_, vector, place) => { unfold_two(alloc, funs, vector, place, scope, scope) }
         Expr::Update(_, vector, place, item) => {
-            unfold_three(
-                alloc,
-                funs,
-                vector.as_mut(),
-                place.as_mut(),
-                item.as_mut(),
-                scope,
-            )
+            unfold_three(alloc, funs, vector, place, item, scope)
         }
         Expr::If(test, when_true, when_false) => {
-            unfold_three(
-                alloc,
-                funs,
-                test.as_mut(),
-                when_true.as_mut(),
-                when_false.as_mut(),
-                scope,
-            )
+            unfold_three(alloc, funs, test, when_true, when_false, scope)
         }
-        Expr::Case(part, _, arms) => unfold_case(alloc, funs, part.as_mut(), arms, scope),
-        Expr::Let(part, body) => {
-            unfold_two(
-                alloc,
-                funs,
-                part.as_mut(),
-                body.as_mut(),
-                scope,
-                plus(scope, 1)?,
-            )
-        }
+        Expr::Case(part, _, arms) => unfold_case(alloc, funs, part, arms, scope),
+        Expr::Let(part, body) => { unfold_two(alloc, funs, part, body, scope, plus(scope, 1)?) }
         Expr::Call(_, _) => unfold_in_call(alloc, funs, e, scope),
         Expr::Raise(_, part) => unfold_boxed(alloc, funs, part, scope),
     }
@@ -71,8 +46,8 @@ pub fn unfold(alloc: Global, funs: &[FunC], e: &mut Expr, scope: u32) -> Result<
 fn unfold_two(
     alloc: Global,
     funs: &[FunC],
-    first: &mut Expr,
-    second: &mut Expr,
+    first: &mut Box<Expr>,
+    second: &mut Box<Expr>,
     scope: u32,
     inside: u32,
 ) -> Result<bool, AllocError>
@@ -80,10 +55,10 @@ fn unfold_two(
         (first.old, second.old) ≡ if_found found (first.new, second.new)) }
     ensures kept { IfOk result (λ found. IsFalse found → (first.new ≡ first.old) × (second.new ≡ second.old)) }
 {
-    if unfold(alloc, funs, first, scope)? {
+    if unfold(alloc, funs, first.as_mut(), scope)? {
         return Ok(true);
     }
-    unfold(alloc, funs, second, inside)
+    unfold(alloc, funs, second.as_mut(), inside)
 }
 
 #[cycle(unfold)]
@@ -92,9 +67,9 @@ fn unfold_two(
 fn unfold_three(
     alloc: Global,
     funs: &[FunC],
-    first: &mut Expr,
-    second: &mut Expr,
-    third: &mut Expr,
+    first: &mut Box<Expr>,
+    second: &mut Box<Expr>,
+    third: &mut Box<Expr>,
     scope: u32,
 ) -> Result<bool, AllocError>
     ensures found { IfOk result (λ found. two_changed (expression_changed (alone funs.now) scope)
@@ -102,7 +77,7 @@ fn unfold_three(
         (first.old, (second.old, third.old)) ≡ if_found found (first.new, (second.new, third.new))) }
     ensures kept { IfOk result (λ found. IsFalse found → (first.new ≡ first.old) × (second.new ≡ second.old) × (third.new ≡ third.old)) }
 {
-    if unfold(alloc, funs, first, scope)? {
+    if unfold(alloc, funs, first.as_mut(), scope)? {
         return Ok(true);
     }
     unfold_two(alloc, funs, second, third, scope, scope)
@@ -114,7 +89,7 @@ fn unfold_three(
 fn unfold_case(
     alloc: Global,
     funs: &[FunC],
-    part: &mut Expr,
+    part: &mut Box<Expr>,
     arms: &mut List<(PatC, Expr)>,
     scope: u32,
 ) -> Result<bool, AllocError>
@@ -122,7 +97,7 @@ fn unfold_case(
         (first_changed (arm_changed (expression_changed (alone funs.now)) scope)) (part.old, arms.old) ≡ if_found found (part.new, arms.new)) }
     ensures kept { IfOk result (λ found. IsFalse found → (part.new ≡ part.old) × (arms.new ≡ arms.old)) }
 {
-    if unfold(alloc, funs, part, scope)? {
+    if unfold(alloc, funs, part.as_mut(), scope)? {
         return Ok(true);
     }
     unfold_arms(alloc, funs, arms, scope)
@@ -145,11 +120,13 @@ fn unfold_in_call(
     let Expr::Call(function, parts) = e else {
         unreachable!()
     };
-    if let Some(new) = unfold_call(alloc, funs, *function, parts.as_slice(), scope)? {
-        *e = new;
-        return Ok(true);
+    match unfold_call(alloc, funs, *function, parts.as_slice(), scope)? {
+        None => unfold_parts(alloc, funs, parts, scope),
+        Some(new) => {
+            *e = new.into_inner();
+            Ok(true)
+        }
     }
-    unfold_parts(alloc, funs, parts, scope)
 }
 
 #[cycle(unfold)]

@@ -5,7 +5,7 @@ ghost use Rattle.calculus_unfolding.specs.inner.Changes.{alone, arm_changed, exp
 
 use crate::counts::{count_variables, plus};
 use crate::unfolding::unfold;
-use hume_base::List;
+use hume_base::{Box, List};
 use hume_model::{Expr, FunC, PatC, Res};
 use std::alloc::{AllocError, Global};
 use std::mem;
@@ -25,17 +25,10 @@ pub fn unfold_result(
     match given {
         Res::Outs(outs) => unfold_outs(alloc, funs, outs, scope),
         Res::If(test, when_true, when_false) => {
-            unfold_choice(
-                alloc,
-                funs,
-                test,
-                when_true.as_mut(),
-                when_false.as_mut(),
-                scope,
-            )
+            unfold_choice(alloc, funs, test, when_true, when_false, scope)
         }
         Res::Case(part, _, arms) => unfold_case(alloc, funs, part, arms, scope),
-        Res::Let(part, body) => unfold_binding(alloc, funs, part, body.as_mut(), scope),
+        Res::Let(part, body) => unfold_binding(alloc, funs, part, body, scope),
         Res::Raise(_, part) => unfold_out(alloc, funs, part, scope),
     }
 }
@@ -47,8 +40,8 @@ fn unfold_choice(
     alloc: Global,
     funs: &[FunC],
     test: &mut Expr,
-    when_true: &mut Res,
-    when_false: &mut Res,
+    when_true: &mut Box<Res>,
+    when_false: &mut Box<Res>,
     scope: u32,
 ) -> Result<bool, AllocError>
     ensures found { IfOk result (λ found. two_changed (expression_changed (alone funs.now) scope)
@@ -68,18 +61,18 @@ fn unfold_choice(
 fn unfold_branches(
     alloc: Global,
     funs: &[FunC],
-    when_true: &mut Res,
-    when_false: &mut Res,
+    when_true: &mut Box<Res>,
+    when_false: &mut Box<Res>,
     scope: u32,
 ) -> Result<bool, AllocError>
     ensures found { IfOk result (λ found. two_changed (result_changed (alone funs.now) scope) (result_changed (alone funs.now) scope)
         (when_true.old, when_false.old) ≡ if_found found (when_true.new, when_false.new)) }
     ensures kept { IfOk result (λ found. IsFalse found → (when_true.new ≡ when_true.old) × (when_false.new ≡ when_false.old)) }
 {
-    if unfold_result(alloc, funs, when_true, scope)? {
+    if unfold_result(alloc, funs, when_true.as_mut(), scope)? {
         return Ok(true);
     }
-    unfold_result(alloc, funs, when_false, scope)
+    unfold_result(alloc, funs, when_false.as_mut(), scope)
 }
 
 #[cycle(unfold_result)]
@@ -109,7 +102,7 @@ fn unfold_binding(
     alloc: Global,
     funs: &[FunC],
     part: &mut Expr,
-    body: &mut Res,
+    body: &mut Box<Res>,
     scope: u32,
 ) -> Result<bool, AllocError>
     ensures found { IfOk result (λ found. two_changed (expression_changed (alone funs.now) scope) (result_changed (alone funs.now) (scope + 1))
@@ -119,7 +112,7 @@ fn unfold_binding(
     if unfold(alloc, funs, part, scope)? {
         return Ok(true);
     }
-    unfold_result(alloc, funs, body, plus(scope, 1)?)
+    unfold_result(alloc, funs, body.as_mut(), plus(scope, 1)?)
 }
 
 #[cycle(unfold_result)]

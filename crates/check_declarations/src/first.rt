@@ -49,7 +49,10 @@ fn verdicts<'a>(
 {
     let plain = Elaboration::new(alloc, signatures)?;
     let mut at = ResultElaboration::new(alloc, plain);
-    verdicts_by(alloc, &mut at, decls)
+    let found = verdicts_by(alloc, &mut at, decls);
+    // a call drops all tables at once: their types aren't spelled out here
+    drop(at);
+    found
 }
 
 // The same by an elaboration that has the signatures.

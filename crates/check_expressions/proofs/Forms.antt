@@ -61,6 +61,11 @@ pub comes_to : {T E : Type 0} (r : Result T E) (tasks more others : List Task) (
     → OnOk r ((s : State) → run tasks s ≡ given (run more s) (run others)) → OnOk r (run tasks state ≡ given found (run others))
 comes_to r tasks more others state found law h = on_ok_weaker r (λ runs. runs state ∙ ap (λ o. given o (run others)) law) h
 
+-- the same from each state
+pub comes_to_each : {T E : Type 0} (r : Result T E) (tasks more others : List Task) (found : State → Option State) → ((state : State) → run more state ≡ found state)
+    → OnOk r ((s : State) → run tasks s ≡ given (run more s) (run others)) → OnOk r ((s : State) → run tasks s ≡ given (found s) (run others))
+comes_to_each r tasks more others found law h = on_ok_weaker r (λ runs s. runs s ∙ ap (λ o. given o (run others)) (law s)) h
+
 -- what an error means, said in another way
 pub other_reason : {T : Type 0} (r : Result T Stop) (P Q : Stop → Type 0) → ((stop : Stop) → P stop → Q stop) → IfErr r P → IfErr r Q
 other_reason (Ok x) P Q f h = h

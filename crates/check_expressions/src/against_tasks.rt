@@ -3,7 +3,7 @@ ghost use Rattle.std.specs.Prelude.{◌≡◌, None, OnOk, IfErr};
 ghost use Rattle.check_scopes.specs.types.Contexts.{top};
 ghost use Rattle.check_typing.specs.Partial.{given};
 ghost use Rattle.check_typing.specs.inner.Walk.{walk, expected, binary_walk, vector_walk};
-ghost use Rattle.check_tasks.specs.States.{scope_in, types_in, signatures_in};
+ghost use Rattle.check_tasks.specs.States.{State, scope_in, types_in, signatures_in};
 ghost use Rattle.check_tasks.specs.Tasks.{run, against_of, walks};
 ghost use Rattle.check_expressions.specs.inner.Plans.{DoesAgainst};
 ghost use Rattle.check_expressions.specs.declared.stop.Stop.TheVariants.{NoType, NoMemory};
@@ -35,32 +35,26 @@ pub(crate) fn against_tasks<'a>(
 {
     match e {
         Exp::Let(name, a, b) => let_against(at, tasks, name, a, b),
-        Exp::If(test, a, b) => if_against(at, tasks, test, a, b),
-        Exp::Case(a, arms) => case_against(at, tasks, a, arms.as_slice()),
+        Exp::If(test, a, b) => if_against(tasks, test, a, b),
+        Exp::Case(a, arms) => case_against(tasks, a, arms.as_slice()),
         Exp::Raise(name, None) => raise_alone(at, name),
         Exp::Raise(name, Some(a)) => raise_with(at, tasks, name, a),
         Exp::Binary(sign, a, b) => binary_against(at, tasks, *sign, e, a, b),
-        Exp::Neg(a) => neg_against(at, tasks, a),
-        Exp::Update(a, b, d) => update_against(at, tasks, a, b, d),
+        Exp::Neg(a) => neg_against(tasks, a),
+        Exp::Update(a, b, d) => update_against(tasks, a, b, d),
         Exp::Num(negative, amount) => number_against(at, *negative, *amount),
-        Exp::Paren(a) => paren_against(at, tasks, a),
-        Exp::Tuple(parts) => tuple_against(at, tasks, parts.as_slice()),
+        Exp::Paren(a) => paren_against(tasks, a),
+        Exp::Tuple(parts) => tuple_against(tasks, parts.as_slice()),
         Exp::Vect(parts) => vector_against(at, tasks, parts.as_slice()),
-        Exp::Not(_) => closed(at, tasks, e),
-        Exp::App(_, _) => closed(at, tasks, e),
-        Exp::Con(_, _) => closed(at, tasks, e),
-        Exp::Letter(_) => closed(at, tasks, e),
-        Exp::Truth(_) => closed(at, tasks, e),
-        Exp::Cast(_, _) => closed(at, tasks, e),
-        Exp::Star => closed(at, tasks, e),
+        _ => closed(tasks, e),
     }
 }
 
 // An expression that must have the last type by itself.
 #[tactic(auto, using(crate::proofs::Forms::closed_steps))]
-fn closed<'a>(at: &Elaboration<'a>, tasks: &mut Stack<Task<'a>>, e: &'a Exp) -> Result<(), Stop>
-    ensures ok { OnOk result (DoesAgainst (expected ((walk (signatures_in at.now) e.now).own (scope_in at.now))
-        (top (types_in at.now))) at.now tasks.old tasks.new) }
+fn closed<'a>(tasks: &mut Stack<Task<'a>>, e: &'a Exp) -> Result<(), Stop>
+    ensures ok { OnOk result ((state : State) → DoesAgainst (expected ((walk (signatures_in state) e.now).own (scope_in state))
+        (top (types_in state))) state tasks.old tasks.new) }
     ensures none { IfErr result (λ stop. stop ≡ NoMemory) }
 {
     first(tasks, &[Task::Own(e), Task::Types(TypeTask::IsSame)])
@@ -81,30 +75,18 @@ fn binary_against<'a>(
     ensures none { IfErr result (λ stop. stop ≡ NoMemory) }
 {
     match sign {
-        BinOp::Add => arithmetic_against(at, tasks, Op::Add, a, b),
-        BinOp::Sub => arithmetic_against(at, tasks, Op::Sub, a, b),
-        BinOp::Mul => arithmetic_against(at, tasks, Op::Mul, a, b),
-        BinOp::Div => arithmetic_against(at, tasks, Op::Div, a, b),
-        BinOp::Mod => arithmetic_against(at, tasks, Op::Mod, a, b),
-        BinOp::Or => closed(at, tasks, e),
-        BinOp::And => closed(at, tasks, e),
-        BinOp::Eq => closed(at, tasks, e),
-        BinOp::Ne => closed(at, tasks, e),
-        BinOp::Lt => closed(at, tasks, e),
-        BinOp::Le => closed(at, tasks, e),
-        BinOp::Gt => closed(at, tasks, e),
-        BinOp::Ge => closed(at, tasks, e),
-        BinOp::At => closed(at, tasks, e),
+        BinOp::Add => arithmetic_against(tasks, Op::Add, a, b),
+        BinOp::Sub => arithmetic_against(tasks, Op::Sub, a, b),
+        BinOp::Mul => arithmetic_against(tasks, Op::Mul, a, b),
+        BinOp::Div => arithmetic_against(tasks, Op::Div, a, b),
+        BinOp::Mod => arithmetic_against(tasks, Op::Mod, a, b),
+        _ => closed(tasks, e),
     }
 }
 
 #[tactic(auto, using(crate::proofs::Dispatch::same_steps))]
-fn paren_against<'a>(
-    at: &Elaboration<'a>,
-    tasks: &mut Stack<Task<'a>>,
-    a: &'a Exp,
-) -> Result<(), Stop>
-    ensures ok { OnOk result (DoesAgainst ((walk (signatures_in at.now) a.now).against (scope_in at.now) (top (types_in at.now))) at.now tasks.old tasks.new) }
+fn paren_against<'a>(tasks: &mut Stack<Task<'a>>, a: &'a Exp) -> Result<(), Stop>
+    ensures ok { OnOk result ((state : State) → DoesAgainst ((walk (signatures_in state) a.now).against (scope_in state) (top (types_in state))) state tasks.old tasks.new) }
     ensures none { IfErr result (λ stop. stop ≡ NoMemory) }
 {
     first(tasks, &[Task::Against(a)])

@@ -22,18 +22,9 @@ pub(crate) fn is_open(at: &Elaboration, e: &Exp) -> bool
         Exp::Raise(_, Some(_)) => true,
         Exp::Binary(sign, a, b) => is_arithmetic(*sign) && (is_open(at, a) && is_open(at, b)),
         Exp::Neg(a) => is_open(at, a),
-        Exp::Not(_) => false,
-        Exp::App(_, _) => false,
-        Exp::Con(_, _) => false,
-        Exp::Update(_, _, _) => false,
         Exp::Num(_, _) => true,
-        Exp::Letter(_) => false,
-        Exp::Truth(_) => false,
         Exp::Paren(a) => is_open(at, a),
-        Exp::Tuple(_) => false,
-        Exp::Cast(_, _) => false,
-        Exp::Vect(_) => false,
-        Exp::Star => false,
+        _ => false,
     }
 }
 

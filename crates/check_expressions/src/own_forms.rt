@@ -2,7 +2,7 @@
 ghost use Rattle.std.specs.Prelude.{◌≡◌, OnOk, IfErr};
 ghost use Rattle.check_typing.specs.Cores.{and_core, or_core};
 ghost use Rattle.check_typing.specs.inner.Walk.{walk, let_walk, if_walk, case_walk, arithmetic_walk, comparison_walk, logic_walk, index_walk, neg_walk, not_walk, update_walk, tuple_walk, vector_walk};
-ghost use Rattle.check_tasks.specs.States.{scope_in, signatures_in};
+ghost use Rattle.check_tasks.specs.States.{State, scope_in, signatures_in};
 ghost use Rattle.check_tasks.specs.Tasks.{walks, arm_walks};
 ghost use Rattle.check_expressions.specs.inner.Plans.{DoesOwn};
 ghost use Rattle.check_expressions.specs.declared.stop.Stop.TheVariants.{NoMemory};
@@ -43,14 +43,13 @@ pub(crate) fn let_own<'a>(
 
 #[tactic(auto, using(crate::proofs::Forms::if_own_steps))]
 pub(crate) fn if_own<'a>(
-    at: &Elaboration<'a>,
     tasks: &mut Stack<Task<'a>>,
     test: &'a Exp,
     a: &'a Exp,
     b: &'a Exp,
 ) -> Result<(), Stop>
-    ensures ok { OnOk result (DoesOwn ((if_walk (walk (signatures_in at.now) test.now) (walk (signatures_in at.now) a.now)
-        (walk (signatures_in at.now) b.now)).own (scope_in at.now)) at.now tasks.old tasks.new) }
+    ensures ok { OnOk result ((state : State) → DoesOwn ((if_walk (walk (signatures_in state) test.now) (walk (signatures_in state) a.now)
+        (walk (signatures_in state) b.now)).own (scope_in state)) state tasks.old tasks.new) }
     ensures none { IfErr result (λ stop. stop ≡ NoMemory) }
 {
     first(
@@ -67,13 +66,12 @@ pub(crate) fn if_own<'a>(
 
 #[tactic(auto, using(crate::proofs::Forms::case_own_steps))]
 pub(crate) fn case_own<'a>(
-    at: &Elaboration<'a>,
     tasks: &mut Stack<Task<'a>>,
     a: &'a Exp,
     arms: &'a [(Pat, Exp)],
 ) -> Result<(), Stop>
-    ensures ok { OnOk result (DoesOwn ((case_walk (signatures_in at.now) (walk (signatures_in at.now) a.now)
-        (arm_walks (signatures_in at.now) arms.now)).own (scope_in at.now)) at.now tasks.old tasks.new) }
+    ensures ok { OnOk result ((state : State) → DoesOwn ((case_walk (signatures_in state) (walk (signatures_in state) a.now)
+        (arm_walks (signatures_in state) arms.now)).own (scope_in state)) state tasks.old tasks.new) }
     ensures none { IfErr result (λ stop. stop ≡ NoMemory) }
 {
     first(
@@ -91,14 +89,13 @@ pub(crate) fn case_own<'a>(
 
 #[tactic(auto, using(crate::proofs::Forms::arithmetic_own_steps))]
 pub(crate) fn arithmetic_own<'a>(
-    at: &Elaboration<'a>,
     tasks: &mut Stack<Task<'a>>,
     operation: Op,
     a: &'a Exp,
     b: &'a Exp,
 ) -> Result<(), Stop>
-    ensures ok { OnOk result (DoesOwn ((arithmetic_walk operation (walk (signatures_in at.now) a.now) (walk (signatures_in at.now) b.now)).own
-        (scope_in at.now)) at.now tasks.old tasks.new) }
+    ensures ok { OnOk result ((state : State) → DoesOwn ((arithmetic_walk operation (walk (signatures_in state) a.now) (walk (signatures_in state) b.now)).own
+        (scope_in state)) state tasks.old tasks.new) }
     ensures none { IfErr result (λ stop. stop ≡ NoMemory) }
 {
     first(
@@ -113,14 +110,13 @@ pub(crate) fn arithmetic_own<'a>(
 
 #[tactic(auto, using(crate::proofs::Forms::comparison_own_steps))]
 pub(crate) fn comparison_own<'a>(
-    at: &Elaboration<'a>,
     tasks: &mut Stack<Task<'a>>,
     operation: Op,
     a: &'a Exp,
     b: &'a Exp,
 ) -> Result<(), Stop>
-    ensures ok { OnOk result (DoesOwn ((comparison_walk operation (walk (signatures_in at.now) a.now) (walk (signatures_in at.now) b.now)).own
-        (scope_in at.now)) at.now tasks.old tasks.new) }
+    ensures ok { OnOk result ((state : State) → DoesOwn ((comparison_walk operation (walk (signatures_in state) a.now) (walk (signatures_in state) b.now)).own
+        (scope_in state)) state tasks.old tasks.new) }
     ensures none { IfErr result (λ stop. stop ≡ NoMemory) }
 {
     first(
@@ -136,14 +132,9 @@ pub(crate) fn comparison_own<'a>(
 }
 
 #[tactic(auto, using(crate::proofs::Forms::and_own_steps))]
-pub(crate) fn and_own<'a>(
-    at: &Elaboration<'a>,
-    tasks: &mut Stack<Task<'a>>,
-    a: &'a Exp,
-    b: &'a Exp,
-) -> Result<(), Stop>
-    ensures ok { OnOk result (DoesOwn ((logic_walk and_core (walk (signatures_in at.now) a.now) (walk (signatures_in at.now) b.now)).own
-        (scope_in at.now)) at.now tasks.old tasks.new) }
+pub(crate) fn and_own<'a>(tasks: &mut Stack<Task<'a>>, a: &'a Exp, b: &'a Exp) -> Result<(), Stop>
+    ensures ok { OnOk result ((state : State) → DoesOwn ((logic_walk and_core (walk (signatures_in state) a.now) (walk (signatures_in state) b.now)).own
+        (scope_in state)) state tasks.old tasks.new) }
     ensures none { IfErr result (λ stop. stop ≡ NoMemory) }
 {
     first(
@@ -158,14 +149,9 @@ pub(crate) fn and_own<'a>(
 }
 
 #[tactic(auto, using(crate::proofs::Forms::or_own_steps))]
-pub(crate) fn or_own<'a>(
-    at: &Elaboration<'a>,
-    tasks: &mut Stack<Task<'a>>,
-    a: &'a Exp,
-    b: &'a Exp,
-) -> Result<(), Stop>
-    ensures ok { OnOk result (DoesOwn ((logic_walk or_core (walk (signatures_in at.now) a.now) (walk (signatures_in at.now) b.now)).own
-        (scope_in at.now)) at.now tasks.old tasks.new) }
+pub(crate) fn or_own<'a>(tasks: &mut Stack<Task<'a>>, a: &'a Exp, b: &'a Exp) -> Result<(), Stop>
+    ensures ok { OnOk result ((state : State) → DoesOwn ((logic_walk or_core (walk (signatures_in state) a.now) (walk (signatures_in state) b.now)).own
+        (scope_in state)) state tasks.old tasks.new) }
     ensures none { IfErr result (λ stop. stop ≡ NoMemory) }
 {
     first(
@@ -180,26 +166,17 @@ pub(crate) fn or_own<'a>(
 }
 
 #[tactic(auto, using(crate::proofs::Forms::index_own_steps))]
-pub(crate) fn index_own<'a>(
-    at: &Elaboration<'a>,
-    tasks: &mut Stack<Task<'a>>,
-    a: &'a Exp,
-    b: &'a Exp,
-) -> Result<(), Stop>
-    ensures ok { OnOk result (DoesOwn ((index_walk (walk (signatures_in at.now) a.now) (walk (signatures_in at.now) b.now)).own
-        (scope_in at.now)) at.now tasks.old tasks.new) }
+pub(crate) fn index_own<'a>(tasks: &mut Stack<Task<'a>>, a: &'a Exp, b: &'a Exp) -> Result<(), Stop>
+    ensures ok { OnOk result ((state : State) → DoesOwn ((index_walk (walk (signatures_in state) a.now) (walk (signatures_in state) b.now)).own
+        (scope_in state)) state tasks.old tasks.new) }
     ensures none { IfErr result (λ stop. stop ≡ NoMemory) }
 {
     first(tasks, &[Task::Own(a), Task::Index(b)])
 }
 
 #[tactic(auto, using(crate::proofs::Forms::neg_own_steps))]
-pub(crate) fn neg_own<'a>(
-    at: &Elaboration<'a>,
-    tasks: &mut Stack<Task<'a>>,
-    a: &'a Exp,
-) -> Result<(), Stop>
-    ensures ok { OnOk result (DoesOwn ((neg_walk (walk (signatures_in at.now) a.now)).own (scope_in at.now)) at.now tasks.old tasks.new) }
+pub(crate) fn neg_own<'a>(tasks: &mut Stack<Task<'a>>, a: &'a Exp) -> Result<(), Stop>
+    ensures ok { OnOk result ((state : State) → DoesOwn ((neg_walk (walk (signatures_in state) a.now)).own (scope_in state)) state tasks.old tasks.new) }
     ensures none { IfErr result (λ stop. stop ≡ NoMemory) }
 {
     first(
@@ -213,12 +190,8 @@ pub(crate) fn neg_own<'a>(
 }
 
 #[tactic(auto, using(crate::proofs::Forms::not_own_steps))]
-pub(crate) fn not_own<'a>(
-    at: &Elaboration<'a>,
-    tasks: &mut Stack<Task<'a>>,
-    a: &'a Exp,
-) -> Result<(), Stop>
-    ensures ok { OnOk result (DoesOwn ((not_walk (walk (signatures_in at.now) a.now)).own (scope_in at.now)) at.now tasks.old tasks.new) }
+pub(crate) fn not_own<'a>(tasks: &mut Stack<Task<'a>>, a: &'a Exp) -> Result<(), Stop>
+    ensures ok { OnOk result ((state : State) → DoesOwn ((not_walk (walk (signatures_in state) a.now)).own (scope_in state)) state tasks.old tasks.new) }
     ensures none { IfErr result (λ stop. stop ≡ NoMemory) }
 {
     first(
@@ -233,26 +206,21 @@ pub(crate) fn not_own<'a>(
 
 #[tactic(auto, using(crate::proofs::Forms::update_own_steps))]
 pub(crate) fn update_own<'a>(
-    at: &Elaboration<'a>,
     tasks: &mut Stack<Task<'a>>,
     a: &'a Exp,
     b: &'a Exp,
     d: &'a Exp,
 ) -> Result<(), Stop>
-    ensures ok { OnOk result (DoesOwn ((update_walk (walk (signatures_in at.now) a.now) (walk (signatures_in at.now) b.now)
-        (walk (signatures_in at.now) d.now)).own (scope_in at.now)) at.now tasks.old tasks.new) }
+    ensures ok { OnOk result ((state : State) → DoesOwn ((update_walk (walk (signatures_in state) a.now) (walk (signatures_in state) b.now)
+        (walk (signatures_in state) d.now)).own (scope_in state)) state tasks.old tasks.new) }
     ensures none { IfErr result (λ stop. stop ≡ NoMemory) }
 {
     first(tasks, &[Task::Own(a), Task::Update(b, d)])
 }
 
 #[tactic(auto, using(crate::proofs::Forms::tuple_own_steps))]
-pub(crate) fn tuple_own<'a>(
-    at: &Elaboration<'a>,
-    tasks: &mut Stack<Task<'a>>,
-    parts: &'a [Exp],
-) -> Result<(), Stop>
-    ensures ok { OnOk result (DoesOwn ((tuple_walk (walks (signatures_in at.now) parts.now)).own (scope_in at.now)) at.now tasks.old tasks.new) }
+pub(crate) fn tuple_own<'a>(tasks: &mut Stack<Task<'a>>, parts: &'a [Exp]) -> Result<(), Stop>
+    ensures ok { OnOk result ((state : State) → DoesOwn ((tuple_walk (walks (signatures_in state) parts.now)).own (scope_in state)) state tasks.old tasks.new) }
     ensures none { IfErr result (λ stop. stop ≡ NoMemory) }
 {
     first(
@@ -265,12 +233,8 @@ pub(crate) fn tuple_own<'a>(
 }
 
 #[tactic(auto, using(crate::proofs::Forms::vector_own_steps))]
-pub(crate) fn vector_own<'a>(
-    at: &Elaboration<'a>,
-    tasks: &mut Stack<Task<'a>>,
-    parts: &'a [Exp],
-) -> Result<(), Stop>
-    ensures ok { OnOk result (DoesOwn ((vector_walk (walks (signatures_in at.now) parts.now)).own (scope_in at.now)) at.now tasks.old tasks.new) }
+pub(crate) fn vector_own<'a>(tasks: &mut Stack<Task<'a>>, parts: &'a [Exp]) -> Result<(), Stop>
+    ensures ok { OnOk result ((state : State) → DoesOwn ((vector_walk (walks (signatures_in state) parts.now)).own (scope_in state)) state tasks.old tasks.new) }
     ensures none { IfErr result (λ stop. stop ≡ NoMemory) }
 {
     first(

@@ -2,7 +2,7 @@
 ghost use Rattle.std.specs.Prelude.{◌≡◌, None, OnOk, IfErr};
 ghost use Rattle.check_typing.specs.Partial.{given};
 ghost use Rattle.check_typing.specs.inner.Walk.{walk, binary_walk};
-ghost use Rattle.check_tasks.specs.States.{scope_in, signatures_in};
+ghost use Rattle.check_tasks.specs.States.{State, scope_in, signatures_in};
 ghost use Rattle.check_tasks.specs.Tasks.{run, own_of};
 ghost use Rattle.check_expressions.specs.inner.Plans.{DoesOwn};
 ghost use Rattle.check_expressions.specs.declared.stop.Stop.TheVariants.{NoType, NoMemory};
@@ -35,63 +35,62 @@ pub(crate) fn own_tasks<'a>(
 {
     match e {
         Exp::Let(name, a, b) => let_own(at, tasks, name, a, b),
-        Exp::If(test, a, b) => if_own(at, tasks, test, a, b),
-        Exp::Case(a, arms) => case_own(at, tasks, a, arms.as_slice()),
+        Exp::If(test, a, b) => if_own(tasks, test, a, b),
+        Exp::Case(a, arms) => case_own(tasks, a, arms.as_slice()),
         Exp::Raise(name, None) => raise_own(at, name),
         Exp::Raise(name, Some(a)) => raise_with_own(at, tasks, name, a),
-        Exp::Binary(sign, a, b) => binary_own(at, tasks, *sign, a, b),
-        Exp::Neg(a) => neg_own(at, tasks, a),
-        Exp::Not(a) => not_own(at, tasks, a),
+        Exp::Binary(sign, a, b) => binary_own(tasks, *sign, a, b),
+        Exp::Neg(a) => neg_own(tasks, a),
+        Exp::Not(a) => not_own(tasks, a),
         Exp::App(name, parts) => match parts.as_slice() {
             [] => variable_own(at, name),
             [_, ..] => call_own(at, tasks, name, parts.as_slice()),
         },
         Exp::Con(name, parts) => constructor_own(at, tasks, name, parts.as_slice()),
-        Exp::Update(a, b, d) => update_own(at, tasks, a, b, d),
+        Exp::Update(a, b, d) => update_own(tasks, a, b, d),
         Exp::Num(negative, amount) => number_own(at, *negative, *amount),
         Exp::Letter(byte) => letter_own(at, *byte),
         Exp::Truth(truth) => truth_own(at, *truth),
-        Exp::Paren(a) => paren_own(at, tasks, a),
-        Exp::Tuple(parts) => tuple_own(at, tasks, parts.as_slice()),
+        Exp::Paren(a) => paren_own(tasks, a),
+        Exp::Tuple(parts) => tuple_own(tasks, parts.as_slice()),
         Exp::Cast(a, ty) => cast_own(at, tasks, a, ty),
-        Exp::Vect(parts) => vector_own(at, tasks, parts.as_slice()),
+        Exp::Vect(parts) => vector_own(tasks, parts.as_slice()),
         Exp::Star => Err(Stop::NoType),
     }
 }
 
 #[tactic(auto, using(crate::proofs::Dispatch::binary_steps))]
 fn binary_own<'a>(
-    at: &Elaboration<'a>,
     tasks: &mut Stack<Task<'a>>,
     sign: BinOp,
     a: &'a Exp,
     b: &'a Exp,
 ) -> Result<(), Stop>
-    ensures ok { OnOk result (DoesOwn ((binary_walk sign (walk (signatures_in at.now) a.now) (walk (signatures_in at.now) b.now)).own
-        (scope_in at.now)) at.now tasks.old tasks.new) }
+    ensures ok { OnOk result ((state : State) → DoesOwn ((binary_walk sign (walk (signatures_in state) a.now) (walk (signatures_in state) b.now)).own
+        (scope_in state)) state tasks.old tasks.new) }
     ensures none { IfErr result (λ stop. stop ≡ NoMemory) }
 {
     match sign {
-        BinOp::Or => or_own(at, tasks, a, b),
-        BinOp::And => and_own(at, tasks, a, b),
-        BinOp::At => index_own(at, tasks, a, b),
-        BinOp::Eq => comparison_own(at, tasks, Op::Eq, a, b),
-        BinOp::Ne => comparison_own(at, tasks, Op::Ne, a, b),
-        BinOp::Lt => comparison_own(at, tasks, Op::Lt, a, b),
-        BinOp::Le => comparison_own(at, tasks, Op::Le, a, b),
-        BinOp::Gt => comparison_own(at, tasks, Op::Gt, a, b),
-        BinOp::Ge => comparison_own(at, tasks, Op::Ge, a, b),
-        BinOp::Add => arithmetic_own(at, tasks, Op::Add, a, b),
-        BinOp::Sub => arithmetic_own(at, tasks, Op::Sub, a, b),
-        BinOp::Mul => arithmetic_own(at, tasks, Op::Mul, a, b),
-        BinOp::Div => arithmetic_own(at, tasks, Op::Div, a, b),
-        BinOp::Mod => arithmetic_own(at, tasks, Op::Mod, a, b),
+        BinOp::Or => or_own(tasks, a, b),
+        BinOp::And => and_own(tasks, a, b),
+        BinOp::At => index_own(tasks, a, b),
+        BinOp::Eq => comparison_own(tasks, Op::Eq, a, b),
+        BinOp::Ne => comparison_own(tasks, Op::Ne, a, b),
+        BinOp::Lt => comparison_own(tasks, Op::Lt, a, b),
+        BinOp::Le => comparison_own(tasks, Op::Le, a, b),
+        BinOp::Gt => comparison_own(tasks, Op::Gt, a, b),
+        BinOp::Ge => comparison_own(tasks, Op::Ge, a, b),
+        BinOp::Add => arithmetic_own(tasks, Op::Add, a, b),
+        BinOp::Sub => arithmetic_own(tasks, Op::Sub, a, b),
+        BinOp::Mul => arithmetic_own(tasks, Op::Mul, a, b),
+        BinOp::Div => arithmetic_own(tasks, Op::Div, a, b),
+        BinOp::Mod => arithmetic_own(tasks, Op::Mod, a, b),
     }
 }
 
 #[tactic(auto, using(crate::proofs::Dispatch::same_steps))]
-fn paren_own<'a>(at: &Elaboration<'a>, tasks: &mut Stack<Task<'a>>, a: &'a Exp) -> Result<(), Stop>
-    ensures ok { OnOk result (DoesOwn ((walk (signatures_in at.now) a.now).own (scope_in at.now)) at.now tasks.old tasks.new) }
+fn paren_own<'a>(tasks: &mut Stack<Task<'a>>, a: &'a Exp) -> Result<(), Stop>
+    ensures ok { OnOk result ((state : State) → DoesOwn ((walk (signatures_in state) a.now).own (scope_in state)) state tasks.old tasks.new) }
     ensures none { IfErr result (λ stop. stop ≡ NoMemory) }
 {
     first(tasks, &[Task::Own(a)])

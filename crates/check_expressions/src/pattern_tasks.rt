@@ -6,7 +6,7 @@ ghost use Rattle.check_scopes.specs.types.Contexts.{top};
 ghost use Rattle.check_typing.specs.Partial.{given};
 ghost use Rattle.check_typing.specs.Signatures.{con_named};
 ghost use Rattle.check_typing.specs.Patterns.{pattern, pattern_step, con_bound, tuple_bound};
-ghost use Rattle.check_tasks.specs.States.{types_in, signatures_in};
+ghost use Rattle.check_tasks.specs.States.{State, types_in, signatures_in};
 ghost use Rattle.check_tasks.specs.declared.task.Task.TheVariants.{MatchParts as MatchPartsTask};
 ghost use Rattle.check_tasks.specs.Tasks.{run, step, bound_of};
 ghost use Rattle.check_expressions.specs.declared.stop.Stop.TheVariants.{NoType, NoMemory};
@@ -38,8 +38,8 @@ pub(crate) fn pattern_tasks<'a>(
         Pat::Letter(byte) => letter_pattern(at, *byte),
         Pat::Truth(truth) => truth_pattern(at, *truth),
         Pat::Con(name, parts) => constructor_pattern(at, tasks, name, parts.as_slice()),
-        Pat::Paren(inner) => paren_pattern(at, tasks, inner),
-        Pat::Tuple(parts) => tuple_pattern(at, tasks, parts.as_slice()),
+        Pat::Paren(inner) => paren_pattern(tasks, inner),
+        Pat::Tuple(parts) => tuple_pattern(tasks, parts.as_slice()),
         Pat::Star => Err(Stop::NoType),
         Pat::AnyStar => Err(Stop::NoType),
     }
@@ -78,13 +78,9 @@ fn constructor_pattern<'a>(
 }
 
 #[tactic(auto, using(crate::proofs::Binding::tuple_steps))]
-fn tuple_pattern<'a>(
-    at: &Elaboration<'a>,
-    tasks: &mut Stack<Task<'a>>,
-    parts: &'a [Pat],
-) -> Result<(), Stop>
-    ensures ok { OnOk result (run tasks.new at.now ≡ given (bound_of
-        (tuple_bound (map (pattern (signatures_in at.now)) parts.now) (out-Ty (top (types_in at.now)))) at.now) (run tasks.old)) }
+fn tuple_pattern<'a>(tasks: &mut Stack<Task<'a>>, parts: &'a [Pat]) -> Result<(), Stop>
+    ensures ok { OnOk result ((state : State) → run tasks.new state ≡ given (bound_of
+        (tuple_bound (map (pattern (signatures_in state)) parts.now) (out-Ty (top (types_in state)))) state) (run tasks.old)) }
     ensures none { IfErr result (λ stop. stop ≡ NoMemory) }
 {
     first(
@@ -97,12 +93,8 @@ fn tuple_pattern<'a>(
 }
 
 #[tactic(auto, using(crate::proofs::Binding::part_steps))]
-fn paren_pattern<'a>(
-    at: &Elaboration<'a>,
-    tasks: &mut Stack<Task<'a>>,
-    inner: &'a Pat,
-) -> Result<(), Stop>
-    ensures ok { OnOk result (run tasks.new at.now ≡ given (bound_of (pattern (signatures_in at.now) inner.now (top (types_in at.now))) at.now)
+fn paren_pattern<'a>(tasks: &mut Stack<Task<'a>>, inner: &'a Pat) -> Result<(), Stop>
+    ensures ok { OnOk result ((state : State) → run tasks.new state ≡ given (bound_of (pattern (signatures_in state) inner.now (top (types_in state))) state)
         (run tasks.old)) }
     ensures none { IfErr result (λ stop. stop ≡ NoMemory) }
 {

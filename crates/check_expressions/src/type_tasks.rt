@@ -25,22 +25,39 @@ impl<'a> Elaboration<'a> {
         ensures none { IfErr result (λ stop. stop ≡ NoType → type_step task self.old ≡ None) }
     {
         match task {
-            TypeTask::PushBool => self.environment.push(Node::Bool)?,
-            TypeTask::PushInt32 => self.environment.push(Node::Int(32))?,
-            TypeTask::PushNamed(number) => self.environment.push(Node::Named(number))?,
-            TypeTask::PushPart(at) => self.environment.push_part(at)?,
-            TypeTask::PushItem => self.environment.push_item()?,
-            TypeTask::RepeatBelow => self.environment.repeat_below()?,
-            TypeTask::Pop => self.environment.pop(),
-            TypeTask::PopBelow => self.environment.pop_below()?,
-            TypeTask::IsNumber => self.expect_number()?,
-            TypeTask::IsCompared(operation) => self.expect_comparison(operation)?,
+            TypeTask::IsNumber => self.expect_number(),
+            TypeTask::IsCompared(operation) => self.expect_comparison(operation),
             TypeTask::IsSame => {
                 self.expect_same()?;
                 self.environment.pop();
+                Ok(())
+            }
+            _ => {
+                self.change_types(task)?;
+                Ok(())
             }
         }
-        Ok(())
+    }
+
+    // What pushes or pops. A task that asks something of the types is answered with want of memory.
+    #[tactic(auto, using(crate::proofs::Steps::type_steps))]
+    fn change_types(&mut self, task: TypeTask) -> Result<(), AllocError>
+        ensures { OnOk result (type_step task self.old ≡ Some self.new) }
+    {
+        match task {
+            TypeTask::PushBool => self.environment.push(Node::Bool),
+            TypeTask::PushInt32 => self.environment.push(Node::Int(32)),
+            TypeTask::PushNamed(number) => self.environment.push(Node::Named(number)),
+            TypeTask::PushPart(at) => self.environment.push_part(at),
+            TypeTask::PushItem => self.environment.push_item(),
+            TypeTask::RepeatBelow => self.environment.repeat_below(),
+            TypeTask::Pop => {
+                self.environment.pop();
+                Ok(())
+            }
+            TypeTask::PopBelow => self.environment.pop_below(),
+            _ => Err(AllocError),
+        }
     }
 
     // The last type must be one of numbers.

@@ -27,9 +27,7 @@ pub fn own<'a>(alloc: Global, at: &mut Elaboration<'a>, e: &'a Exp) -> Result<()
     ensures ok { OnOk result (own_of ((walk (signatures_in at.old) e.now).own (scope_in at.old)) at.old ≡ Some at.new) }
     ensures none { IfErr result (λ stop. stop ≡ NoType → (walk (signatures_in at.old) e.now).own (scope_in at.old) ≡ None) }
 {
-    let mut tasks = Stack::new(alloc);
-    tasks.push(Task::Own(e))?;
-    run_all(alloc, at, tasks)
+    perform_one(alloc, at, Task::Own(e))
 }
 
 /// The core of an expression against the last type of the stack. It goes on the stack of cores.
@@ -38,9 +36,7 @@ pub fn against<'a>(alloc: Global, at: &mut Elaboration<'a>, e: &'a Exp) -> Resul
     ensures ok { OnOk result (against_of ((walk (signatures_in at.old) e.now).against (scope_in at.old) (top (types_in at.old))) at.old ≡ Some at.new) }
     ensures none { IfErr result (λ stop. stop ≡ NoType → (walk (signatures_in at.old) e.now).against (scope_in at.old) (top (types_in at.old)) ≡ None) }
 {
-    let mut tasks = Stack::new(alloc);
-    tasks.push(Task::Against(e))?;
-    run_all(alloc, at, tasks)
+    perform_one(alloc, at, Task::Against(e))
 }
 
 /// Does one task, with all that it comes to.
@@ -51,7 +47,7 @@ pub fn perform_one<'a>(alloc: Global, at: &mut Elaboration<'a>, task: Task<'a>) 
 {
     let mut tasks = Stack::new(alloc);
     tasks.push(task)?;
-    run_all(alloc, at, tasks)
+    run_all(alloc, at, &mut tasks)
 }
 
 // One task after the other. More of them than can be counted would be answered with want of memory.
@@ -59,15 +55,15 @@ pub fn perform_one<'a>(alloc: Global, at: &mut Elaboration<'a>, task: Task<'a>) 
 fn run_all<'a>(
     alloc: Global,
     at: &mut Elaboration<'a>,
-    mut tasks: Stack<Task<'a>>,
+    tasks: &mut Stack<Task<'a>>,
 ) -> Result<(), Stop>
-    ensures ok { OnOk result (run tasks.entry at.old ≡ Some at.new) }
-    ensures none { IfErr result (λ stop. stop ≡ NoType → run tasks.entry at.old ≡ None) }
+    ensures ok { OnOk result (run tasks.old at.old ≡ Some at.new) }
+    ensures none { IfErr result (λ stop. stop ≡ NoType → run tasks.old at.old ≡ None) }
 {
     for _ in 0..usize::MAX {
         match tasks.pop() {
             None => return Ok(()),
-            Some(task) => perform(alloc, at, &mut tasks, task)?,
+            Some(task) => perform(alloc, at, tasks, task)?,
         }
     }
     Err(Stop::NoMemory)

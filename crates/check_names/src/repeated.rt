@@ -36,7 +36,9 @@ pub fn first_repeated(alloc: Global, program: &Program) -> Result<Option<u32>, A
         functions: NameTable::new(alloc),
         nodes: NameTable::new(alloc),
     };
-    first_repeated_over(alloc, &mut tables, program.decls.as_slice())
+    let first = first_repeated_over(alloc, &mut tables, program.decls.as_slice());
+    drop(tables);
+    first
 }
 
 fn first_repeated_over<'a>(

@@ -26,7 +26,9 @@ pub fn first_unknown(alloc: Global, program: &Program) -> Result<Option<u32>, Al
         exceptions: NameTable::new(alloc),
         functions: NameTable::new(alloc),
     };
-    first_unknown_over(alloc, &mut known, program.decls.as_slice())
+    let first = first_unknown_over(alloc, &mut known, program.decls.as_slice());
+    drop(known);
+    first
 }
 
 fn first_unknown_over<'a>(

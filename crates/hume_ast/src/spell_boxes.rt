@@ -1,5 +1,5 @@
 //! The tokens of boxes.
-ghost use Rattle.std.specs.Prelude.{◌≡◌, [], ◌∷◌, ◌++◌, map};
+ghost use Rattle.std.specs.Prelude.{[], ◌∷◌, ◌++◌, map};
 ghost use Rattle.hume_base.specs.declared.token.Kind.TheVariants.{Word};
 ghost use Rattle.hume_base.specs.declared.symbol.Symbol.TheVariants.{Bar, Comma};
 ghost use Rattle.hume_ast.specs.declared.tree.Decl.TheVariants.{BoxD};
@@ -11,7 +11,7 @@ use crate::spell_patterns::{spell_pattern, spell_patterns};
 use crate::spell_tokens::{Tokens, lower, sign, sign_between, upper, word};
 use crate::spell_types::spell_type;
 use crate::tree::{Exp, Pat, TyExp};
-use hume_base::{Keyword, Kind, List, Symbol, Text};
+use hume_base::{Keyword, List, Symbol, Text};
 
 /// Adds the tokens of a box.
 #[tactic(auto, using(crate::proofs::SpellSteps::part_steps))]

@@ -1,5 +1,5 @@
 //! The tokens of declarations.
-ghost use Rattle.std.specs.Prelude.{◌≡◌, ◌++◌, map};
+ghost use Rattle.std.specs.Prelude.{map};
 ghost use Rattle.hume_base.specs.declared.symbol.Symbol.TheVariants.{Bar};
 ghost use Rattle.hume_ast.specs.declared.tree.Decl.TheVariants.{Sum, Exn, Fun, Stream, Wire};
 ghost use Rattle.hume_ast.specs.Spelling.{separated, beside, spelled_ty, spelled_decl, spelled_constructor, spelled_equation, spelled_end, spelled_wire_depth, spelled_initial};
@@ -11,7 +11,7 @@ use crate::spell_patterns::spell_patterns_beside;
 use crate::spell_tokens::{Tokens, lower, number, quoted, sign, sign_between, upper, word};
 use crate::spell_types::{spell_type, spell_types};
 use crate::tree::{Decl, Exp, Pat, TyExp};
-use hume_base::{Keyword, Kind, List, Symbol, Text};
+use hume_base::{Keyword, List, Symbol, Text};
 
 /// Adds the tokens of a declaration.
 #[tactic(auto, using(crate::proofs::SpellSteps::part_steps))]

@@ -119,7 +119,7 @@ fn spell_raise(name: &Text, value: &Option<Box<Exp>>, out: &mut Tokens)
 #[cycle(spell_expressions)]
 #[tactic(auto, using(crate::proofs::SpellSteps::exp_steps))]
 fn spell_binary(operator: BinOp, left: &Box<Exp>, right: &Box<Exp>, out: &mut Tokens)
-    ensures { Adds out.old out.new ((spelled_exp left.now ++ operator_token operator ∷ spelled_exp right.now)) }
+    ensures { Adds out.old out.new (spelled_exp left.now ++ operator_token operator ∷ spelled_exp right.now) }
 {
     spell_exp(left, out);
     out.push(token_of(operator));
@@ -191,7 +191,7 @@ fn spell_cast(inner: &Box<Exp>, ty: &TyExp, out: &mut Tokens)
 #[cycle(spell_expressions)]
 #[tactic(auto, using(crate::proofs::SpellSteps::part_steps))]
 fn spell_listed(opening: Symbol, exps: &List<Exp>, closing: Symbol, out: &mut Tokens)
-    ensures { Adds out.old out.new ((Sign opening ∷ (separated Comma (map spelled_exp exps.now) ++ Sign closing ∷ []))) }
+    ensures { Adds out.old out.new (Sign opening ∷ (separated Comma (map spelled_exp exps.now) ++ Sign closing ∷ [])) }
 {
     sign(out, opening);
     spell_exps(exps.as_slice(), out);

@@ -1,11 +1,11 @@
 //! The tokens of patterns.
-ghost use Rattle.std.specs.Prelude.{◌≡◌, ◌++◌, map};
+ghost use Rattle.std.specs.Prelude.{map};
 ghost use Rattle.hume_ast.specs.Spelling.{spelled_pat, separated, beside};
 ghost use Rattle.hume_ast.specs.inner.Tokens.{Adds};
 
 use crate::spell_tokens::{Tokens, letter, lower, sign, sign_between, signed_number, truth, upper};
 use crate::tree::Pat;
-use hume_base::{Kind, List, Symbol};
+use hume_base::Symbol;
 
 /// Adds the tokens of a pattern.
 #[cycle(spell_patterns)]

@@ -1,11 +1,11 @@
 //! The tokens of types.
-ghost use Rattle.std.specs.Prelude.{◌≡◌, ◌++◌, map};
+ghost use Rattle.std.specs.Prelude.{map};
 ghost use Rattle.hume_ast.specs.Spelling.{spelled_ty, separated};
 ghost use Rattle.hume_ast.specs.inner.Tokens.{Adds};
 
 use crate::spell_tokens::{Tokens, number, sign, sign_between, upper, word};
 use crate::tree::TyExp;
-use hume_base::{Keyword, Kind, List, Symbol};
+use hume_base::{Keyword, Symbol};
 
 /// Adds the tokens of a type.
 #[cycle(spell_types)]

@@ -29,7 +29,11 @@ pub fn check_text(alloc: Global, ports: &mut [Box<dyn Port>], text: &[u8], out: 
     ensures { (place : ℕ) (named : Named) → EndsText (Check place) named text.now (map view ports.old) (map view ports.new) result }
 {
     match accept(alloc, text) {
-        Ok(accepted) => check_accepted(alloc, ports, &accepted.core, &accepted.costs, out),
+        Ok(accepted) => {
+            let status = check_accepted(alloc, ports, &accepted.core, &accepted.costs, out);
+            drop(accepted);
+            status
+        }
         Err(error) => end_unaccepted(alloc, ports, out, error),
     }
 }

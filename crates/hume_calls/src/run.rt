@@ -69,8 +69,14 @@ pub fn run_text<R: Threads + Sync, G: Gate>(
             out,
             gate,
         ),
-        Err(PlacesError::Unfit(line)) => refuse(alloc, ports, out, unfit_at(line)),
-        Err(PlacesError::NoMemory) => Status::NoMemory,
+        Err(PlacesError::Unfit(line)) => {
+            drop(accepted);
+            refuse(alloc, ports, out, unfit_at(line))
+        }
+        Err(PlacesError::NoMemory) => {
+            drop(accepted);
+            Status::NoMemory
+        }
     }
 }
 

@@ -38,12 +38,24 @@ fn execute_box(
     if part.pending.is_some() {
         return Ok(HalfStep { part, side: wires });
     }
-    let seen = oldest_values(alloc, wires.as_slice())?;
-    let firing = first_firing(alloc, core, b, part.order.as_slice(), seen.as_slice())?;
-    match firing {
+    match find_firing(alloc, core, b, part.order.as_slice(), wires.as_slice())? {
         None => Ok(HalfStep { part, side: wires }),
         Some(firing) => fire_box(alloc, b, part, wires, firing),
     }
+}
+
+// What fires on the oldest values of these wires.
+fn find_firing(
+    alloc: Global,
+    core: &Core,
+    b: &BoxC,
+    order: &[u32],
+    wires: &[List<Value>],
+) -> Result<Option<Firing>, AllocError>
+    ensures { IfOk result (λ firing. firing ≡ fire core.now b.now order.now (map oldest wires.now)) }
+{
+    let seen = oldest_values(alloc, wires)?;
+    first_firing(alloc, core, b, order, seen.as_slice())
 }
 
 fn oldest_values(alloc: Global, wires: &[List<Value>]) -> Result<List<Option<Value>>, AllocError>
@@ -145,28 +157,35 @@ fn take_if(is_taken: bool, wire: List<Value>) -> List<Value>
 {
     let mut wire = wire;
     if is_taken {
-        let _oldest = wire.take_first();
+        drop(wire.take_first());
     }
     wire
 }
 
-#[tactic(auto, using(crate::proofs::Sides::side_steps))]
 fn take_all(alloc: Global, part: Part, wires: List<List<Value>>) -> Result<HalfStep, AllocError>
     ensures { IfOk result (λ half. half
         ≡ record { part = record part { taken = part.taken ++ values_there (map oldest wires) }; side = map without_oldest wires }) }
 {
-    let mut taken = part.taken;
+    let mut part = part;
+    let side = take_each(alloc, wires, &mut part.taken)?;
+    Ok(HalfStep { part, side })
+}
+
+// The wires without their oldest values, which go to those that were taken.
+#[tactic(auto, using(crate::proofs::Sides::side_steps))]
+fn take_each(
+    alloc: Global,
+    wires: List<List<Value>>,
+    taken: &mut List<Value>,
+) -> Result<List<List<Value>>, AllocError>
+    ensures side { IfOk result (λ side. side ≡ map without_oldest wires) }
+    ensures taken { IfOk result (λ side. taken.new ≡ taken.old ++ values_there (map oldest wires)) }
+{
     let mut side = List::new(alloc);
     for wire in wires.into_vec() {
-        side.push(take_oldest(wire, &mut taken)?)?;
+        side.push(take_oldest(wire, taken)?)?;
     }
-    let part = Part {
-        pending: part.pending,
-        order: part.order,
-        coming: part.coming,
-        taken,
-    };
-    Ok(HalfStep { part, side })
+    Ok(side)
 }
 
 // The wire without its oldest value, which goes to those that were taken.

@@ -36,6 +36,20 @@ pub fn net_make<'a>(alloc: Global, core: &'a Core) -> Result<Net<'a>, AllocError
     Ok(Net { core, state, ends })
 }
 
+#[tactic(auto, using(crate::proofs::Starts::start_steps), unfolding(crate::specs::Lockstep::superstep))]
+fn state_after_superstep(
+    alloc: Global,
+    core: &Core,
+    ends: &Ends,
+    state: &State,
+) -> Result<State, AllocError>
+    requires { ends.now ≡ ends_of core.now }
+    ensures { IfOk result (λ after. after ≡ superstep core.now state.now) }
+{
+    let mid = state_after_execute(alloc, core, ends, state)?;
+    state_after_super(alloc, core, ends, &mid)
+}
+
 impl<'a> Net<'a> {
     /// One superstep.
     #[tactic(auto, using(crate::proofs::Starts::start_steps), unfolding(crate::specs::Lockstep::superstep))]
@@ -44,9 +58,7 @@ impl<'a> Net<'a> {
         ensures ok { OnOk result (self.new.state ≡ superstep self.old.core.now self.old.state) }
         ensures err { OnErr result (self.new.state ≡ self.old.state) }
     {
-        let mid = state_after_execute(alloc, self.core, &self.ends, &self.state)?;
-        let up = state_after_super(alloc, self.core, &self.ends, &mid)?;
-        self.state = up;
+        self.state = state_after_superstep(alloc, self.core, &self.ends, &self.state)?;
         Ok(())
     }
 

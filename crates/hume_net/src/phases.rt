@@ -1,4 +1,4 @@
-ghost use Rattle.std.specs.Prelude.{◌≡◌, IfOk, [], slice_get, length, map};
+ghost use Rattle.std.specs.Prelude.{◌≡◌, ◌++◌, ◌∷◌, IfOk, OnOk, [], slice_get, length, map};
 ghost use Rattle.std.specs.Option.{option_flatten, unwrap_or};
 ghost use Rattle.hume_net.specs.Sides.{on_wire, part_of, on_found, room_on, each_node, executed, stepped, left_on, gathered, consumed, produced};
 ghost use Rattle.hume_net.specs.Lockstep.{mid, up};
@@ -87,14 +87,14 @@ fn executed_node(
     requires { ends.now ≡ ends_of core.now }
     ensures { IfOk result (λ half. half ≡ executed core.now state.now number) }
 {
-    let part = node_part(alloc, state, number)?;
     match core.nodes.get(number) {
         None => Ok(HalfStep {
-            part,
+            part: node_part(alloc, state, number)?,
             side: List::new(alloc),
         }),
         Some(node) => {
             let wires = values_on_all(alloc, state, &ends.inputs, number)?;
+            let part = node_part(alloc, state, number)?;
             execute_step(alloc, core, node, part, wires)
         }
     }
@@ -110,15 +110,15 @@ fn asserted_node(
     requires { ends.now ≡ ends_of core.now }
     ensures { IfOk result (λ half. half ≡ stepped core.now state.now number) }
 {
-    let part = node_part(alloc, state, number)?;
     match core.nodes.get(number) {
         None => Ok(HalfStep {
-            part,
+            part: node_part(alloc, state, number)?,
             side: List::new(alloc),
         }),
         Some(node) => {
             let rooms = rooms_on_all(alloc, core, state, &ends.outputs, number)?;
             let wires = values_on_all(alloc, state, &ends.outputs, number)?;
+            let part = node_part(alloc, state, number)?;
             assert_step(alloc, node, part, rooms.as_slice(), wires)
         }
     }
@@ -314,22 +314,30 @@ fn gather(
 ) -> Result<State, AllocError>
     ensures { IfOk result (λ state. state ≡ gathered halves wires) }
 {
-    let mut pending = List::new(alloc);
-    let mut orders = List::new(alloc);
-    let mut coming = List::new(alloc);
-    let mut taken = List::new(alloc);
-    for half in halves.into_vec() {
-        let HalfStep { part, side: _side } = half;
-        pending.push(part.pending)?;
-        orders.push(part.order)?;
-        coming.push(part.coming)?;
-        taken.push(part.taken)?;
-    }
-    Ok(State {
+    let mut state = State {
         wires,
-        pending,
-        orders,
-        coming,
-        taken,
-    })
+        pending: List::new(alloc),
+        orders: List::new(alloc),
+        coming: List::new(alloc),
+        taken: List::new(alloc),
+    };
+    for half in halves.into_vec() {
+        add_part(&mut state, half.part)?;
+    }
+    Ok(state)
+}
+
+// Adds what belongs to the next node.
+fn add_part(state: &mut State, part: Part) -> Result<(), AllocError>
+    ensures { OnOk result (state.new ≡ record state.old {
+      pending = state.old.pending ++ part.pending ∷ [];
+      orders = state.old.orders ++ part.order ∷ [];
+      coming = state.old.coming ++ part.coming ∷ [];
+      taken = state.old.taken ++ part.taken ∷ [];
+    }) }
+{
+    state.pending.push(part.pending)?;
+    state.orders.push(part.order)?;
+    state.coming.push(part.coming)?;
+    state.taken.push(part.taken)
 }

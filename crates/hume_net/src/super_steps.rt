@@ -1,6 +1,6 @@
 ghost use Rattle.std.specs.Prelude.{◌≡◌, ◌++◌, IfOk, [], ◌∷◌, Some, slice_get};
 ghost use Rattle.std.specs.Option.{option_flatten, option_to_list};
-ghost use Rattle.hume_net.specs.HalfSteps.{super_step, have_room, with_asserted, assert_pending, assert_next};
+ghost use Rattle.hume_net.specs.HalfSteps.{super_step, have_room, with_asserted, without_oldest, assert_pending, assert_next};
 
 use crate::copying::copy_maybe;
 use crate::state::{HalfStep, Part};
@@ -60,20 +60,30 @@ fn assert_coming(
     let Some(next) = part.coming.get(0) else {
         return Ok(HalfStep { part, side: wires });
     };
-    let values = List::of_one(alloc, Some(copy_value(alloc, next)?))?;
+    let values = one_output(alloc, next)?;
     if !are_roomy(values.as_slice(), rooms) {
         return Ok(HalfStep { part, side: wires });
     }
     let side = with_values(alloc, values.as_slice(), wires)?;
-    let mut coming = part.coming;
-    let _asserted = coming.take_first();
-    let part = Part {
-        pending: part.pending,
-        order: part.order,
-        coming,
-        taken: part.taken,
-    };
+    let part = without_next(part);
     Ok(HalfStep { part, side })
+}
+
+// What a stream asserts: the value alone.
+fn one_output(alloc: Global, value: &Value) -> Result<List<Option<Value>>, AllocError>
+    ensures { IfOk result (λ values. values ≡ Some value.now ∷ []) }
+{
+    let value = copy_value(alloc, value)?;
+    List::of_one(alloc, Some(value))
+}
+
+// The part of an input stream once its next value is asserted.
+fn without_next(part: Part) -> Part
+    ensures { result ≡ record part { coming = without_oldest part.coming } }
+{
+    let mut part = part;
+    drop(part.coming.take_first());
+    part
 }
 
 // Whether each output that has a value has a wire with room.

@@ -161,8 +161,7 @@ fn wire_decl(alloc: Global, rest: &[Token]) -> Result<(Decl, &[Token]), Stop>
     let rest = after_word(rest, Keyword::To)?;
     let (target, rest) = wire_end(rest)?;
     let (depth, rest) = wire_depth(rest)?;
-    let (initial, rest) = first_value(alloc, rest)?;
-    let rest = after_sign(rest, Symbol::Semicolon)?;
+    let (initial, rest) = last_part(alloc, rest)?;
     Ok((Decl::Wire(source, target, depth, initial), rest))
 }
 
@@ -191,6 +190,21 @@ fn wire_depth(rest: &[Token]) -> Result<(Option<u64>, &[Token]), Stop>
         return Ok((Some(depth), rest));
     }
     Ok((None, rest))
+}
+
+/// The first value of a wire, if it has one, and the end of its declaration.
+fn last_part(alloc: Global, rest: &[Token]) -> Result<(Option<Exp>, &[Token]), Stop>
+    ensures reads { Gives (λ x. (x.0, kinds x.1.now)) result (closed (first_read MAX_DEPTH) (Sign Semicolon) (kinds rest.now)) }
+    ensures shorter { IfOk result (λ x. length x.1.now < length rest.now) }
+{
+    let (initial, rest) = first_value(alloc, rest)?;
+    match after_sign(rest, Symbol::Semicolon) {
+        Ok(rest) => Ok((initial, rest)),
+        Err(stop) => {
+            drop(initial);
+            Err(stop)
+        }
+    }
 }
 
 /// The first value of a wire, if it has one.

@@ -1,8 +1,11 @@
 ghost use Rattle.std.specs.Prelude.{◌≡◌, ◌<◌, length, IfOk};
+ghost use Rattle.hume_base.specs.declared.symbol.Symbol.TheVariants.{Semicolon};
+ghost use Rattle.hume_base.specs.declared.token.Kind.TheVariants.{Sign};
 ghost use Rattle.hume_ast.specs.Places.{kinds};
 ghost use Rattle.parse_errors.specs.inner.Gives.{Gives};
 ghost use Rattle.parse_readers.specs.inner.Declarations.{signature as signature_read, equation as equation_read};
-ghost use Rattle.parse_readers.specs.inner.Declarations.{some_patterns as patterns_read};
+ghost use Rattle.parse_readers.specs.inner.Declarations.{expression as expression_read, some_patterns as patterns_read};
+ghost use Rattle.parse_readers.specs.inner.Readers.{closed};
 
 use hume_ast::{Exp, Pat, TyExp};
 use hume_base::limits::MAX_DEPTH;
@@ -35,9 +38,23 @@ pub fn equation(alloc: Global, rest: &[Token]) -> Result<((List<Pat>, Exp), &[To
 {
     let (patterns, rest) = some_patterns(alloc, rest)?;
     let rest = after_sign(rest, Symbol::Equals)?;
-    let (exp, rest) = expression(alloc, rest)?;
-    let rest = after_sign(rest, Symbol::Semicolon)?;
+    let (exp, rest) = last_part(alloc, rest)?;
     Ok(((patterns, exp), rest))
+}
+
+/// The expression of an equation, and the end of the equation.
+fn last_part(alloc: Global, rest: &[Token]) -> Result<(Exp, &[Token]), Stop>
+    ensures reads { Gives (λ x. (x.0, kinds x.1.now)) result (closed (expression_read MAX_DEPTH) (Sign Semicolon) (kinds rest.now)) }
+    ensures shorter { IfOk result (λ x. length x.1.now < length rest.now) }
+{
+    let (exp, rest) = expression(alloc, rest)?;
+    match after_sign(rest, Symbol::Semicolon) {
+        Ok(rest) => Ok((exp, rest)),
+        Err(stop) => {
+            drop(exp);
+            Err(stop)
+        }
+    }
 }
 
 /// One or more patterns side by side.

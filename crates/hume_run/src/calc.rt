@@ -72,8 +72,14 @@ pub fn calc_text<R: Threads + Sync, G: Gate>(
                 rt, alloc, ports, steps, workers, sound, &script, source, others, out, gate,
             )
         }
-        Err(SourceError::Failed) => Status::Fault,
-        Err(SourceError::NoMemory) => Status::NoMemory,
+        Err(SourceError::Failed) => {
+            drop(sound);
+            Status::Fault
+        }
+        Err(SourceError::NoMemory) => {
+            drop(sound);
+            Status::NoMemory
+        }
     }
 }
 
@@ -130,27 +136,31 @@ fn run_new<R: Threads + Sync, G: Gate>(
 {
     let costs = match new_costs(alloc, &core) {
         Ok(costs) => costs,
-        Err(CostError::Refused(refusal)) => return refuse(alloc, ports, out, refusal),
-        Err(CostError::NoMemory) => return Status::NoMemory,
+        Err(CostError::Refused(refusal)) => {
+            drop((core, wiring));
+            return refuse(alloc, ports, out, refusal);
+        }
+        Err(CostError::NoMemory) => {
+            drop((core, wiring));
+            return Status::NoMemory;
+        }
     };
-    match find_places(alloc, ports, &core, source, others) {
+    let ready = Ready {
+        core,
+        wiring,
+        costs,
+    };
+    match find_places(alloc, ports, &ready.core, source, others) {
         Ok(places) => run_ready(
-            rt,
-            alloc,
-            ports,
-            steps,
-            workers,
-            false,
-            Ready {
-                core,
-                wiring,
-                costs,
-            },
-            places,
-            out,
-            gate,
+            rt, alloc, ports, steps, workers, false, ready, places, out, gate,
         ),
-        Err(PlacesError::Unfit(line)) => refuse(alloc, ports, out, unfit_at(line)),
-        Err(PlacesError::NoMemory) => Status::NoMemory,
+        Err(PlacesError::Unfit(line)) => {
+            drop(ready);
+            refuse(alloc, ports, out, unfit_at(line))
+        }
+        Err(PlacesError::NoMemory) => {
+            drop(ready);
+            Status::NoMemory
+        }
     }
 }

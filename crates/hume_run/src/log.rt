@@ -66,8 +66,14 @@ pub fn log_text(
             log,
             out,
         ),
-        Err(PlacesError::Unfit(line)) => refuse(alloc, ports, out, unfit_at(line)),
-        Err(PlacesError::NoMemory) => Status::NoMemory,
+        Err(PlacesError::Unfit(line)) => {
+            drop(accepted);
+            refuse(alloc, ports, out, unfit_at(line))
+        }
+        Err(PlacesError::NoMemory) => {
+            drop(accepted);
+            Status::NoMemory
+        }
     }
 }
 
@@ -98,7 +104,7 @@ fn log_ready(
     }
 }
 
-// Runs what all memory is taken for. The run is dropped here alone, on one way, since each way on which it is costs a proof that it may be.
+// Runs what all memory is taken for.
 fn run_logged(
     mut logged: LoggedRun,
     ports: &mut [Box<dyn Port>],
@@ -118,7 +124,9 @@ fn run_logged(
     ensures { (port : List ℕ) → IsPlaceOf port (names (map view ports.old)) log
         → EndsLogged verify port steps (core_in logged) (map view ports.old) (map view ports.new) result }
 {
-    verify_or_record(&mut logged, ports, steps, verify, places, log, out)
+    let status = verify_or_record(&mut logged, ports, steps, verify, places, log, out);
+    drop(logged);
+    status
 }
 
 fn verify_or_record(

@@ -2,7 +2,7 @@
 ghost use Rattle.std.specs.Prelude.{◌≡◌, map, IfOk};
 ghost use Rattle.union_laws.specs.Moving.{moved_box, moved_handler, moved_node, moved_port, moved_rule};
 
-use crate::gathering::pushed;
+use crate::gathering::{both, pushed};
 use crate::numbers::raised_exn;
 use crate::patterns::copy_positions;
 use crate::results::move_result;
@@ -39,15 +39,23 @@ fn move_node(alloc: Global, moves: Moves, node: &NodeC) -> Result<NodeC, AllocEr
 fn move_box(alloc: Global, moves: Moves, b: &BoxC) -> Result<BoxC, AllocError>
     ensures { IfOk result (λ higher. higher ≡ moved_box moves b.now) }
 {
+    let (ins, outs) = both(
+        move_ports(alloc, moves, b.ins.as_slice()),
+        move_ports(alloc, moves, b.outs.as_slice()),
+    )?;
+    let (rules, handlers) = both(
+        move_rules(alloc, moves, b.rules.as_slice()),
+        move_handlers(alloc, moves, b.handlers.as_slice()),
+    )?;
     Ok(BoxC {
         name: b.name.copy()?,
         line: b.line,
         declaration: b.declaration,
-        ins: move_ports(alloc, moves, b.ins.as_slice())?,
-        outs: move_ports(alloc, moves, b.outs.as_slice())?,
+        ins,
+        outs,
         fair: b.fair,
-        rules: move_rules(alloc, moves, b.rules.as_slice())?,
-        handlers: move_handlers(alloc, moves, b.handlers.as_slice())?,
+        rules,
+        handlers,
     })
 }
 

@@ -3,7 +3,7 @@ ghost use Rattle.std.specs.Prelude.{◌≡◌, map, IfOk};
 ghost use Rattle.union_laws.specs.Moving.{moved_equation, moved_function};
 
 use crate::expressions::move_expression;
-use crate::gathering::pushed;
+use crate::gathering::{both, pushed};
 use crate::patterns::copy_patterns;
 use crate::types::{move_type, move_types};
 use hume_base::List;
@@ -28,11 +28,14 @@ pub(crate) fn move_functions(
 fn move_function(alloc: Global, moves: Moves, function: &FunC) -> Result<FunC, AllocError>
     ensures { IfOk result (λ higher. higher ≡ moved_function moves function.now) }
 {
-    let equations = move_equations(alloc, moves, function.equations.as_slice())?;
+    let (params, equations) = both(
+        move_types(alloc, moves, function.params.as_slice()),
+        move_equations(alloc, moves, function.equations.as_slice()),
+    )?;
     Ok(FunC {
         name: function.name.copy()?,
         line: function.line,
-        params: move_types(alloc, moves, function.params.as_slice())?,
+        params,
         gives: move_type(alloc, moves, &function.gives)?,
         equations,
     })

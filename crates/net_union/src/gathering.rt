@@ -18,6 +18,18 @@ pub(crate) fn pushed<T: Drop>(
     Ok(list)
 }
 
+/// The list with the items of another one behind its own, if there was memory for both.
+pub(crate) fn joined<T: Drop>(
+    list: Result<List<T>, AllocError>,
+    more: Result<List<T>, AllocError>,
+) -> Result<List<T>, AllocError>
+    ensures { IfOk result (λ longer. IsOkAnd list (λ before. IsOkAnd more (λ later. longer ≡ before ++ later))) }
+{
+    let mut list = list?;
+    list.append(more?)?;
+    Ok(list)
+}
+
 /// The pair of both, if there was memory for both.
 pub(crate) fn both<A: Drop, B: Drop>(
     first: Result<A, AllocError>,

@@ -6,6 +6,7 @@ ghost use Rattle.union_laws.specs.Union.{behind, united};
 
 use crate::boxes::move_nodes;
 use crate::functions::move_functions;
+use crate::gathering::{both, joined};
 use crate::types::{move_exceptions, move_sums};
 use crate::wires::move_wires;
 use hume_base::limits::{MAX_DECLARED_EXCEPTIONS, MAX_EXCEPTIONS};
@@ -36,10 +37,14 @@ pub fn join(alloc: Global, a: &Core, b: &Core) -> Result<Core, AllocError>
         a.types.sums.as_slice(),
         b.types.sums.as_slice(),
     )?;
-    let exns = join_exceptions(alloc, moves, a.exns.as_slice(), b.exns.as_slice())?;
-    let funs = join_functions(alloc, moves, a.funs.as_slice(), b.funs.as_slice())?;
-    let nodes = join_nodes(alloc, moves, a.nodes.as_slice(), b.nodes.as_slice())?;
-    let wires = join_wires(alloc, moves, a.wires.as_slice(), b.wires.as_slice())?;
+    let (exns, funs) = both(
+        join_exceptions(alloc, moves, a.exns.as_slice(), b.exns.as_slice()),
+        join_functions(alloc, moves, a.funs.as_slice(), b.funs.as_slice()),
+    )?;
+    let (nodes, wires) = both(
+        join_nodes(alloc, moves, a.nodes.as_slice(), b.nodes.as_slice()),
+        join_wires(alloc, moves, a.wires.as_slice(), b.wires.as_slice()),
+    )?;
     Ok(Core {
         types: Types { sums },
         exns,
@@ -58,9 +63,10 @@ fn join_sums(
 ) -> Result<List<SumDef>, AllocError>
     ensures { IfOk result (λ joined. joined ≡ first.now ++ map (moved_data moves) second.now) }
 {
-    let mut joined = move_sums(alloc, UNMOVED, first)?;
-    joined.append(move_sums(alloc, moves, second)?)?;
-    Ok(joined)
+    joined(
+        move_sums(alloc, UNMOVED, first),
+        move_sums(alloc, moves, second),
+    )
 }
 
 #[tactic(auto, using(crate::proofs::Unmoved::unmoved_steps))]
@@ -72,9 +78,10 @@ fn join_exceptions(
 ) -> Result<List<ExnDef>, AllocError>
     ensures { IfOk result (λ joined. joined ≡ first.now ++ map (moved_exception moves) (drop (length own_exceptions) second.now)) }
 {
-    let mut joined = move_exceptions(alloc, UNMOVED, first)?;
-    joined.append(move_declared(alloc, moves, second)?)?;
-    Ok(joined)
+    joined(
+        move_exceptions(alloc, UNMOVED, first),
+        move_declared(alloc, moves, second),
+    )
 }
 
 #[tactic(auto, using(crate::proofs::Unmoved::unmoved_steps))]
@@ -86,9 +93,10 @@ fn join_functions(
 ) -> Result<List<FunC>, AllocError>
     ensures { IfOk result (λ joined. joined ≡ first.now ++ map (moved_function moves) second.now) }
 {
-    let mut joined = move_functions(alloc, UNMOVED, first)?;
-    joined.append(move_functions(alloc, moves, second)?)?;
-    Ok(joined)
+    joined(
+        move_functions(alloc, UNMOVED, first),
+        move_functions(alloc, moves, second),
+    )
 }
 
 #[tactic(auto, using(crate::proofs::Unmoved::unmoved_steps))]
@@ -100,9 +108,10 @@ fn join_nodes(
 ) -> Result<List<NodeC>, AllocError>
     ensures { IfOk result (λ joined. joined ≡ first.now ++ map (moved_node moves) second.now) }
 {
-    let mut joined = move_nodes(alloc, UNMOVED, first)?;
-    joined.append(move_nodes(alloc, moves, second)?)?;
-    Ok(joined)
+    joined(
+        move_nodes(alloc, UNMOVED, first),
+        move_nodes(alloc, moves, second),
+    )
 }
 
 #[tactic(auto, using(crate::proofs::Unmoved::unmoved_steps))]
@@ -114,9 +123,10 @@ fn join_wires(
 ) -> Result<List<WireC>, AllocError>
     ensures { IfOk result (λ joined. joined ≡ first.now ++ map (moved_wire moves) second.now) }
 {
-    let mut joined = move_wires(alloc, UNMOVED, first)?;
-    joined.append(move_wires(alloc, moves, second)?)?;
-    Ok(joined)
+    joined(
+        move_wires(alloc, UNMOVED, first),
+        move_wires(alloc, moves, second),
+    )
 }
 
 fn moves_behind(core: &Core) -> Result<Moves, AllocError>

@@ -27,6 +27,8 @@ pub(crate) fn move_wires(
 fn move_wire(alloc: Global, moves: Moves, wire: &WireC) -> Result<WireC, AllocError>
     ensures { IfOk result (λ higher. higher ≡ moved_wire moves wire.now) }
 {
+    let from = raised(wire.from, moves.nodes)?;
+    let to = raised(wire.to, moves.nodes)?;
     let (ty, initial) = both(
         move_type(alloc, moves, &wire.ty),
         copy_initial(alloc, &wire.initial),
@@ -34,9 +36,9 @@ fn move_wire(alloc: Global, moves: Moves, wire: &WireC) -> Result<WireC, AllocEr
     Ok(WireC {
         line: wire.line,
         declaration: wire.declaration,
-        from: raised(wire.from, moves.nodes)?,
+        from,
         from_port: wire.from_port,
-        to: raised(wire.to, moves.nodes)?,
+        to,
         to_port: wire.to_port,
         ty,
         depth: wire.depth,

@@ -83,7 +83,10 @@ impl Progress {
     fn take_declaration(self, place: u32, decl: Decl) -> Result<Progress, AllocError>
         ensures { IfOk result (λ after. after ≡ took place (Whole decl) self) }
     {
-        let mut decls = self.close()?;
+        let Ok(mut decls) = self.close() else {
+            drop(decl);
+            return Err(AllocError);
+        };
         decls.push((place, decl))?;
         Ok(Progress {
             decls,
@@ -121,6 +124,7 @@ fn take_equation(
     ensures { IfOk result (λ after. after ≡ with_equation equation function) }
 {
     let Some(function) = function else {
+        drop(equation);
         return Ok(None);
     };
     let OpenFunction {

@@ -28,9 +28,8 @@ ghost use Rattle.phase_workers.specs.Runnable.{IsRunnable};
 ghost use Rattle.phase_workers.specs.StreamTypes.{type_at};
 
 use crate::begin::{begin_nodes, begin_wires};
-use crate::making::{make_home, make_nodes};
+use crate::making::make_parts;
 use crate::paths::Paths;
-use crate::policy::Policy;
 use crate::seen::{Deed, Seen};
 use crate::stepping::step_all;
 use crate::streams::{clear_cell, drain_cell, fill_cell, rebind_cell};
@@ -41,11 +40,10 @@ use hume_model::Core;
 use hume_ports::{Failed, Port};
 use hume_streams::{FillError, OutLog};
 use hume_text::Chunk;
-use model_bare::bare;
 use std::alloc::{AllocError, Global};
 use std::marker::Model;
 use std::thread::Threads;
-use step_turns::{Gate, Sides};
+use step_turns::Gate;
 use superstep_core::Grouping;
 use wire_cells::WireCell;
 use wiring_check::Wiring;
@@ -108,19 +106,14 @@ impl Engine {
         ensures right { IfOk result (λ engine. (n : ℕ) → IsInputStream core n
             → (text : List ℕ) → IsQueueOf core.types (type_at core n) (queue_at engine n) text [] text) }
     {
-        let bare = bare(alloc, &core)?;
-        let sides = Sides::make(alloc, &core, wiring)?;
-        let policy = Policy::find(alloc, &core, &programs)?;
-        let paths = Paths::undivided(sides, policy);
-        let nodes = make_nodes(alloc, &core, &bare, programs, span)?;
-        let home = make_home(alloc, &core)?;
+        let parts = make_parts(alloc, &core, wiring, programs, span)?;
         let seen = Seen::new().then(&Deed::Opened(&core));
         Ok(Engine {
             core,
-            bare,
-            paths,
-            nodes,
-            home,
+            bare: parts.bare,
+            paths: parts.paths,
+            nodes: parts.nodes,
+            home: parts.home,
             span,
             seen,
         })

@@ -1,18 +1,65 @@
-//! The cells of a net before its first superstep.
+//! The parts of an engine before its first superstep.
 ghost use Rattle.std.specs.Prelude.{◌≡◌, ◌≤◌, ℕ, length, None, IfOk};
 ghost use Rattle.hume_base.specs.Least.{IsLeast};
 ghost use Rattle.hume_model.specs.WellFormed.{HasSoundFrame};
+ghost use Rattle.hume_net.specs.StatePlaces.{BoxesHandleAll};
+ghost use Rattle.model_bare.specs.Bare.{bare_of};
+ghost use Rattle.wiring_check.specs.Wires.{IsWiringOf};
 ghost use Rattle.box_costs.specs.CostRules.{BreaksCosts};
 ghost use Rattle.box_compile.specs.Programs.{AreProgramsOf};
 ghost use Rattle.box_step.specs.nodes.Openings.{IsOpeningOf};
+ghost use Rattle.phase_workers.specs.Runnable.{IsRunnable};
+ghost use Rattle.phase_workers.specs.inner.Going.{ArePaths};
 ghost use Rattle.phase_workers.specs.inner.Making.{AreFirstNodes, AreFirstWires, IsNextProgram, first_opening};
 
+use crate::paths::Paths;
 use box_code::BoxProgram;
 use box_step::nodes::BoxCell;
 use hume_base::List;
 use hume_model::{Core, NodeC};
+use model_bare::bare;
 use std::alloc::{AllocError, Global};
 use wire_cells::WireCell;
+use wiring_check::Wiring;
+
+/// What is made of a core: its bare form, the paths of its half steps, and the cells of its nodes and wires.
+#[derive(Drop)]
+pub(crate) struct FirstParts {
+    pub bare: Core,
+    pub paths: Paths,
+    pub nodes: Vec<BoxCell>,
+    pub home: Vec<Option<WireCell>>,
+}
+
+/// The parts of an engine. What is large is made last, so that less is dropped where memory runs out.
+pub(crate) fn make_parts(
+    alloc: Global,
+    core: &Core,
+    wiring: &Wiring,
+    programs: List<BoxProgram>,
+    span: u32,
+) -> Result<FirstParts, AllocError>
+    requires runnable { IsRunnable core.now }
+    requires handles { BoxesHandleAll core.now }
+    requires wiring { IsWiringOf core.now wiring.now }
+    requires programs { AreProgramsOf core.now programs }
+    requires within { IsLeast (BreaksCosts core.now) None }
+    ensures bare { IfOk result (λ parts. parts.bare ≡ bare_of core.now) }
+    ensures paths { IfOk result (λ parts. ArePaths parts.bare parts.paths) }
+    ensures nodes { IfOk result (λ parts. AreFirstNodes core.now span (length core.now.nodes) parts.nodes.items) }
+    ensures home { IfOk result (λ parts. AreFirstWires core.now (length core.now.wires) parts.home.items) }
+{
+    let home = make_home(alloc, core)?;
+    let paths = Paths::undivided(alloc, core, wiring, &programs)?;
+    let bare = bare(alloc, core)?;
+    let nodes = make_nodes(alloc, core, &bare, programs, span)?;
+    Ok(FirstParts {
+        bare,
+        paths,
+        nodes,
+        home,
+    })
+}
 
 /// The cells of all nodes, by the core and its bare form.
 pub(crate) fn make_nodes(

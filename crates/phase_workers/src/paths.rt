@@ -1,20 +1,24 @@
 //! What the half steps of a net go by.
 ghost use Rattle.std.specs.Prelude.{◌+◌, ◌<◌, ◌≤◌, ◌^◌, IfOk, IfSome};
-ghost use Rattle.hume_base.specs.declared.limits.TheConstants.{MAX_INPUTS, MAX_OUTPUTS};
+ghost use Rattle.hume_model.specs.WellFormed.{HasSoundFrame};
 ghost use Rattle.hume_model.specs.declared.core_tree.Core.{Core as AnyCore};
 ghost use Rattle.hume_net.specs.Plan.{IsPlan, plan_of};
-ghost use Rattle.step_turns.specs.Rounds.{AreSides};
+ghost use Rattle.model_bare.specs.Bare.{bare_of};
 ghost use Rattle.turn_locker.specs.Held.{items_of};
 ghost use Rattle.turn_workers.specs.Divisions.{IsDivision};
+ghost use Rattle.wiring_check.specs.Wires.{IsWiringOf};
 
 use crate::policy::Policy;
+use box_code::BoxProgram;
 use box_step::nodes::BoxCell;
+use hume_base::List;
 use hume_model::Core;
 use hume_net::find_plan;
 use net_groups::{grouping_by, partition};
 use std::alloc::{AllocError, Global};
 use step_turns::Sides;
 use turn_workers::Division;
+use wiring_check::Wiring;
 
 /// The sides of a net's nodes; and for several workers how the net is divided among them.
 #[derive(Drop)]
@@ -29,16 +33,25 @@ pub(crate) struct Paths {
 impl Paths {
     ghost use Rattle.phase_workers.specs.inner.Going.{ArePaths};
 
-    /// Those of a net that isn't divided.
-    pub(crate) fn undivided(sides: Sides, policy: Policy) -> Paths
-        ensures { (core : AnyCore) → AreSides core (MAX_INPUTS + MAX_OUTPUTS) sides → ArePaths core result }
+    /// Those of a core's net that isn't divided.
+    pub(crate) fn undivided(
+        alloc: Global,
+        core: &Core,
+        wiring: &Wiring,
+        programs: &List<BoxProgram>,
+    ) -> Result<Paths, AllocError>
+        requires frame { HasSoundFrame core.now }
+        requires wiring { IsWiringOf core.now wiring.now }
+        ensures { IfOk result (ArePaths (bare_of core.now)) }
     {
-        Paths {
+        let sides = Sides::make(alloc, core, wiring)?;
+        let policy = Policy::find(alloc, core, programs)?;
+        Ok(Paths {
             sides,
             division: None,
             is_given: false,
             policy,
-        }
+        })
     }
 
     /// Divides the net for some workers, by what its cells ran, and gives their number. It takes memory; if there is none, the net isn't

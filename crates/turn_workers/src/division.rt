@@ -1,7 +1,8 @@
 //! How a net is divided among workers.
 ghost use Rattle.std.specs.Prelude.{◌+◌, ◌<◌, ◌^◌, IfOk};
 ghost use Rattle.hume_net.specs.Plan.{IsPlan, wires_of};
-ghost use Rattle.superstep_core.specs.Groups.{IsGrouping};
+ghost use Rattle.superstep_core.specs.Groups.{IsGrouping, quotient};
+ghost use Rattle.turn_workers.specs.Ways.{AreWays};
 
 use crate::ways::Ways;
 use hume_base::List;
@@ -33,8 +34,7 @@ impl Division {
         requires groups { IsGrouping plan groups × (groups.count + wires_of plan < 2 ^ 32) }
         ensures { IfOk result (λ division. IsDivision plan division) }
     {
-        let quotient = groups.quotient(alloc, &plan)?;
-        let ways = Ways::make(alloc, &quotient)?;
+        let ways = group_ways(alloc, &plan, &groups)?;
         Ok(Division {
             plan,
             groups,
@@ -42,4 +42,14 @@ impl Division {
             first,
         })
     }
+}
+
+// The sides of the groups of a plan.
+fn group_ways(alloc: Global, plan: &Plan, groups: &Grouping) -> Result<Ways, AllocError>
+    requires plan { IsPlan plan.now × (wires_of plan.now < 2 ^ 32) }
+    requires groups { IsGrouping plan.now groups.now × (groups.now.count + wires_of plan.now < 2 ^ 32) }
+    ensures { IfOk result (λ ways. AreWays (quotient plan.now groups.now) ways) }
+{
+    let quotient = groups.quotient(alloc, plan)?;
+    Ways::make(alloc, &quotient)
 }

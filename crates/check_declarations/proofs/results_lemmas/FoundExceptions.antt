@@ -11,6 +11,7 @@ use Rattle.check_scopes.specs.Known.{with_exception}
 use Rattle.check_tasks.specs.declared.task.Task.TheVariants as plain
 use Rattle.check_tasks.specs.declared.task.TypeTask.TheVariants as types
 use Rattle.check_tasks.proofs.Given.{by_case, form_steps}
+use Rattle.check_tasks.specs.declared.results.task.ResultTask.{ResultTask}
 use Rattle.check_tasks.specs.declared.results.task.ResultTask.TheVariants as task
 use Rattle.check_tasks.specs.declared.results.task.ResultMake.TheVariants as make
 use Rattle.check_tasks.specs.results.ResultStates.{ResultState}
@@ -26,11 +27,15 @@ alone_found st new name number found keeps =
     by_case (exn_named name (signatures_of st)) (λ n. grind (arith, form_steps)) (λ exn e.
     by_case exn.1.carries (λ n. grind (arith, form_steps)) (λ carried c. grind (arith, form_steps)))
 
+-- the tasks of an exception with what it carries
+abbrev pub carried_plan : Bor Exp → ℕ → List ResultTask
+carried_plan a number = task.Plain (plain.Against a) ∷ task.Plain (plain.Types types.Pop) ∷ task.Make (make.RaiseWith number) ∷ []
+
 -- it stands for one that carries something, whose type is on the stack
 pub carried_found : (st new : ResultState) (name : List ℕ) (a : Bor Exp) (number : ℕ)
     → (Some (number, true), new.0.0) ≡ with_exception (exn_named name (signatures_of st)) st.0.0
     → new ≡ ((new.0.0, st.0.1, st.0.2, st.0.3), st.1, st.2, st.3) →
-    result_run (task.Plain (plain.Against a) ∷ task.Plain (plain.Types types.Pop) ∷ task.Make (make.RaiseWith number) ∷ []) new
+    result_run (carried_plan a number) new
     ≡ result_of ((raise_with_found (signatures_of st) name a.now).result (scope_of st) (last_outputs st)) st
 unfolding raise_with_found
 carried_found st new name a number found keeps =

@@ -1,9 +1,12 @@
 -- Forms through which a result is followed.
-use Rattle.std.proofs.Common.{◌≡◌, ℕ, List, [], ◌∷◌, length}
+use Rattle.std.proofs.Common.{◌≡◌, ℕ, List, [], ◌∷◌, length, Option, Result, subst}
+use Rattle.std.specs.Result.{OnOk}
 use Rattle.std.proofs.lemmas.Grind.{common_steps}
+use Rattle.std.proofs.lemmas.Result.{on_ok_weaker}
 use denote.Ref.{Bor}
 use Rattle.hume_ast.specs.declared.tree.Pat.{Pat}
 use Rattle.hume_ast.specs.declared.tree.Exp.{Exp}
+use Rattle.check_typing.specs.Partial.{given}
 use Rattle.check_typing.specs.inner.Walk.{star_walk}
 use Rattle.check_tasks.specs.declared.task.Task.TheVariants as plain
 use Rattle.check_tasks.specs.declared.task.TypeTask.TheVariants as types
@@ -15,6 +18,12 @@ use Rattle.check_tasks.specs.results.ResultTasks.{scope_of, signatures_of, last_
 use Rattle.check_tasks.proofs.results_lemmas.ResultForms.{let_result, if_result}
 use Rattle.check_tasks.proofs.results_lemmas.ResultWholes.{case_result}
 use Rattle.check_declarations.specs.results.inner.ResultPlans.{let_found, if_found, case_found}
+
+-- what tasks come to that were put before others
+pub comes_to : {T E : Type 0} (r : Result T E) (tasks more others : List ResultTask) (state : ResultState) (found : Option ResultState)
+    → result_run more state ≡ found → OnOk r ((s : ResultState) → result_run tasks s ≡ given (result_run more s) (result_run others))
+    → OnOk r (result_run tasks state ≡ given found (result_run others))
+comes_to r tasks more others state found law h = on_ok_weaker r (λ runs. subst (λ (o : Option ResultState). result_run tasks state ≡ given o (result_run others)) law (runs state)) h
 
 -- the tasks of a `let`
 abbrev pub let_plan : Bor Exp → Bor (List ℕ) → Bor Exp → ℕ → List ResultTask

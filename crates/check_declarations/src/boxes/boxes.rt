@@ -66,8 +66,7 @@ fn enter_ports(
     if at.plain.environment.variables() != 0 {
         return Err(Stop::NoMemory);
     }
-    push_ports(&mut at.plain.environment, inputs, outputs)?;
-    Ok(())
+    push_ports(&mut at.plain.environment, inputs, outputs)
 }
 
 // Takes the types of the ports off.

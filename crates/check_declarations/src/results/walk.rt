@@ -29,7 +29,7 @@ impl<'a> ResultElaboration<'a> {
     {
         let mut tasks = Stack::new(alloc);
         tasks.push(ResultTask::Result(e))?;
-        run_all(alloc, self, tasks)
+        run_all(alloc, self, &mut tasks)
     }
 }
 
@@ -38,15 +38,15 @@ impl<'a> ResultElaboration<'a> {
 fn run_all<'a>(
     alloc: Global,
     at: &mut ResultElaboration<'a>,
-    mut tasks: Stack<ResultTask<'a>>,
+    tasks: &mut Stack<ResultTask<'a>>,
 ) -> Result<(), Stop>
-    ensures ok { OnOk result (result_run tasks.entry at.old ≡ Some at.new) }
-    ensures none { IfErr result (λ stop. stop ≡ NoType → result_run tasks.entry at.old ≡ None) }
+    ensures ok { OnOk result (result_run tasks.old at.old ≡ Some at.new) }
+    ensures none { IfErr result (λ stop. stop ≡ NoType → result_run tasks.old at.old ≡ None) }
 {
     for _ in 0..usize::MAX {
         match tasks.pop() {
             None => return Ok(()),
-            Some(task) => perform(alloc, at, &mut tasks, task)?,
+            Some(task) => perform(alloc, at, tasks, task)?,
         }
     }
     Err(Stop::NoMemory)
@@ -91,17 +91,6 @@ fn result_tasks<'a>(
         Exp::Raise(name, carried) => raise_result(at, tasks, name, carried),
         Exp::Paren(a) => paren_result(at, tasks, a),
         Exp::Tuple(parts) => tuple_result(at, tasks, e, parts.as_slice()),
-        Exp::Star => single_result(at, tasks, e),
-        Exp::Binary(_, _, _) => single_result(at, tasks, e),
-        Exp::Neg(_) => single_result(at, tasks, e),
-        Exp::Not(_) => single_result(at, tasks, e),
-        Exp::App(_, _) => single_result(at, tasks, e),
-        Exp::Con(_, _) => single_result(at, tasks, e),
-        Exp::Update(_, _, _) => single_result(at, tasks, e),
-        Exp::Num(_, _) => single_result(at, tasks, e),
-        Exp::Letter(_) => single_result(at, tasks, e),
-        Exp::Truth(_) => single_result(at, tasks, e),
-        Exp::Cast(_, _) => single_result(at, tasks, e),
-        Exp::Vect(_) => single_result(at, tasks, e),
+        _ => single_result(at, tasks, e),
     }
 }

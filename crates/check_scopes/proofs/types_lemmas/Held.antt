@@ -1,5 +1,5 @@
 -- Numbers that stay below the length of a table that grows.
-use Rattle.std.proofs.Common.{◌≡◌, ℕ, suc, zero, ◌+◌, ◌<◌, ◌≤◌, List, [], ◌∷◌, ◌++◌, map, take, drop, reverse, length, get_or, Option, Some, None, refl, ap, sym, subst, ◌∙◌, Bool, true, false, if◌then◌else◌, arith}
+use Rattle.std.proofs.Common.{◌≡◌, ℕ, suc, zero, ◌+◌, ◌<◌, ◌≤◌, List, [], ◌∷◌, ◌++◌, map, take, drop, reverse, length, get_or, Option, Some, None, Result, Ok, Err, OnOk, OnErr, refl, ap, sym, subst, ◌∙◌, Bool, true, false, if◌then◌else◌, arith}
 use Rattle.std.specs.Str.{bytes_eq}
 use Rattle.std.proofs.lemmas.List.{reverse-append, length-reverse, reverse-reverse}
 use Rattle.std.proofs.Math.Seq.{take-append_seam, drop-append_seam}
@@ -61,6 +61,17 @@ all_more old new g vs held kept w = (below_more _ _ (numbers vs) g.0 w.0, below_
 pub below_push : (b : ℕ) (vs : List (List ℕ × ℕ)) (v : List ℕ × ℕ) → all_below b (numbers vs) → v.1 < b → all_below b (numbers (vs ++ v ∷ []))
 below_push b [] v w h = (h, tt)
 below_push b (u ∷ vs) v w h = (w.0, below_push b vs v w.1 h)
+
+-- numbers after one more was pushed, or after memory ran out
+pub below_pushed : {A E : Type 0} (b n : ℕ) (held after : List ℕ) (r : Result A E) → OnOk r (after ≡ n ∷ held) → OnErr r (after ≡ held)
+    → n < b → all_below b held → all_below b after
+below_pushed b n held after (Ok x) ok err within below = subst (all_below b) (sym ok) (within, below)
+below_pushed b n held after (Err e) ok err within below = subst (all_below b) (sym err) below
+
+-- what follows of a success that was handed on
+pub on_ok : {A E P Q : Type 0} (r : Result A E) → (P → Q) → OnOk r P → OnOk r Q
+on_ok (Ok x) f ok = f ok
+on_ok (Err e) f ok = ok
 
 pub below_take : (b k : ℕ) (vs : List (List ℕ × ℕ)) → all_below b (numbers vs) → all_below b (numbers (take k vs))
 below_take b zero vs w = tt

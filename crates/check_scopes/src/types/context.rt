@@ -67,8 +67,7 @@ impl<'a> Context<'a> {
         ensures kept { self.new.2 ≡ self.old.2 }
     {
         let number = self.types.number(node)?;
-        self.held.push(number)?;
-        Ok(())
+        self.held.push(number)
     }
 
     /// Takes the last type off the stack.
@@ -186,8 +185,7 @@ impl<'a> Context<'a> {
         let Some(number) = self.vars.last() else {
             return Err(AllocError);
         };
-        let tree = self.types.tree(alloc, number)?;
-        Ok(tree)
+        self.types.tree(alloc, number)
     }
 
     /// Puts a part of the last type of the stack, a tuple, on the stack.
@@ -200,10 +198,7 @@ impl<'a> Context<'a> {
         };
         match part_of_node(self.types.node(number), at) {
             None => Err(AllocError),
-            Some(part) => {
-                self.held.push(part)?;
-                Ok(())
-            }
+            Some(part) => self.held.push(part),
         }
     }
 
@@ -217,10 +212,7 @@ impl<'a> Context<'a> {
         };
         match item_of_node(self.types.node(number)) {
             None => Err(AllocError),
-            Some(item) => {
-                self.held.push(item)?;
-                Ok(())
-            }
+            Some(item) => self.held.push(item),
         }
     }
 
@@ -231,8 +223,7 @@ impl<'a> Context<'a> {
     {
         let parts = self.held.take_last(count)?;
         let number = self.types.number(Node::Tuple(parts))?;
-        self.held.push(number)?;
-        Ok(())
+        self.held.push(number)
     }
 
     /// Makes a vector of so many of the last type of the stack.
@@ -244,8 +235,7 @@ impl<'a> Context<'a> {
             return Err(AllocError);
         };
         let number = self.types.number(Node::Vector(count, item))?;
-        self.held.push(number)?;
-        Ok(())
+        self.held.push(number)
     }
 
     /// Puts a type that is a tree on the stack.
@@ -254,8 +244,7 @@ impl<'a> Context<'a> {
         ensures kept { self.new.2 ≡ self.old.2 }
     {
         let number = number_of(alloc, &mut self.types, ty)?;
-        self.held.push(number)?;
-        Ok(())
+        self.held.push(number)
     }
 
     /// Moves the last type of the stack behind those that are kept.
@@ -280,8 +269,7 @@ impl<'a> Context<'a> {
             return Err(AllocError);
         }
         let number = self.kept[at];
-        self.held.push(number)?;
-        Ok(())
+        self.held.push(number)
     }
 
     /// Moves the last type of the stack to a new variable.

@@ -34,7 +34,9 @@ pub fn run_opened<R: Threads + Sync, G: Gate>(
     requires out { IsPlaceOf std_out (names (map view ports.old)) out }
     ensures { RunsCore (traced_in opened.running) steps (core_in opened.running) (map view ports.old) (map view ports.new) result }
 {
-    match make_run(rt, &mut opened, ports, steps, workers, out, gate) {
+    let ended = make_run(rt, &mut opened, ports, steps, workers, out, gate);
+    drop(opened);
+    match ended {
         Ok(true) => Status::BadValue,
         Ok(false) => Status::Done,
         Err(Failed) => Status::Fault,

@@ -52,7 +52,9 @@ pub fn show_accepted<R: Threads + Sync, G: Gate>(
     let Ok(mut opened) = open(alloc, accepted) else {
         return Status::NoMemory;
     };
-    match tell(rt, &mut opened, ports, steps, workers, out, gate) {
+    let told = tell(rt, &mut opened, ports, steps, workers, out, gate);
+    drop(opened);
+    match told {
         Ok(()) => Status::Done,
         Err(Failed) => Status::Fault,
     }

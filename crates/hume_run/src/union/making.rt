@@ -44,7 +44,9 @@ pub fn make_union<R: Threads + Sync, G: Gate>(
     ensures { (sources : List (List ℕ)) → IsOpenUnion out sources union
         → RunsUnion steps sources union.programs.items (map view ports.old) (map view ports.new) result }
 {
-    match make_in_turn(rt, &mut union, ports, steps, workers, out, gate) {
+    let made = make_in_turn(rt, &mut union, ports, steps, workers, out, gate);
+    drop(union);
+    match made {
         Ok(true) => Status::BadValue,
         Ok(false) => Status::Done,
         Err(Failed) => Status::Fault,

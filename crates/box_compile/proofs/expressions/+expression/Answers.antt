@@ -40,18 +40,15 @@ emit_expression-returns-in-Vect t c =
     (expr.Vect parts))) c.as_slice-in-Vect.ensures
     (on_ok r (vector_done c.as_slice-in-Vect.result.now) c.emit_object-in-Vect.ensures))
 
-pub emit_expression-returns-in-Ok : goal.emit_expression-returns-in-Ok
-emit_expression-returns-in-Ok t c =
+pub emit_case-returns : goal.emit_case-returns
+emit_case-returns t c =
     let E = entry_in c.args.entries.now in
     let r = c.emit_arms.result in
-    let arms : List (PatC × Expr) = c.in-Case.arms in
-    let part : Done E c.args.places.now c.args.high c.args.writer.now c.emit_expression.new.writer c.in-Case.part =
-    subst (λ e. Done E c.args.places.now c.args.high c.args.writer.now c.emit_expression.new.writer e) c.deref-in-Case.ensures c.in-Ok.ensures in
+    let arms : List (PatC × Expr) = c.args.arms.now in
     let stand : OnOk r (ArmsDone E c.args.places.now c.args.high c.emit_expression.new.writer c.emit_arms.new.writer arms) =
     subst (λ (l : List (PatC × Expr)). OnOk r (ArmsDone E c.args.places.now c.args.high c.emit_expression.new.writer c.emit_arms.new.writer l))
-    c.as_slice-in-Ok.ensures c.emit_arms.ensures in
-    subst (λ e. OnOk r (Done E c.args.places.now c.args.high c.args.writer.now c.emit_arms.new.writer e)) (sym c.in-Case.is)
-    (on_ok r (case_done c.in-Case.part c.in-Case.field-1 arms part) stand)
+    c.as_slice.ensures c.emit_arms.ensures in
+    on_ok r (case_done c.args.part.now c.args.forms arms c.in_ok-emit_expression.ensures) stand
 
 pub emit_object-returns : goal.emit_object-returns
 emit_object-returns t c = on_ok c.emit_parts_then.result (made c.args.tag c.in_ok-count.count c.args.parts.now c.in_ok-count.ensures) c.emit_parts_then.ensures

@@ -39,6 +39,9 @@ decreases-emit_choice l = 5 * max (size-Expr l.test.now) (max (size-Expr l.when_
 abbrev pub decreases-emit_binding : goal.decreases-emit_binding
 decreases-emit_binding l = 5 * max (size-Expr l.part.now) (size-Expr l.body.now) + 1
 
+abbrev pub decreases-emit_case : goal.decreases-emit_case
+decreases-emit_case l = 5 * max (size-Expr l.part.now) (arms_size l.arms.now) + 3
+
 abbrev pub decreases-emit_arms : goal.decreases-emit_arms
 decreases-emit_arms l = 5 * arms_size l.arms.now + 2
 

@@ -7,16 +7,15 @@ use Rattle.box_compile.proofs.Taken.{taken_more, taken_all}
 use Rattle.box_compile.proofs.ResultForms.{ResultDone, ResultArmsDone, ResultArmsBegun, choice_done, case_done, binding_done, no_arms, arms_more, arms_done, arm_done}
 use Rattle.box_compile.proofs.results.+result.Goals as goal
 
-pub emit_result-returns-in-Ok : goal.emit_result-returns-in-Ok
-emit_result-returns-in-Ok t c =
+pub emit_case-returns : goal.emit_case-returns
+emit_case-returns t c =
     let E = entry_in c.args.entries.now in
     let r = c.emit_arms.result in
-    let arms : List (PatC × Res) = c.in-Case.arms in
+    let arms : List (PatC × Res) = c.args.arms.now in
     let stand : OnOk r (ResultArmsDone E c.args.places.now c.args.high c.emit_expression.new.writer c.emit_arms.new.writer arms) =
     subst (λ (l : List (PatC × Res)). OnOk r (ResultArmsDone E c.args.places.now c.args.high c.emit_expression.new.writer c.emit_arms.new.writer l))
     c.as_slice.ensures c.emit_arms.ensures in
-    subst (λ e. OnOk r (ResultDone E c.args.places.now c.args.high c.args.writer.now c.emit_arms.new.writer e)) (sym c.in-Case.is)
-    (on_ok r (case_done c.in-Case.part c.in-Case.field-1 arms c.in-Ok.ensures) stand)
+    on_ok r (case_done c.args.part.now c.args.forms arms c.in_ok-emit_expression.ensures) stand
 
 pub emit_choice-returns : goal.emit_choice-returns
 emit_choice-returns t c =

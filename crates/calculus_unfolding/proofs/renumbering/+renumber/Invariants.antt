@@ -3,7 +3,7 @@ use Rattle.hume_model.specs.declared.core_tree.Expr.{Expr}
 use Rattle.hume_model.specs.declared.core_tree.PatC.{PatC}
 use Rattle.calculus_laws.specs.Unfolding.{renumbered}
 use Rattle.calculus_unfolding.specs.inner.Numbers.{new_number}
-use Rattle.std.specs.Prelude.{◌+◌, ◌*◌, max}
+use Rattle.std.specs.Prelude.{IfOk, ◌+◌, ◌*◌, max}
 use denote.Param.Weighed.{most}
 use Rattle.hume_model.specs.declared.core_tree.Expr.{size-Expr}
 use Rattle.hume_model.proofs.Ranks.{arms_size}
@@ -59,8 +59,8 @@ abbrev pub decreases-renumber_parts : goal.decreases-renumber_parts
 decreases-renumber_parts l = 4 * most size-Expr l.parts.now + 1
 
 abbrev pub invariant-renumber_parts-loop-part : goal.invariant-renumber_parts-loop-part
-invariant-renumber_parts-loop-part l = l.news ≡ map (renumbered (new_number l.numbers)) (take l.part-index l.parts)
+invariant-renumber_parts-loop-part l = IfOk l.news (λ made. made ≡ map (renumbered (new_number l.numbers)) (take l.part-index l.parts))
 
 abbrev pub invariant-renumber_arms-loop-arm : goal.invariant-renumber_arms-loop-arm
 invariant-renumber_arms-loop-arm l =
-    l.news ≡ map (λ (arm : PatC × Expr). (arm.0, renumbered (new_number l.numbers) arm.1)) (take l.arm-index l.arms)
+    IfOk l.news (λ made. made ≡ map (λ (arm : PatC × Expr). (arm.0, renumbered (new_number l.numbers) arm.1)) (take l.arm-index l.arms))

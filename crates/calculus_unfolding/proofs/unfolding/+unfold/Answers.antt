@@ -29,7 +29,7 @@ unfold-returns-in-Index-clause-found t c =
     (λ found is. rw c.in-Index.is (rw (index_layer c.in-Index.field-0 c.in-Index.vector c.in-Index.place)
     (index_found (alone c.args.funs.now) c.in-Index.field-0 c.in-Index.vector c.in-Index.place c.unfold_two.new.first c.unfold_two.new.second
     c.args.scope found
-    ((λ i. two_changed changed changed (sym (c.as_mut.ensures.value ∙ c.in-Index.vector-is) i, sym (c.as_mut-in-Index.ensures.value ∙ c.in-Index.place-is) i))
+    ((λ i. two_changed changed changed (sym c.in-Index.vector-is i, sym c.in-Index.place-is i))
     ∙ is))))
     c.unfold_two.ensures.found
 
@@ -41,8 +41,8 @@ unfold-returns-in-Update-clause-found t c =
     (update_found (alone c.args.funs.now) c.in-Update.field-0 c.in-Update.vector c.in-Update.place c.in-Update.item c.unfold_three.new.first
     c.unfold_three.new.second c.unfold_three.new.third c.args.scope found
     ((λ i. two_changed changed (two_changed changed changed) (
-      sym (c.as_mut-in-Update.ensures.value ∙ c.in-Update.vector-is) i,
-      (sym (c.as_mut-in-Update-2.ensures.value ∙ c.in-Update.place-is) i, sym (c.as_mut-in-Update-3.ensures.value ∙ c.in-Update.item-is) i),
+      sym c.in-Update.vector-is i,
+      (sym c.in-Update.place-is i, sym c.in-Update.item-is i),
     ))
     ∙ is))))
     c.unfold_three.ensures.found
@@ -54,5 +54,5 @@ unfold-returns-in-Case-clause-found t c =
     IfOk-weaker c.unfold_case.result _ _
     (λ found is. rw c.in-Case.is (rw (case_layer c.in-Case.part c.in-Case.field-1 c.in-Case.arms)
     (case_found (alone c.args.funs.now) c.in-Case.part c.unfold_case.new.part c.in-Case.field-1 c.in-Case.arms c.unfold_case.new.arms c.args.scope found
-    ((λ i. two_changed changed arms_changed (sym (c.as_mut-in-Case.ensures.value ∙ c.in-Case.part-is) i, sym c.in-Case.arms-is i)) ∙ is))))
+    ((λ i. two_changed changed arms_changed (sym c.in-Case.part-is i, sym c.in-Case.arms-is i)) ∙ is))))
     c.unfold_case.ensures.found

@@ -8,5 +8,5 @@ use Rattle.check_declarations.proofs.first.verdicts.Goals as goal
 pub returns : goal.returns
 returns c =
     let state = c.new-at.ensures ∙ (λ i. (c.in_ok-plain.ensures i, [], [], [])) in
-    subst (λ (signatures : Signatures). IfOk c.verdicts_by.result (AreVerdicts signatures c.args.decls.now))
-    (ap (λ (state : ResultState). state.0.0.2) state) c.verdicts_by.ensures
+    subst (λ (signatures : Signatures). IfOk c.verdicts_by-found.result (AreVerdicts signatures c.args.decls.now))
+    (ap (λ (state : ResultState). state.0.0.2) state) c.verdicts_by-found.ensures

@@ -1,8 +1,8 @@
 use Rattle.std.proofs.Common.{refl}
 use Rattle.check_tasks.proofs.WholeLaws.{case_against}
-use Rattle.check_expressions.proofs.Forms.{comes_to}
+use Rattle.check_expressions.proofs.Forms.{comes_to_each}
 use Rattle.check_expressions.proofs.PlanLists.{case_against_plan}
 use Rattle.check_expressions.proofs.against_forms.case_against.Goals as goal
 
 pub returns-clause-ok : goal.returns-clause-ok
-returns-clause-ok c = comes_to c.first.result c.first.new.tasks (case_against_plan c.args.a c.args.arms) c.args.tasks.now c.args.at.now _ (case_against c.args.at.now c.args.a c.args.arms _ refl) c.first.ensures.ok
+returns-clause-ok c = comes_to_each c.first.result c.first.new.tasks (case_against_plan c.args.a c.args.arms) c.args.tasks.now _ (λ st. case_against st c.args.a c.args.arms _ refl) c.first.ensures.ok

@@ -13,4 +13,4 @@ returns-in-Case-clause-ok c =
     let same : case_walk s (walk s c.deref-in-Case.result.now) (arm_walks s c.as_slice.result.now) ≡ walk s c.args.e.now =
     (λ i. case_walk s (walk s (c.deref-in-Case.ensures i)) (arm_walks s (c.as_slice.ensures i)))
     ∙ sym (case_level s c.in-Case.a c.in-Case.arms) ∙ ap (walk s) (sym c.in-Case.is) in
-    on_ok_weaker c.case_against.result (λ h. h ∙ ap (λ (w : Walk). given (against_of (w.against c.args.at.now.0.0 (top c.args.at.now.0.1)) c.args.at.now) (run c.args.tasks.now)) same) c.case_against.ensures.ok
+    on_ok_weaker c.case_against.result (λ h. h c.args.at.now ∙ ap (λ (w : Walk). given (against_of (w.against c.args.at.now.0.0 (top c.args.at.now.0.1)) c.args.at.now) (run c.args.tasks.now)) same) c.case_against.ensures.ok

@@ -16,7 +16,7 @@ returns-in-Case-clause-ok c =
     let same : case_walk s (walk s c.deref-in-Case.result.now) (arm_walks s c.as_slice.result.now) ≡ walk s c.args.e.now =
     (λ i. case_walk s (walk s (c.deref-in-Case.ensures i)) (arm_walks s (c.as_slice.ensures i)))
     ∙ sym (case_level s c.in-Case.a c.in-Case.arms) ∙ ap (walk s) (sym c.in-Case.is) in
-    on_ok_weaker c.case_own.result (λ h. h ∙ ap (λ (w : Walk). given (own_of (w.own c.args.at.now.0.0) c.args.at.now) (run c.args.tasks.now)) same) c.case_own.ensures.ok
+    on_ok_weaker c.case_own.result (λ h. h c.args.at.now ∙ ap (λ (w : Walk). given (own_of (w.own c.args.at.now.0.0) c.args.at.now) (run c.args.tasks.now)) same) c.case_own.ensures.ok
 
 pub returns-in-len1-up-clause-ok : goal.returns-in-len1-up-clause-ok
 returns-in-len1-up-clause-ok c =

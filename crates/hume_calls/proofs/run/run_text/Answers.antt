@@ -19,8 +19,8 @@ returns-in-Err-Unfit g c place =
     unfit_text c.args.steps c.args.workers place c.args.traced _ _ _ _ _ _ c.in-Ok.accepted c.in-Err-Unfit.line c.in-Ok.ensures.accepted
     (c.find_places.ensures.unfit c.in-Err-Unfit.line (c.in-Err-Unfit.is ∙ ap Err c.in-Err-Unfit.field-0-is)) c.unfit_at.ensures c.refuse.ensures
 
-pub returns : goal.returns
-returns g c place = out_of_memory _ _ _ _ _ _ (refl, refl)
+pub returns-in-Err-NoMemory : goal.returns-in-Err-NoMemory
+returns-in-Err-NoMemory g c place = out_of_memory _ _ _ _ _ _ (refl, refl)
 
 pub run_ready-requires-clause-ready : goal.run_ready-requires-clause-ready
 run_ready-requires-clause-ready g c κs within = c.made_ready.ensures.ready

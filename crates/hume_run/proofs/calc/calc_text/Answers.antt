@@ -20,6 +20,6 @@ returns-in-Err-Failed g c place script =
     script_failed c.args.steps c.args.workers place script _ _ c.requires.script.apart c.in-Ok.sound c.in-Ok.ensures.sound c.each_run_has_inputs.ensures _ _
     c.args.at c.requires.script.place (c.read_script.ensures.failed (c.in-Err-Failed.is ∙ ap Err c.in-Err-Failed.field-0-is))
 
-pub returns : goal.returns
-returns g c place script =
+pub returns-in-Err-NoMemory : goal.returns-in-Err-NoMemory
+returns-in-Err-NoMemory g c place script =
     out_of_memory _ _ _ _ _ _ (refl, c.read_script.ensures.memory (c.in-Err-NoMemory.is ∙ ap Err c.in-Err-NoMemory.field-0-is))

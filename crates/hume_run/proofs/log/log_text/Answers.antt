@@ -20,8 +20,8 @@ returns-in-Err-Unfit g c place at =
     unfit_log c.args.steps place at c.args.verify _ _ c.requires.log.only _ _ _ _ c.in-Ok.accepted c.in-Err-Unfit.line c.in-Ok.ensures.accepted
     (c.find_places.ensures.unfit c.in-Err-Unfit.line (c.in-Err-Unfit.is ∙ ap Err c.in-Err-Unfit.field-0-is)) c.unfit_at.ensures c.refuse.ensures
 
-pub returns : goal.returns
-returns g c place at = out_of_memory _ _ _ _ _ _ (refl, refl)
+pub returns-in-Err-NoMemory : goal.returns-in-Err-NoMemory
+returns-in-Err-NoMemory g c place at = out_of_memory _ _ _ _ _ _ (refl, refl)
 
 pub log_ready-requires-clause-log : goal.log_ready-requires-clause-log
 log_ready-requires-clause-log g c = (

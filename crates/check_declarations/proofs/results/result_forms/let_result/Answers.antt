@@ -1,10 +1,8 @@
 use Rattle.std.proofs.Common.{◌≡◌, List, ℕ, length, ap, ◌∙◌}
-use Rattle.std.proofs.lemmas.Result.{on_ok_weaker}
-use Rattle.check_typing.specs.Partial.{given}
 use Rattle.check_tasks.specs.results.ResultStates.{ResultState}
 use Rattle.check_tasks.specs.results.ResultTasks.{scope_of, signatures_of, last_outputs, result_run, result_of}
 use Rattle.check_declarations.specs.results.inner.ResultPlans.{let_found}
-use Rattle.check_declarations.proofs.results_lemmas.ResultForms.{let_does, let_plan}
+use Rattle.check_declarations.proofs.results_lemmas.ResultForms.{comes_to, let_does, let_plan}
 use Rattle.check_declarations.proofs.results.result_forms.let_result.Goals as goal
 
 pub returns-clause-ok : goal.returns-clause-ok
@@ -18,4 +16,4 @@ returns-clause-ok c =
     let law =
     ap (λ n. result_run (let_plan a name b n) st) count ∙ let_does st name a b
     ∙ ap (λ (x : List ℕ). result_of ((let_found (signatures_of st) x a.now b.now).result (scope_of st) (last_outputs st)) st) c.bytes.ensures in
-    on_ok_weaker c.first.result (λ does. does st ∙ ap (λ o. given o (result_run c.args.tasks.now)) law) c.first.ensures.ok
+    comes_to c.first.result c.first.new.tasks (let_plan a name b c.variables-count.result) c.args.tasks.now st _ law c.first.ensures.ok

@@ -1,5 +1,5 @@
-use Rattle.std.proofs.Common.{◌+◌, Some, true, not, length, ap, sym, ◌∙◌, option_map}
-use Rattle.check_scopes.proofs.Pushed.{with_kept, exception_pushed, known_from}
+use Rattle.std.proofs.Common.{◌+◌, not, length, ap, sym, ◌∙◌, option_map}
+use Rattle.check_scopes.proofs.Pushed.{with_kept, exception_pushed}
 use Rattle.check_scopes.proofs.environment.Environment.push_exception.Goals as goal
 
 pub returns-in_ok-push_kept-in-Some : goal.returns-in_ok-push_kept-in-Some

@@ -4,11 +4,11 @@ use Rattle.hume_run.proofs.union.making.make_union.Goals as goal
 
 pub returns-in-Ok-true : goal.returns-in-Ok-true
 returns-in-Ok-true g c sources opened =
-    union_blocked _ _ _ _ _ _ (c.in-Ok-true.is ∙ ap Ok c.in-Ok-true.field-0-test) (c.make_in_turn.ensures sources opened)
+    union_blocked _ _ _ _ _ _ (c.in-Ok-true.is ∙ ap Ok c.in-Ok-true.field-0-test) (c.make_in_turn-made.ensures sources opened)
 
 pub returns-in-Ok-false : goal.returns-in-Ok-false
 returns-in-Ok-false g c sources opened =
-    union_done _ _ _ _ _ _ (c.in-Ok-false.is ∙ ap Ok c.in-Ok-false.field-0-test) (c.make_in_turn.ensures sources opened)
+    union_done _ _ _ _ _ _ (c.in-Ok-false.is ∙ ap Ok c.in-Ok-false.field-0-test) (c.make_in_turn-made.ensures sources opened)
 
-pub returns : goal.returns
-returns g c sources opened = union_faulted _ _ _ _ _ _ (c.in-Err.ensures sources opened)
+pub returns-in-Err : goal.returns-in-Err
+returns-in-Err g c sources opened = union_faulted _ _ _ _ _ _ (c.in-Err.ensures sources opened)

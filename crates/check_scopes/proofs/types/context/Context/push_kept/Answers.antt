@@ -1,13 +1,12 @@
 use Rattle.std.proofs.Common.{arith, ◌<◌, length, sym, subst}
-use Rattle.check_scopes.specs.types.Nodes.{all_below}
-use Rattle.check_scopes.proofs.types_lemmas.Held.{below_at}
+use Rattle.check_scopes.proofs.types_lemmas.Held.{below_at, below_pushed}
 use Rattle.check_scopes.proofs.types.context.Context.push_kept.Goals as goal
 
-pub invariant_of-self-2 : goal.invariant_of-self-2
-invariant_of-self-2 c =
+pub invariant_of-self : goal.invariant_of-self
+invariant_of-self c =
     let b = length c.self.inside.types in
     let before = subst (λ n. c.args.at < n) c.len.ensures c.if-at-len.false in
     let fits = c.self.inside.kept.ok in
     let inside : c.args.at < length c.self.inside.kept.items = omega arith in
     let within = subst (λ n. n < b) (sym c.index-number.ensures) (below_at b c.args.at c.index-number.result.now c.self.inside.kept.items c.self.invariant.2 inside) in
-    (c.self.invariant.0, subst (all_below b) (sym c.in_ok-push.ensures.ok) (within, c.self.invariant.1), c.self.invariant.2)
+    (c.self.invariant.0, below_pushed b _ _ _ c.push.result c.push.ensures.ok c.push.ensures.err within c.self.invariant.1, c.self.invariant.2)
