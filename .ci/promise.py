@@ -1,5 +1,5 @@
 """Makes docs/PROMISE.md: what the contract of the call `hume` rests on, form by form, in rings from the call to the rules of sources,
-and what that of the call `console` rests on besides."""
+and what those of the calls `console` and `hume_c` rest on besides."""
 import os
 import re
 import sys
@@ -10,8 +10,11 @@ from sources import TOP, begins, doc_of_type, functions, modules, reached, read,
 # The function whose contract is the promise: its file and its name.
 HEADLINE = "top", "hume"
 
-# The function whose contract is the promise of sessions.
-CONSOLE = "calling", "console"
+# The calls that have a contract of their own: the command's word, the function's file and name, and what the call makes.
+OWN = (
+    ("console", ("calling", "console"), "Sessions"),
+    ("c", ("call", "hume_c"), "C programs"),
+)
 
 # Each ring begins at these definitions. A definition belongs to the first ring that reaches it without a beginning of a later one.
 RINGS = (
@@ -47,9 +50,9 @@ INTRO = """# What the promise rests on
 
 <!-- made by `.ci/definitions promise`; `.ci/run` compares it with the sources -->
 
-The promise of the tool is the contract of `{name}` in `{path}`, and that of sessions is the contract of `{console}` in
-`{console_path}`. This page lists all definitions that their clauses reach. If these say what you mean, you have
-to believe nothing else of this repository. (Library words, such as `map` and `take`, are the toolchain's.)
+The promise of the tool is the contract of `{name}` in `{path}`, that of sessions is the contract of `{console}` in
+`{console_path}`, and that of C programs is the contract of `{hume_c}` in `{hume_c_path}`. This page lists
+all definitions that their clauses reach. If these say what you mean, you have to believe nothing else of this repository. (Library words, such as `map` and `take`, are the toolchain's.)
 
 Whoever uses one form alone has to believe only what the first two columns of its row count. Each form has a part of this page, with the
 definitions that no part above it has, ring by ring, each ring in an order in which one may read it.
@@ -196,10 +199,10 @@ def print_part(title, more, rings):
             listing(inside, "####")
 
 
-def print_console(head, more, types, before):
-    """What the contract of `console` rests on that no form of `hume` does."""
-    print(f"## `console`: {len(more)} definitions, {lines_of(more)} lines\n")
-    print(f"Sessions are a contract of their own, that of `{head.name}`. Its clauses reach these beyond those of all forms above:\n")
+def print_own(word, makes, head, more, types, before):
+    """What the contract of a call rests on that no form above it does."""
+    print(f"## `{word}`: {len(more)} definitions, {lines_of(more)} lines\n")
+    print(f"{makes} are a contract of their own, that of `{head.name}`. Its clauses reach these beyond those of all forms above:\n")
     listing(more, "###")
     cited = {(path, name) for name, _, _, path in constants(before)}
     own = [it for it in types if it not in before]
@@ -244,10 +247,10 @@ def print_corollaries(order, known):
         short_listing(rests)
 
 
-def parts_of(head, console, known):
-    """Each form with all that it rests on, and with what of that no form above it does. The console comes last."""
+def parts_of(head, own, known):
+    """Each form with all that it rests on, and with what of that no form above it does. Calls of their own come last."""
     placed = set()
-    for name, begin, form in [(it, head, Form(it, known)) for it, _ in FORMS] + [("console", console, None)]:
+    for name, begin, form in [(it, head, Form(it, known)) for it, _ in FORMS] + [(word, call, None) for word, call, _ in own]:
         every, _ = reached(begins(begin, known), known, form=form)
         more = [it for it in every if it not in placed]
         placed.update(more)
@@ -256,26 +259,32 @@ def parts_of(head, console, known):
 
 def promise():
     known, public = modules(("specs",)), functions()
-    head, console = function_of(HEADLINE, public), function_of(CONSOLE, public)
+    head = function_of(HEADLINE, public)
+    own = [(word, function_of(place, public), makes) for word, place, makes in OWN]
     order, types = reached(begins(head, known), known)
     rings = rings_of(order, known)
-    parts = list(parts_of(head, console, known))
+    parts = list(parts_of(head, own, known))
     lacking = {it.name for it in set(order) - {it for _, _, more in parts for it in more}}
     if lacking:
         sys.exit(f"no form of a call reaches {', '.join(sorted(lacking))}")
     unknown = set(CASES) - {it.name for it in order}
     if unknown:
         sys.exit(f"forms.py tells cases of what the contract doesn't reach: {', '.join(sorted(unknown))}")
-    print(INTRO.format(name=head.name, path=shown(head.path), console=console.name, console_path=shown(console.path)), end="")
+    calls = {call.name: call.name for _, call, _ in own} | {f"{call.name}_path": shown(call.path) for _, call, _ in own}
+    print(INTRO.format(name=head.name, path=shown(head.path), **calls), end="")
     print_forms(parts)
     print_rings(order, rings)
-    for title, _, more in parts[:-1]:
+    for title, _, more in parts[: -len(own)]:
         print_part(title, more, rings)
-    print_console(console, parts[-1][2], reached(begins(console, known), known)[1], types)
+    before = list(types)
+    for (word, call, makes), (_, _, more) in zip(own, parts[-len(own) :]):
+        named = reached(begins(call, known), known)[1]
+        print_own(word, makes, call, more, named, before)
+        before += [it for it in named if it not in before]
     print_constants(types, "## Constants that definitions cite")
     print_port()
     print_types(types_in(types), "## Types that the definitions speak of")
-    print_promised_laws(public, order + parts[-1][2], known)
+    print_promised_laws(public, order + [it for _, _, more in parts[-len(own) :] for it in more], known)
     print_corollaries(order, known)
     print("## Public laws\n")
     print("Nobody has to believe these: they are proved, and say that the definitions fit each other. Each is the contract of that function.\n")

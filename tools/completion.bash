@@ -12,6 +12,7 @@ _hume_options() {
     go) echo -j --force ;;
     watch) echo -w --until --width ;;
     net) echo --svg ;;
+    c) echo --name --force ;;
     esac
 }
 
@@ -26,8 +27,9 @@ _hume_files() {
 
 _hume() {
     local word=${COMP_WORDS[COMP_CWORD]} kind='' ports=''
+    COMPREPLY=()
     if ((COMP_CWORD == 1)); then
-        mapfile -t COMPREPLY < <(compgen -W 'check run trace calc union record verify demo console why bounds net hints test go live watch cover vcd waves page server install uninstall help --help --version --rebuild' -- "$word")
+        mapfile -t COMPREPLY < <(compgen -W 'check run trace calc union record verify demo console why bounds net hints c test go live watch cover vcd waves page server install uninstall help --help --version --rebuild' -- "$word")
         return
     fi
     # Where the SOURCE stands, behind which there are ports, and where the last word does.
@@ -43,6 +45,10 @@ _hume() {
         ((COMP_CWORD != 4)) || kind=file
         ;;
     go) kind=source ;;
+    c)
+        kind=source
+        ((COMP_CWORD != 2)) || mapfile -t COMPREPLY < <(compgen -W 'header main' -- "$word")
+        ;;
     waves) [ "$COMP_CWORD" -eq 2 ] && kind=file || kind=source ;;
     test | install | uninstall) kind=folder ;;
     esac
@@ -56,7 +62,7 @@ _hume() {
         mapfile -t COMPREPLY < <(compgen -W "$ports" -- "$word")
         return
     fi
-    [ -z "$kind" ] || mapfile -t COMPREPLY < <(_hume_files "$kind" "$word")
+    [ -z "$kind" ] || mapfile -t -O "${#COMPREPLY[@]}" COMPREPLY < <(_hume_files "$kind" "$word")
 }
 
 complete -o filenames -F _hume hume ./hume

@@ -19,6 +19,7 @@ WORDS = {
     "waves": "waves",
     "page": "page",
     "net": "net",
+    "c": "targets",
     "server": "server",
     "install": "install",
     "uninstall": "install",

@@ -51,6 +51,7 @@ COMP_WORDS=("$@") COMP_CWORD=$(($# - 1)) && _hume && printf '%s\\n' "${{COMPREPL
         self.assertEqual(self.complete("hume", "watch", "4", "add.hume", "-"), ["--until", "--width", "-w"])
         self.assertEqual(self.complete("hume", "test", "--"), ["--bless", "--cover"])
         self.assertEqual(self.complete("hume", "net", "p", "-"), ["--svg"])
+        self.assertEqual(self.complete("hume", "c", "p", "-"), ["--force", "--name"])
 
     def test_sources_folders_and_ports(self):
         self.put("add.hume", ADD)
@@ -62,6 +63,8 @@ COMP_WORDS=("$@") COMP_CWORD=$(($# - 1)) && _hume && printf '%s\\n' "${{COMPREPL
         self.assertEqual(self.complete("hume", "watch", "4", "add.hume", "t"), ["totals"])
         self.assertEqual(self.complete("hume", "cover", "4", "add.hume", "n"), ["numbers"])
         self.assertEqual(self.complete("hume", "live", "a"), ["add.hume"])
+        self.assertEqual(self.complete("hume", "c", ""), ["add.hume", "header", "in", "main"])
+        self.assertEqual(self.complete("hume", "c", "header", "a"), ["add.hume"])
         self.assertEqual(self.complete("hume", "live", "add.hume", ""), ["numbers", "totals"])
         self.assertEqual(self.complete("hume", "check", "add.hume", ""), [])
         self.assertEqual(self.complete("hume", "test", ""), ["in"])

@@ -58,7 +58,8 @@ class Pages(InRoom):
     def try_page(self, name, least):
         blocks = BLOCK.findall(page(name))
         self.assertGreaterEqual(len(blocks), least)
-        for block in blocks:
+        compiles = shutil.which("cc") and shutil.which("make")
+        for block in blocks if compiles else [it for it in blocks if "$ make " not in it]:
             with self.subTest(block.splitlines()[1]):
                 self.try_block(block)
         self.assertEqual(self.files_of_examples(), self.before)
@@ -74,6 +75,9 @@ class Pages(InRoom):
 
     def test_the_live_run(self):
         self.try_page("docs/LIVE.md", 1)
+
+    def test_the_targets(self):
+        self.try_page("docs/TARGETS.md", 2)
 
     def test_each_word_has_a_section(self):
         sections = " ".join(re.findall(r"^## (.*)$", page("docs/COMMANDS.md"), re.MULTILINE))

@@ -11,6 +11,7 @@
 //! It knows the trees of `c_tree`. It doesn't know what they stand for.
 #![tactic(auto)]
 
+mod asked;
 mod copies;
 mod expressions;
 mod items;
@@ -19,6 +20,7 @@ mod mentioned;
 mod statements;
 mod texts;
 
+pub use asked::whole;
 pub use copies::{copy_exp, copy_type, is_lasting};
 pub use expressions::{
     address, all, any, binary, call, called, cast, choice, element, equal, member, member_named,
@@ -31,7 +33,7 @@ pub use items::{
 pub use lists::{append, appended, before, of_one, of_two, push, with};
 pub use mentioned::{exp_mentions, is_same, mentions};
 pub use statements::{
-    assign, calls, comment, counting, declare, decrement, define, either, ends, increment, leaves,
-    one_if, returns, set, tested,
+    assign, calls, comment, counting, decrement, define, either, ends, increment, leaves, one_if,
+    returns, set, tested,
 };
 pub use texts::{joined, numbered, text};

@@ -1,5 +1,5 @@
 //! Statements from their parts. Where a part is lacking, as memory ran out, so is the whole.
-ghost use Rattle.std.specs.Prelude.{◌≡◌, [], ◌∷◌, false, true, ℕ, List, Some, None, IfOk};
+ghost use Rattle.std.specs.Prelude.{◌≡◌, [], ◌∷◌, true, ℕ, List, Some, None, IfOk};
 ghost use Rattle.c_tree.specs.declared.tree.CExp.TheVariants as exp;
 ghost use Rattle.c_tree.specs.declared.tree.CStm.TheVariants as stm;
 ghost use Rattle.c_tree.specs.declared.tree.CStm.{out-CStm};
@@ -31,23 +31,6 @@ pub fn assign(
     match (object, value) {
         (Some(object), Some(value)) => Box::new(alloc, CStm::Assign(object, value)).ok(),
         _ => None,
-    }
-}
-
-/// A variable without a value.
-pub fn declare(alloc: Global, ty: CType, name: Option<Text>) -> Option<Box<CStm>>
-    ensures { (n : List ℕ) → Gives name n → Gives result (stm.Declare (variable false ty n)) }
-{
-    match name {
-        Some(name) => {
-            let variable = CVariable {
-                constant: false,
-                ty,
-                name,
-            };
-            Box::new(alloc, CStm::Declare(variable)).ok()
-        }
-        None => None,
     }
 }
 

@@ -95,7 +95,8 @@ pub(crate) fn arithmetic_against<'a>(
     a: &'a Exp,
     b: &'a Exp,
 ) -> Result<(), Stop>
-    ensures ok { OnOk result ((state : State) → DoesAgainst ((arithmetic_walk operation (walk (signatures_in state) a.now) (walk (signatures_in state) b.now)).against
+    ensures ok { OnOk result ((state : State) → DoesAgainst ((arithmetic_walk operation (walk (signatures_in state) a.now)
+        (walk (signatures_in state) b.now)).against
         (scope_in state) (top (types_in state))) state tasks.old tasks.new) }
     ensures none { IfErr result (λ stop. stop ≡ NoMemory) }
 {

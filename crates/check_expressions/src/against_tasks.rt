@@ -86,7 +86,8 @@ fn binary_against<'a>(
 
 #[tactic(auto, using(crate::proofs::Dispatch::same_steps))]
 fn paren_against<'a>(tasks: &mut Stack<Task<'a>>, a: &'a Exp) -> Result<(), Stop>
-    ensures ok { OnOk result ((state : State) → DoesAgainst ((walk (signatures_in state) a.now).against (scope_in state) (top (types_in state))) state tasks.old tasks.new) }
+    ensures ok { OnOk result ((state : State) → DoesAgainst ((walk (signatures_in state) a.now).against (scope_in state) (top (types_in state))) state
+        tasks.old tasks.new) }
     ensures none { IfErr result (λ stop. stop ≡ NoMemory) }
 {
     first(tasks, &[Task::Against(a)])

@@ -234,7 +234,8 @@ pub(crate) fn tuple_own<'a>(tasks: &mut Stack<Task<'a>>, parts: &'a [Exp]) -> Re
 
 #[tactic(auto, using(crate::proofs::Forms::vector_own_steps))]
 pub(crate) fn vector_own<'a>(tasks: &mut Stack<Task<'a>>, parts: &'a [Exp]) -> Result<(), Stop>
-    ensures ok { OnOk result ((state : State) → DoesOwn ((vector_walk (walks (signatures_in state) parts.now)).own (scope_in state)) state tasks.old tasks.new) }
+    ensures ok { OnOk result ((state : State) → DoesOwn ((vector_walk (walks (signatures_in state) parts.now)).own (scope_in state)) state tasks.old
+        tasks.new) }
     ensures none { IfErr result (λ stop. stop ≡ NoMemory) }
 {
     first(

@@ -1,11 +1,11 @@
 //! The program `hume`: it makes the ports that the words of a call name, and makes the call over them.
 //!
 //! Its first word says which call is made. `console` begins a session: `hume console WORKERS SOURCE PORT..`. With `why`, `bounds`, `net` or
-//! `hints`, as in `hume why SOURCE`, it shows something of a source; and `told` tells why a call failed. Any other words are those of
-//! `hume_calls::words`, such as `hume run STEPS WORKERS SOURCE PORT..`.
+//! `hints`, as in `hume why SOURCE`, it shows something of a source; `told` tells why a call failed, and `c` writes a source as C. Any other
+//! words are those of `hume_calls::words`, such as `hume run STEPS WORKERS SOURCE PORT..`.
 //!
-//! Proved: nothing beyond safety; `main` makes the ports, passes words and ports to `hume_run::hume`, `hume_console::console` or
-//! `hume_look::look`, and has no contract.
+//! Proved: nothing beyond safety; `main` makes the ports, passes words and ports to `hume_run::hume`, `hume_console::console`,
+//! `hume_c::hume_c` or `hume_look::look`, and has no contract.
 //!
 //! It knows files, the words of the command and exit statuses. It doesn't know what a call does.
 #![tactic(auto)]
@@ -14,11 +14,13 @@ mod call;
 mod files;
 mod looking;
 mod session;
+mod targets;
 mod words;
 
 use crate::call::make_call;
 use crate::looking::{show, tell};
 use crate::session::hold_session;
+use crate::targets::write_c;
 use crate::words::words_of_command;
 use hume_run::Status;
 use std::alloc::AllocError;
@@ -53,6 +55,7 @@ fn run_word<R: Threads + Sync>(
         "console" => hold_session(rt, threads, others),
         "why" | "bounds" | "net" | "hints" => show(rt, words),
         "told" => tell(rt, others),
+        "c" => write_c(rt, others),
         _ => make_call(rt, threads, words),
     }
 }

@@ -1,0 +1,5 @@
+pub mod Marks
+pub mod Results
+pub mod Rules
+pub mod Boxes
+pub mod inner

@@ -1,0 +1,3 @@
+mod Turns
+mod MatchForms
+pub mod WaysForms

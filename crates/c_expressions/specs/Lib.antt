@@ -1,0 +1,4 @@
+pub mod Made
+pub mod Patterns
+pub mod Expressions
+pub mod inner

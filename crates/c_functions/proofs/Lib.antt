@@ -1,0 +1,2 @@
+mod RaisingSteps
+mod EquationForms

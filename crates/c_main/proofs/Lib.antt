@@ -1,0 +1,4 @@
+pub mod Steps
+pub mod Marks
+pub mod Parts
+pub mod Needed

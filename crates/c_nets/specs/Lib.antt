@@ -1,0 +1,10 @@
+pub mod Inlets
+pub mod Nets
+pub mod Parts
+pub mod FairRules
+pub mod SuperSteps
+pub mod GivenOutputs
+pub mod Values
+pub mod Objects
+pub mod Taking
+pub mod inner

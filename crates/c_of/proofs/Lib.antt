@@ -1,0 +1,2 @@
+mod PartSteps
+mod FileForms

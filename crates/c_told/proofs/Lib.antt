@@ -1,0 +1,2 @@
+pub mod ToldForms
+pub mod LastTypes

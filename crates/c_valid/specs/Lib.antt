@@ -1,0 +1,4 @@
+pub mod Tests
+pub mod Functions
+pub mod Streams
+pub mod inner

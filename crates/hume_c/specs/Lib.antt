@@ -1,0 +1,5 @@
+pub mod Words
+pub mod Texts
+pub mod Owed
+pub mod Headline
+pub mod inner
