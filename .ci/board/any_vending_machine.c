@@ -20,7 +20,26 @@ void vending_machine_write_tray(T_Drink value)
 
 void vending_machine_write_display(const T_Told *value)
 {
-    any = value->tag;
+    switch (value->tag) {
+    case C_Credit:
+        any = value->u.c_Credit.f0;
+        break;
+    case C_Enjoy:
+        any = value->u.c_Enjoy.f0;
+        break;
+    case C_Lacking:
+        any = value->u.c_Lacking.f0;
+        break;
+    case C_Strange:
+        any = value->u.c_Strange.f0;
+        break;
+    case C_Unknown:
+        any = value->u.c_Unknown.f0;
+        break;
+    default:
+        any = value->u.c_Back.f0;
+        break;
+    }
 }
 
 void any_run(void)
